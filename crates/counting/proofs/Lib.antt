@@ -1,0 +1,3 @@
+pub mod Truth
+pub mod Sums
+pub mod Somes

@@ -1,0 +1,113 @@
+-- Laws of a set of masks: its members, the count, the next member, and the union, mask by mask. Assumes nothing.
+use mathlib.Core.Path.{_≡_, refl, sym, ap, ap₂, _∙_}
+use mathlib.Core.Logic.{_≢_, ⊎-elim}
+use mathlib.Core.List.{List}
+use Prim.Native.Nat.{ℕ, zero, suc, _+_, _-_, _*_, _/_, _%_, _^_, _≤_, _<_}
+use native.Mathlib.Nat.{lt-of-le-of-lt, not-suc-le-zero}
+use native.Mathlib.Omega.{arith}
+use borrow.Author.Count.{below-more}
+use lib.Bits.{bitOr, bitAnd, and-mask}
+use lib.Count.{ones, trailingZeros}
+use lib.ListN.{length, getD, set, length-set}
+use lib.Pow.{shr-le}
+use lib.Seq.{getD-set-same, getD-set-other}
+use Rattle.counting.specs.Count.{sum}
+use Rattle.counting.proofs.Truth.{lt-or-le}
+use Rattle.counting.proofs.Sums.{sum-ext, sum-split}
+use Rattle.masks.specs.Bits.{bit}
+use Rattle.masks.specs.Sets.{maskOf, member, United, Next}
+use Rattle.masks.proofs.Bits.{bit-lt, bit-shr, bit-of-zero, bit-high, trailing-below, trailing-at, trailing-lt, ones-sum}
+
+pub member-lt : (s : List ℕ) (first v : ℕ) → member s first v < 2
+unfolding member
+member-lt s first v = bit-lt (getD s (maskOf first v) 0) (v % 64)
+
+-- the test of a bit
+pub member-test : (s : List ℕ) (first v : ℕ) → bitAnd (getD s (first + v / 64) 0 / 2 ^ (v % 64)) 1 ≡ member s first v
+unfolding member bit
+member-test s first v = and-mask (getD s (first + v / 64) 0 / 2 ^ (v % 64)) 1
+
+-- ---- the members are counted mask by mask
+
+pub count-masks : (s : List ℕ) (first : ℕ) → ((i : ℕ) → getD s i 0 < 2 ^ 64) → (w : ℕ)
+    → sum (w * 64) (member s first) ≡ sum w (λ i. ones (getD s (first + i) 0))
+unfolding sum member
+count-masks s first fit zero = refl
+count-masks s first fit (suc w) =
+    ap (λ (m : ℕ). sum m (member s first)) (let e : suc w * 64 ≡ w * 64 + 64 = omega arith in e)
+    ∙ sum-split (w * 64) 64 (member s first)
+    ∙ ap₂ (λ (x y : ℕ). x + y) (count-masks s first fit w) last
+  where
+    last : sum 64 (λ k. member s first (w * 64 + k)) ≡ ones (getD s (first + w) 0)
+    last =
+        sum-ext 64 (λ k. member s first (w * 64 + k)) (bit (getD s (first + w) 0))
+        (λ k l. ap₂ (λ (i b : ℕ). bit (getD s (first + i) 0) b) (omega arith) (omega arith))
+        ∙ sym (ones-sum 64 (getD s (first + w) 0) (fit (first + w)))
+
+-- ---- the next member
+
+-- what is left of the mask that holds v, from v on
+abbrev pub rest : List ℕ → ℕ → ℕ → ℕ
+rest s first v = getD s (first + v / 64) 0 / 2 ^ (v % 64)
+
+rest-bit : (s : List ℕ) (first v j : ℕ) → v % 64 + j < 64 → member s first (v + j) ≡ bit (rest s first v) j
+unfolding member
+rest-bit s first v j h =
+    ap₂ (λ (i b : ℕ). bit (getD s (first + i) 0) b) (omega arith) (omega arith) ∙ sym (bit-shr (getD s (first + v / 64) 0) (v % 64) j)
+
+-- the same for a vertex x at or after v in the same mask
+rest-from : (s : List ℕ) (first v x : ℕ) → v ≤ x → x < (v / 64 + 1) * 64 → member s first x ≡ bit (rest s first v) (x - v)
+rest-from s first v x l h = ap (member s first) (omega arith) ∙ rest-bit s first v (x - v) (omega arith)
+
+module _ (s : List ℕ) (first from v : ℕ) (skipped : (x : ℕ) → from ≤ x → x < v → member s first x ≡ 0) where
+  -- nothing is left of the mask: on to the next
+  pub none-left : rest s first v ≡ 0 → (x : ℕ) → from ≤ x → x < (v / 64 + 1) * 64 → member s first x ≡ 0
+  none-left e x l h =
+      ⊎-elim
+      (λ b. skipped x l b)
+      (λ b. rest-from s first v x b h ∙ ap (λ (m : ℕ). bit m (x - v)) e ∙ bit-of-zero (x - v))
+      (lt-or-le x v)
+
+  -- something is left
+  pub found-in : (w : ℕ) → from ≤ v → v < w * 64 → getD s (first + v / 64) 0 < 2 ^ 64 → rest s first v ≢ 0
+      → Next s first (w * 64) from (v + trailingZeros 64 (rest s first v))
+  found-in w hf hv fit ne =
+      let z : ℕ = trailingZeros 64 (rest s first v) in
+      let zl : z < 64 = trailing-lt 64 (rest s first v) (omega arith) (lt-of-le-of-lt (shr-le (getD s (first + v / 64) 0) (v % 64)) fit) in
+      let set1 : bit (rest s first v) z ≡ 1 = trailing-at 64 (rest s first v) zl in
+      let inside : v % 64 + z < 64 = ⊎-elim (λ l. l) (λ l. absurd (high z set1 l)) (lt-or-le (v % 64 + z) 64) in
+      record {
+        within = omega arith;
+        skipped = λ x l h. ⊎-elim
+            (λ b. skipped x l b)
+            (λ b. rest-from s first v x b (omega arith) ∙ trailing-below 64 (rest s first v) (x - v) (omega arith))
+            (lt-or-le x v);
+        found = λ h. (omega arith, rest-bit s first v z inside ∙ set1);
+      }
+    where
+      high : (z : ℕ) → bit (rest s first v) z ≡ 1 → 64 ≤ v % 64 + z → ⊥
+      high z e l =
+          let none : bit (rest s first v) z ≡ 0 = bit-shr (getD s (first + v / 64) 0) (v % 64) z ∙ bit-high 64 (getD s (first + v / 64) 0) (v % 64 + z) fit l in
+          omega arith
+
+-- ---- a set is put into another
+
+pub united-none : (s : List ℕ) (first : ℕ) (other : List ℕ) → United s first other 0 s
+united-none s first other = record { size = refl; done = λ i l. absurd (not-suc-le-zero l); below = λ i l. refl; above = λ i l. refl }
+
+pub united-more : (s : List ℕ) (first : ℕ) (other : List ℕ) (j : ℕ) (r : List ℕ) → first + j < length r → United s first other j r
+    → United s first other (j + 1) (set r (first + j) (bitOr (getD r (first + j) 0) (getD other j 0)))
+united-more s first other j r hl o =
+    let x : ℕ = bitOr (getD r (first + j) 0) (getD other j 0) in
+    record {
+      size = length-set r (first + j) x ∙ o .size;
+      done = below-more (λ (i : ℕ). getD (set r (first + j) x) (first + i) 0 ≡ bitOr (getD s (first + i) 0) (getD other i 0)) j
+          (λ i l. getD-set-other r (first + j) (first + i) x 0 (λ e. omega arith) ∙ o .done i l)
+          (getD-set-same r (first + j) x 0 hl ∙ ap (λ (y : ℕ). bitOr y (getD other j 0)) (o .above (first + j) (omega arith)));
+      below = λ i l. getD-set-other r (first + j) i x 0 (λ e. omega arith) ∙ o .below i l;
+      above = λ i l. getD-set-other r (first + j) i x 0 (λ e. omega arith) ∙ o .above i (omega arith);
+    }
+
+-- the next member is not before where the search began
+pub next-from : (s : List ℕ) (first top from r : ℕ) → Next s first top from r → from ≤ top → from ≤ r
+next-from s first top from r n h = ⊎-elim (λ l. n .found l .0) (λ l. omega arith) (lt-or-le r top)

@@ -1,0 +1,23 @@
+use mathlib.Core.Path.{ap, _∙_}
+use Prim.Native.Nat.{ℕ, _/_, _%_, _^_}
+use lib.Bits.{bitAnd}
+use lib.Dec.{eqb}
+use Rattle.masks.proofs.Sets.{member-test}
+use borrow.Author.Needs.{needs}
+use Rattle.masks.proofs.contains.Statement.{statement}
+use Rattle.masks.proofs.contains.Tie as tie
+
+mask-at-requires : tie.Need-mask-at-requires
+mask-at-requires c κs = search needs
+
+shr-result : tie.Need-shr-result
+shr-result c = search needs
+
+returns : tie.Need-returns
+returns c =
+    let a = c .before .before .args in
+    ap (λ (m : ℕ). eqb (bitAnd (m / 2 ^ (a .v % 64)) 1) 1) (c .mask-at .ensures)
+    ∙ ap (λ (x : ℕ). eqb x 1) (member-test (a .masks .now) (a .first) (a .v))
+
+pub contains-spec : {M : Type 1} → statement M
+contains-spec = tie.close (tie.spec mask-at-requires shr-result returns)

@@ -1,0 +1,71 @@
+use mathlib.Core.Path.{sym, ap}
+use Prim.Native.Nat.{ℕ, _+_, _/_, _%_, _≤_}
+use native.Mathlib.Omega.{arith}
+use borrow.Author.Tests.{lt-ltb, le-ltb}
+use lib.Bits.{bitOr}
+use lib.ListN.{length, getD, set}
+use lib.Seq.{set-out}
+use Rattle.masks.specs.Sets.{inserted}
+use Rattle.masks.proofs.Bits.{one-shl}
+use borrow.Author.Needs.{needs}
+use Rattle.masks.proofs.insert.Statement.{statement}
+use Rattle.masks.proofs.insert.Tie as tie
+
+returns : tie.Need-returns
+unfolding inserted
+returns c =
+    let a = c .before .args in
+    let i : ℕ = a .first + a .v / 64 in
+    let out : length (a .masks .now) ≤ i = omega arith in
+    (sym (le-ltb i (length (a .masks .now)) out), sym (set-out (a .masks .now) i _ out))
+
+sub-if2 : tie.Need-sub-if2
+sub-if2 c = search needs
+
+returns-2 : tie.Need-returns-2
+unfolding inserted
+returns-2 c =
+    let a = c .before .before .args in
+    let i : ℕ = a .first + a .v / 64 in
+    let out : length (a .masks .now) ≤ i = omega arith in
+    (sym (le-ltb i (length (a .masks .now)) out), sym (set-out (a .masks .now) i _ out))
+
+add-i : tie.Need-add-i
+add-i c = search needs
+
+shl-masks : tie.Need-shl-masks
+shl-masks c = search needs
+
+mul-masks : tie.Need-mul-masks
+mul-masks c = search needs
+
+slice-read-masks : tie.Need-slice-read-masks
+slice-read-masks c = search needs
+
+slice-write-masks : tie.Need-slice-write-masks
+slice-write-masks c = search needs
+
+same-length : tie.Need-same-length
+same-length c = search needs
+
+returns-3 : tie.Need-returns-3
+unfolding inserted
+returns-3 c =
+    let a = c .before .before .before .args in
+    let i : ℕ = a .first + a .v / 64 in
+    (sym (lt-ltb i (length (a .masks .now)) (omega arith)), ap (λ (x : ℕ). set (a .masks .now) i (bitOr (getD (a .masks .now) i 0) x)) (one-shl (a .v % 64) (omega arith)))
+
+pub insert-spec : {M : Type 1} → statement M
+insert-spec =
+    tie.close
+    (tie.spec
+    returns
+    sub-if2
+    returns-2
+    add-i
+    shl-masks
+    mul-masks
+    slice-read-masks
+    slice-write-masks
+    same-length
+    returns-3)

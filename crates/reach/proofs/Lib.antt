@@ -1,0 +1,8 @@
+pub mod Routes
+pub mod Warshall
+pub mod Stepping
+pub mod Marking
+pub mod Decide
+pub mod Gathering
+pub mod Refusing
+pub mod Closures

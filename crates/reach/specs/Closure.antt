@@ -1,0 +1,35 @@
+-- What the calls of this layer promise. Assumes nothing.
+use mathlib.Core.Path.{_≡_}
+use mathlib.Core.Logic.{_↔_}
+use mathlib.Core.Bool.{Bool, _&&_}
+use mathlib.Core.List.{List}
+use Prim.Native.Nat.{ℕ, _<_}
+use lib.Dec.{eqb}
+use lib.ListN.{length, getD}
+use Rattle.counting.specs.Count.{count, some}
+use Rattle.masks.specs.Sets.{at}
+use Rattle.reach.specs.Graph.{Reaches, Edge, edge?, reaches?}
+use Rattle.reach.specs.Refusal.{refusal}
+use Rattle.reach.specs.declared.Reachability.{Reachability}
+
+-- u reaches v in a graph that is not refused; in one that is, nothing reaches anything
+abbrev pub Reachable : ℕ → List ℕ → List ℕ → ℕ → ℕ → Type 0
+Reachable n tails heads u v = (refusal n tails heads ≡ 0) × Reaches (Edge tails heads) u v
+
+-- the same, computed
+unfoldable pub reachable? : ℕ → List ℕ → List ℕ → ℕ → ℕ → Bool
+reachable? n tails heads u v = eqb (refusal n tails heads) 0 && reaches? (edge? tails heads) n u v
+
+-- r is the graph's reachability: document 01's 'descent table', two masks a vertex, with the number of descendants of each vertex
+pub record Closure (n : ℕ) (tails heads : List ℕ) (r : Reachability) : Type 0 where
+  pub answer : r .refusal ≡ refusal n tails heads
+  pub masks : length (r .table) ≡ 256
+  pub bits : (u v : ℕ) → u < 128 → v < 128 → at 2 (r .table) u v ≡ 1 ↔ Reachable n tails heads u v
+  pub vertices : length (r .counts) ≡ 128
+  pub counted : (u : ℕ) → u < 128 → getD (r .counts) u 0 ≡ count 128 (reachable? n tails heads u)
+  pub cycles : r .cyclic ≡ some 128 (λ u. reachable? n tails heads u u)
+
+-- r is the table t followed by itself: v is in the set of u exactly when some w is in the set of u, and v in that of w
+pub record Composed (t r : List ℕ) : Type 0 where
+  pub masks : length r ≡ 256
+  pub bits : (u v : ℕ) → u < 128 → v < 128 → at 2 r u v ≡ 1 ↔ ((w : ℕ) × (w < 128) × (at 2 t u w ≡ 1) × (at 2 t w v ≡ 1))

@@ -1,0 +1,5 @@
+pub mod Graph
+pub mod Refusal
+pub mod Closure
+pub mod Steps
+pub mod Examples
