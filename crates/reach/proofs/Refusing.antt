@@ -6,11 +6,11 @@ use mathlib.Core.List.{List}
 use Prim.Native.Nat.{ℕ, _≤_, _<_}
 use native.Mathlib.Nat.{lt-of-lt-of-le}
 use native.Mathlib.Omega.{arith}
-use borrow.Author.Tests.{leb-false, ltb-false, le-leb}
+use borrow.Author.Tests.{leb-false, ltb-false}
 use lib.Dec.{eqb, leb, ltb}
 use lib.ListN.{getD}
 use Rattle.counting.specs.Count.{some}
-use Rattle.counting.proofs.Truth.{true-or-false, or-left, or-right}
+use Rattle.counting.proofs.Truth.{true-or-false, or-neither}
 use Rattle.counting.proofs.Somes.{some-found}
 use Rattle.reach.specs.Graph.{edgeCount}
 use Rattle.reach.specs.Refusal.{outsized?, strange?, verdict, refusal}
@@ -22,11 +22,6 @@ verdict-none true b e = absurd (let z : _≡_ {A = ℕ} 2 0 = e in omega arith)
 verdict-none false true e = absurd (let z : _≡_ {A = ℕ} 3 0 = e in omega arith)
 verdict-none false false e = (refl, refl)
 
--- what a false `||` says of its parts
-neither : (a b : Bool) → (a || b) ≡ false → (a ≡ false) × (b ≡ false)
-neither true b e = absurd (true≢false e)
-neither false b e = (refl, e)
-
 -- fewer vertices are among more
 pub within-more : (n k m : ℕ) (tails heads : List ℕ) → n ≤ k → Within n m tails heads → Within k m tails heads
 within-more n k m tails heads h w = record { tail = λ i l. lt-of-lt-of-le (w .tail i l) h; head = λ i l. lt-of-lt-of-le (w .head i l) h }
@@ -36,15 +31,15 @@ pub accepted-within : (n : ℕ) (tails heads : List ℕ) → refusal n tails hea
 unfolding refusal outsized? strange?
 accepted-within n tails heads e =
     let v = verdict-none (outsized? n (edgeCount tails heads)) (some (edgeCount tails heads) (strange? n tails heads)) e in
-    let size = neither (eqb n 0 || ltb 128 n) (ltb 4096 (edgeCount tails heads)) (v .0) in (
+    let size = or-neither (eqb n 0 || ltb 128 n) (ltb 4096 (edgeCount tails heads)) (v .0) in (
       record { tail = λ i l. leb-false n (getD tails i 0) (known i l (v .1) .0); head = λ i l. leb-false n (getD heads i 0) (known i l (v .1) .1) },
-      ltb-false 128 n (neither (eqb n 0) (ltb 128 n) (size .0) .1),
+      ltb-false 128 n (or-neither (eqb n 0) (ltb 128 n) (size .0) .1),
     )
   where
     known : (i : ℕ) → i < edgeCount tails heads → some (edgeCount tails heads) (strange? n tails heads) ≡ false
         → (leb n (getD tails i 0) ≡ false) × (leb n (getD heads i 0) ≡ false)
     known i l none =
-        neither (leb n (getD tails i 0)) (leb n (getD heads i 0))
+        or-neither (leb n (getD tails i 0)) (leb n (getD heads i 0))
         (⊎-elim
         (λ t. absurd (true≢false (sym (some-found (edgeCount tails heads) (strange? n tails heads) i l t) ∙ none)))
         (λ f. f)

@@ -44,7 +44,7 @@ close-requires : tie.Need-close-requires
 close-requires c κs =
     let a = c .before .before .before .before .before .before .before .args in
     let inside = accepted-within (a .n) (a .tails .now) (a .heads .now) (sym (c .before .before .before .refusal-of .ensures) ∙ c .before .before .if1 .left) in
-    (c .before .marked .ensures .0, inside .1)
+    (c .before .marked .ensures .0, omega (arith, inside .1))
 
 slice-aggregate-counts-of : tie.Need-slice-aggregate-counts-of
 slice-aggregate-counts-of c = search needs

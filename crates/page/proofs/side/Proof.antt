@@ -1,0 +1,79 @@
+-- `page::side` meets its contract: the test fails where every cell is on the page, and then `point_at` gives its points. Assumes nothing.
+use mathlib.Core.Path.{_≡_, refl, sym, ap, ap₂, _∙_}
+use mathlib.Core.Bool.{_||_}
+use mathlib.Core.List.{List, [], _∷_}
+use borrow.Author.Needs.{needs}
+use Rattle.page.specs.declared.Cell.{Cell}
+use Rattle.page.specs.Page.{accepted}
+use Rattle.page.proofs.Drawing.{AllOn, test, refuse, clear, draw}
+use Rattle.page.proofs.side.Statement.{statement}
+use Rattle.page.proofs.side.Tie as tie
+
+abbrev cells : tie.Start → List Cell
+cells s = s .args .a ∷ s .args .b ∷ s .args .c ∷ s .args .d ∷ []
+
+-- the code's test is that of the cells
+tested : (c : tie.After-off-page4)
+    → test (cells (c .before .before .before .before))
+    ≡ (c .before .before .before .off-page .result || c .before .before .off-page2 .result || c .before .off-page3 .result || c .off-page4 .result)
+tested c =
+    sym
+    (ap₂ _||_ (ap₂ _||_ (ap₂ _||_ (c .before .before .before .off-page .ensures)
+    (c .before .before .off-page2 .ensures))
+    (c .before .off-page3 .ensures))
+    (c .off-page4 .ensures))
+
+on : (c : tie.Else1) → AllOn (cells (c .before .before .before .before .before))
+on c = clear (cells (c .before .before .before .before .before)) (tested (c .before) ∙ c .if1 .left)
+
+off-page-requires : tie.Need-off-page-requires
+off-page-requires c κs = search needs
+
+off-page-requires-2 : tie.Need-off-page-requires-2
+off-page-requires-2 c κs = search needs
+
+off-page-requires-3 : tie.Need-off-page-requires-3
+off-page-requires-3 c κs = search needs
+
+off-page-requires-4 : tie.Need-off-page-requires-4
+off-page-requires-4 c κs = search needs
+
+returns : tie.Need-returns
+returns c = refuse _ (tested (c .before) ∙ c .if1 .taken)
+
+point-at-requires : tie.Need-point-at-requires
+point-at-requires c κs = let o = on c in search needs
+
+point-at-requires-2 : tie.Need-point-at-requires-2
+point-at-requires-2 c κs = let o = on (c .before) in search needs
+
+point-at-requires-3 : tie.Need-point-at-requires-3
+point-at-requires-3 c κs = let o = on (c .before .before) in search needs
+
+point-at-requires-4 : tie.Need-point-at-requires-4
+point-at-requires-4 c κs = let o = on (c .before .before .before) in search needs
+
+returns-2 : tie.Need-returns-2
+returns-2 c =
+    let w = c .before .before .before .before in
+    draw _ (tested (w .before) ∙ w .if1 .left)
+    (ap accepted
+    (ap₂ _∷_ (c .before .before .before .point-at .ensures)
+    (ap₂ _∷_ (c .before .before .point-at2 .ensures)
+    (ap₂ _∷_ (c .before .point-at3 .ensures)
+    (ap₂ _∷_ (c .point-at4 .ensures) refl)))))
+
+pub side-spec : {M : Type 1} → statement M
+side-spec =
+    tie.close
+    (tie.spec
+    off-page-requires
+    off-page-requires-2
+    off-page-requires-3
+    off-page-requires-4
+    returns
+    point-at-requires
+    point-at-requires-2
+    point-at-requires-3
+    point-at-requires-4
+    returns-2)
