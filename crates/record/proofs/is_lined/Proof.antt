@@ -1,0 +1,81 @@
+use mathlib.Core.Path.{_≡_, refl, sym, ap, _∙_, subst}
+use Prim.Native.Nat.{ℕ, _+_, _-_, _≤_, _<_, zero-le}
+use native.Mathlib.Omega.{arith}
+use lib.ListN.{length, getD, drop}
+use Rattle.record.specs.Layout.{lined}
+use Rattle.record.proofs.Lining.{lined-empty, lined-begins, lined-goes, lined-ends}
+use borrow.Author.Needs.{needs}
+use Rattle.record.proofs.is_lined.Statement.{statement}
+use Rattle.record.proofs.is_lined.Tie as tie
+
+abbrev Inv-loop : tie.InvT-loop
+Inv-loop b left₀ i₀ left i = (i ≤ length b) × (left < 256) × (lined left (drop i b) ≡ lined 0 b)
+
+abbrev μ-loop : tie.MeasureT-loop
+μ-loop b left₀ i₀ left i = length b - i
+
+loop-holds : tie.Need-loop-holds Inv-loop μ-loop
+loop-holds c = (zero-le, omega arith, refl)
+
+add-next : tie.Need-add-next Inv-loop μ-loop
+add-next c = search needs
+
+shared-slice-read-wide : tie.Need-shared-slice-read-wide Inv-loop μ-loop
+shared-slice-read-wide c = search needs
+
+wide-requires : tie.Need-wide-requires Inv-loop μ-loop
+wide-requires c κs = search needs
+
+returns : tie.Need-returns Inv-loop μ-loop
+returns c =
+    let b = c .before .before .before .before .before .before .before .args .b .now in
+    let l = c .before .before .before .before .before .loop in
+    sym (sym (l .inv .2) ∙ ap (λ (k : ℕ). lined k (drop (l .i) b)) (c .before .before .before .if1 .taken) ∙ lined-empty b (l .i) (c .before .before .before .before .loop-test .taken) (sym (c .before .wide .ensures .0) ∙ c .if2 .taken))
+
+sub-left : tie.Need-sub-left Inv-loop μ-loop
+sub-left c = search needs
+
+loop-less : tie.Need-loop-less Inv-loop μ-loop
+loop-less c = search needs
+
+loop-again : tie.Need-loop-again Inv-loop μ-loop
+loop-again c =
+    let b = c .before .before .before .before .before .before .before .args .b .now in
+    let l = c .before .before .before .before .before .loop in
+    let h = c .before .before .before .before .loop-test .taken in
+    (
+      omega arith,
+      c .before .wide .ensures .1,
+      ap (λ (k : ℕ). lined k (drop (l .i + 1) b)) (c .before .wide .ensures .0) ∙ sym (lined-begins b (l .i) h (λ e. c .if2 .left (c .before .wide .ensures .0 ∙ e)))
+          ∙ ap (λ (k : ℕ). lined k (drop (l .i) b)) (sym (c .before .before .before .if1 .taken)) ∙ l .inv .2,
+    )
+
+loop-less-2 : tie.Need-loop-less-2 Inv-loop μ-loop
+loop-less-2 c = search needs
+
+loop-again-2 : tie.Need-loop-again-2 Inv-loop μ-loop
+loop-again-2 c =
+    let b = c .before .before .before .before .args .b .now in
+    let l = c .before .before .loop in
+    (omega arith, omega arith, sym (lined-goes (l .left) b (l .i) (c .before .loop-test .taken) (c .if1 .left)) ∙ l .inv .2)
+
+returns-2 : tie.Need-returns-2 Inv-loop μ-loop
+returns-2 c = sym (lined-ends (c .before .loop .left) (c .before .before .before .args .b .now) (c .before .loop .i) (omega arith)) ∙ c .before .loop .inv .2
+
+pub is-lined-spec : {M : Type 1} → statement M
+is-lined-spec =
+    tie.close
+    (tie.spec
+    Inv-loop
+    μ-loop
+    loop-holds
+    add-next
+    shared-slice-read-wide
+    wide-requires
+    returns
+    sub-left
+    loop-less
+    loop-again
+    loop-less-2
+    loop-again-2
+    returns-2)
