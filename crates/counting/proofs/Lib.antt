@@ -1,3 +1,4 @@
 pub mod Truth
 pub mod Sums
 pub mod Somes
+pub mod Zeros

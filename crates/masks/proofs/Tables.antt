@@ -2,7 +2,7 @@
 use mathlib.Core.Path.{_≡_, refl, sym, ap, _∙_, subst}
 use mathlib.Core.Logic.{_≢_, ⊎-elim}
 use mathlib.Core.List.{List}
-use Prim.Native.Nat.{ℕ, zero, suc, _+_, _-_, _*_, _/_, _%_, _^_, _≤_, _<_, max}
+use Prim.Native.Nat.{ℕ, _+_, _-_, _*_, _/_, _%_, _^_, _≤_, _<_, max}
 use native.Mathlib.Nat.{mul-comm, mul-le-mul-left}
 use native.Mathlib.Decide.{ℕ-discrete, decLt}
 use native.Mathlib.Omega.{arith}
@@ -11,6 +11,7 @@ use lib.Bits.{bitOr}
 use lib.ListN.{length, getD, set, replicate}
 use lib.Seq.{getD-set-same, getD-set-other}
 use Rattle.counting.proofs.Truth.{lt-or-le}
+use Rattle.counting.proofs.Zeros.{zeros}
 use Rattle.masks.specs.Bits.{bit}
 use Rattle.masks.specs.Sets.{maskOf, member, at, inserted, United}
 use Rattle.masks.proofs.Bits.{bit-of-zero, bit-or, with-here, with-other}
@@ -19,11 +20,6 @@ use Rattle.masks.proofs.Sets.{member-lt}
 pub at-lt : (w : ℕ) (t : List ℕ) (u v : ℕ) → at w t u v < 2
 unfolding at
 at-lt w t u v = member-lt t (w * u) v
-
-zeros : (n i : ℕ) → _≡_ {A = ℕ} (getD (replicate n 0) i 0) 0
-zeros zero i = refl
-zeros (suc n) zero = refl
-zeros (suc n) (suc i) = zeros n i
 
 -- a table of zeros has no bit
 pub at-zeros : (w n u v : ℕ) → at w (replicate n 0) u v ≡ 0

@@ -1,21 +1,31 @@
 -- What a record says, once its fields stand as they must. Assumes nothing.
-use mathlib.Core.Bool.{Bool}
+use mathlib.Core.Path.{_≡_}
 use mathlib.Core.List.{List, [], _∷_}
-use Prim.Native.Nat.{ℕ, _*_}
-use lib.ListN.{take, drop}
+use Prim.Native.Nat.{ℕ, _+_, _*_, _≤_, _<_}
+use lib.ListN.{length, getD, take, drop}
 use Rattle.record.specs.declared.Fields.{Fields}
+use Rattle.record.specs.declared.Edges.{Edges}
 
--- edges are two bytes each, tail and head (document 01: from and to); edge numbers follow the order
+-- every second element, from the first on
+unfoldable pub alternate : List ℕ → List ℕ
+alternate [] = []
+alternate (x ∷ []) = x ∷ []
+alternate (x ∷ y ∷ s) = x ∷ alternate s
+
+-- edges are two bytes each, tail and head (document 01: from and to), and their numbers follow the order
 unfoldable pub tailsOf : List ℕ → List ℕ
-tailsOf [] = []
-tailsOf (t ∷ []) = []
-tailsOf (t ∷ h ∷ s) = t ∷ tailsOf s
+tailsOf s = alternate s
 
 unfoldable pub headsOf : List ℕ → List ℕ
-headsOf [] = []
-headsOf (t ∷ []) = []
-headsOf (t ∷ h ∷ s) = h ∷ headsOf s
+headsOf s = alternate (drop 1 s)
 
 -- the bytes of the edges
 unfoldable pub edgeBytes : List ℕ → Fields → List ℕ
 edgeBytes b f = take (2 * f .count) (drop (f .edges) b)
+
+-- r has the tails and heads of m edges whose bytes begin at `start`, and 0 past the last
+pub record Edged (b : List ℕ) (start m : ℕ) (r : Edges) : Type 0 where
+  pub sizes : (length (r .tails) ≡ 4096) × (length (r .heads) ≡ 4096)
+  pub tail : (i : ℕ) → i < m → getD (r .tails) i 0 ≡ getD b (start + 2 * i) 0
+  pub head : (i : ℕ) → i < m → getD (r .heads) i 0 ≡ getD b (start + 2 * i + 1) 0
+  pub past : (i : ℕ) → m ≤ i → (getD (r .tails) i 0 ≡ 0) × (getD (r .heads) i 0 ≡ 0)

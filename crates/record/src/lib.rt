@@ -1,7 +1,8 @@
 // Reading a record (document 01: 'The record'): where its fields stand.
 ghost use mathlib.Core.Path.{_≡_};
-ghost use Prim.Native.Nat.{_+_, _≤_, _<_};
+ghost use Prim.Native.Nat.{_+_, _*_, _≤_, _<_};
 ghost use lib.ListN.{length};
+ghost use Rattle.record.specs.Content.{Edged};
 ghost use Rattle.record.specs.Layout.{fieldAt, layoutOf, lined, withLines, afterEdges, withEdges};
 
 // The most bytes of a record.
@@ -150,4 +151,25 @@ pub fn layout_of(b: &[u8]) -> Layout
         return Layout::Bad;
     }
     with_edges(b, wide(b[start]), start + size)
+}
+
+// The edges of a record, entry i for edge i, and 0 past the last.
+pub struct Edges {
+    pub tails: [u8; 4096],
+    pub heads: [u8; 4096],
+}
+
+// The m edges whose bytes begin at `start`, tail and head in turn.
+fn edges_at(b: &[u8], start: usize, m: usize) -> Edges
+    requires { ⌜ (m ≤ 4096) × (start + 2 * m ≤ length (now b)) ⌝ }
+    ensures { λ r. ⌜ Edged (now (b .entry)) start m r ⌝ }
+{
+    let mut tails = [0; 4096];
+    let mut heads = [0; 4096];
+    for i in 0..m {
+        let at = start + 2 * i;
+        tails[i] = b[at];
+        heads[i] = b[at + 1];
+    }
+    Edges { tails, heads }
 }

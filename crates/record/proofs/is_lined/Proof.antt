@@ -42,8 +42,7 @@ loop-again : tie.Need-loop-again Inv-loop μ-loop
 loop-again c =
     let b = c .before .before .before .before .before .before .before .args .b .now in
     let l = c .before .before .before .before .before .loop in
-    let h = c .before .before .before .before .loop-test .taken in
-    (
+    let h = c .before .before .before .before .loop-test .taken in (
       omega arith,
       c .before .wide .ensures .1,
       ap (λ (k : ℕ). lined k (drop (l .i + 1) b)) (c .before .wide .ensures .0) ∙ sym (lined-begins b (l .i) h (λ e. c .if2 .left (c .before .wide .ensures .0 ∙ e)))
