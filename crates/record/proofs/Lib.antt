@@ -1,3 +1,4 @@
 pub mod Lining
 pub mod Placing
 pub mod Pairs
+pub mod Duplicates

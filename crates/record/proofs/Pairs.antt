@@ -8,7 +8,7 @@ use borrow.Author.Count.{below-more}
 use lib.ListN.{length, getD, take, drop, set, replicate, length-set, length-take, length-drop}
 use lib.Seq.{ext-getD, length-take-le, getD-take, getD-drop, getD-set-same, getD-set-other}
 use Rattle.counting.proofs.Zeros.{zeros}
-use Rattle.record.specs.declared.Edges.{Edges}
+use Rattle.record.specs.declared.edges.Edges.{Edges}
 use Rattle.record.specs.Content.{alternate, tailsOf, headsOf, Edged}
 
 -- ---- one edge after the other

@@ -9,8 +9,8 @@ use lib.Dec.{eqb, leb}
 use lib.ListN.{length, getD}
 use Rattle.counting.specs.Count.{choose}
 use Rattle.counting.proofs.Truth.{and-elim}
-use Rattle.record.specs.declared.Field.{Field}
-use Rattle.record.specs.declared.Field.the-variants.{Found, Missing}
+use Rattle.record.specs.declared.layout.Field.{Field}
+use Rattle.record.specs.declared.layout.Field.the-variants.{Found, Missing}
 use Rattle.record.specs.Layout.{sizeAt, fieldAt}
 
 -- where a found field stands

@@ -3,8 +3,8 @@ use mathlib.Core.Path.{_≡_}
 use mathlib.Core.List.{List, [], _∷_}
 use Prim.Native.Nat.{ℕ, _+_, _*_, _≤_, _<_}
 use lib.ListN.{length, getD, take, drop}
-use Rattle.record.specs.declared.Fields.{Fields}
-use Rattle.record.specs.declared.Edges.{Edges}
+use Rattle.record.specs.declared.layout.Fields.{Fields}
+use Rattle.record.specs.declared.edges.Edges.{Edges}
 
 -- every second element, from the first on
 unfoldable pub alternate : List ℕ → List ℕ

@@ -5,11 +5,11 @@ use Prim.Native.Nat.{ℕ, zero, suc, _+_, _*_, _/_, _%_}
 use lib.Dec.{eqb, leb, ltb}
 use lib.ListN.{length, getD, take, drop}
 use Rattle.counting.specs.Count.{choose}
-use Rattle.record.specs.declared.Field.{Field}
-use Rattle.record.specs.declared.Field.the-variants.{Found, Missing}
-use Rattle.record.specs.declared.Fields.{Fields}
-use Rattle.record.specs.declared.Layout.{Layout}
-use Rattle.record.specs.declared.Layout.the-variants.{Good, Bad}
+use Rattle.record.specs.declared.layout.Field.{Field}
+use Rattle.record.specs.declared.layout.Field.the-variants.{Found, Missing}
+use Rattle.record.specs.declared.layout.Fields.{Fields}
+use Rattle.record.specs.declared.layout.Layout.{Layout}
+use Rattle.record.specs.declared.layout.Layout.the-variants.{Good, Bad}
 
 -- the most bytes of a record
 abbrev pub mostBytes : ℕ

@@ -3,14 +3,14 @@ use Prim.Native.Nat.{ℕ, _+_, _-_, _≤_}
 use native.Mathlib.Omega.{arith}
 use borrow.Author.Tests.{eq-eqb, ne-eqb, le-leb, lt-leb}
 use lib.ListN.{length, getD, take, drop}
-use Rattle.record.specs.declared.Field.the-variants.{Found, Missing}
-use Rattle.record.specs.declared.Layout.{Layout}
-use Rattle.record.specs.declared.Layout.the-variants.{Good, Bad}
+use Rattle.record.specs.declared.layout.Field.the-variants.{Found, Missing}
+use Rattle.record.specs.declared.layout.Layout.{Layout}
+use Rattle.record.specs.declared.layout.Layout.the-variants.{Good, Bad}
 use Rattle.record.specs.Layout.{fieldAt, withEdges}
 use Rattle.record.proofs.Placing.{Inside, found-inside}
 use borrow.Author.Needs.{needs}
-use Rattle.record.proofs.with_edges.Statement.{statement}
-use Rattle.record.proofs.with_edges.Tie as tie
+use Rattle.record.proofs.layout.with_edges.Statement.{statement}
+use Rattle.record.proofs.layout.with_edges.Tie as tie
 
 -- the field that was found, and where it lies
 found : (c : tie.After-known-told) → fieldAt 2 (c .before .before .before .before .before .args .b .now) (c .before .before .before .before .before .args .at) ≡ Found (c .before .field .given .0 .0) (c .before .field .given .0 .1 .0)

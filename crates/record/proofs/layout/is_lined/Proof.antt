@@ -5,8 +5,8 @@ use lib.ListN.{length, getD, drop}
 use Rattle.record.specs.Layout.{lined}
 use Rattle.record.proofs.Lining.{lined-empty, lined-begins, lined-goes, lined-ends}
 use borrow.Author.Needs.{needs}
-use Rattle.record.proofs.is_lined.Statement.{statement}
-use Rattle.record.proofs.is_lined.Tie as tie
+use Rattle.record.proofs.layout.is_lined.Statement.{statement}
+use Rattle.record.proofs.layout.is_lined.Tie as tie
 
 abbrev Inv-loop : tie.InvT-loop
 Inv-loop b left₀ i₀ left i = (i ≤ length b) × (left < 256) × (lined left (drop i b) ≡ lined 0 b)

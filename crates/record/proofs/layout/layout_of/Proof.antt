@@ -3,14 +3,14 @@ use Prim.Native.Nat.{ℕ, _+_, _-_, _≤_}
 use native.Mathlib.Omega.{arith}
 use borrow.Author.Tests.{eq-eqb, ne-eqb, le-leb, lt-leb}
 use lib.ListN.{length, getD}
-use Rattle.record.specs.declared.Field.the-variants.{Found, Missing}
-use Rattle.record.specs.declared.Layout.{Layout}
-use Rattle.record.specs.declared.Layout.the-variants.{Bad}
+use Rattle.record.specs.declared.layout.Field.the-variants.{Found, Missing}
+use Rattle.record.specs.declared.layout.Layout.{Layout}
+use Rattle.record.specs.declared.layout.Layout.the-variants.{Bad}
 use Rattle.record.specs.Layout.{fieldAt, withEdges, withVertices, layoutOf}
 use Rattle.record.proofs.Placing.{Inside, found-inside}
 use borrow.Author.Needs.{needs}
-use Rattle.record.proofs.layout_of.Statement.{statement}
-use Rattle.record.proofs.layout_of.Tie as tie
+use Rattle.record.proofs.layout.layout_of.Statement.{statement}
+use Rattle.record.proofs.layout.layout_of.Tie as tie
 
 returns : tie.Need-returns
 unfolding layoutOf

@@ -4,8 +4,8 @@ use native.Mathlib.Omega.{arith}
 use Rattle.record.specs.Content.{Edged}
 use Rattle.record.proofs.Pairs.{edged-none, edged-more}
 use borrow.Author.Needs.{needs}
-use Rattle.record.proofs.edges_at.Statement.{statement}
-use Rattle.record.proofs.edges_at.Tie as tie
+use Rattle.record.proofs.edges.edges_at.Statement.{statement}
+use Rattle.record.proofs.edges.edges_at.Tie as tie
 
 abbrev Inv-loop : tie.InvT-loop
 Inv-loop b start m tails₀ heads₀ i₀ tails heads i = (i ≤ m) × Edged b start i (record { tails = tails; heads = heads })

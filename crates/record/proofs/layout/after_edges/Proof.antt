@@ -1,8 +1,8 @@
 use borrow.Author.Tests.{eq-eqb, ne-eqb}
 use Rattle.record.specs.Layout.{afterEdges}
 use borrow.Author.Needs.{needs}
-use Rattle.record.proofs.after_edges.Statement.{statement}
-use Rattle.record.proofs.after_edges.Tie as tie
+use Rattle.record.proofs.layout.after_edges.Statement.{statement}
+use Rattle.record.proofs.layout.after_edges.Tie as tie
 
 returns : tie.Need-returns
 unfolding afterEdges

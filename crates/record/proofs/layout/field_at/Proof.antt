@@ -5,11 +5,11 @@ use native.Mathlib.Omega.{arith}
 use borrow.Author.Tests.{le-leb, lt-leb, eq-eqb, ne-eqb}
 use lib.Dec.{leb}
 use lib.ListN.{length}
-use Rattle.record.specs.declared.Field.the-variants.{Found}
+use Rattle.record.specs.declared.layout.Field.the-variants.{Found}
 use Rattle.record.specs.Layout.{sizeAt, fieldAt}
 use borrow.Author.Needs.{needs}
-use Rattle.record.proofs.field_at.Statement.{statement}
-use Rattle.record.proofs.field_at.Tie as tie
+use Rattle.record.proofs.layout.field_at.Statement.{statement}
+use Rattle.record.proofs.layout.field_at.Tie as tie
 
 add-if1 : tie.Need-add-if1
 add-if1 c = search needs
