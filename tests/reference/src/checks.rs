@@ -1,0 +1,68 @@
+//! The checks 2 to 7 of a record, in the paper's order.
+
+use crate::descent::Reachability;
+use crate::record::{Record, MAX_EDGES, MAX_VERTICES};
+use crate::refusal::Refusal;
+use std::collections::BTreeSet;
+
+/// A check holds or fails for the whole record.
+type Check = fn(&Record) -> bool;
+
+/// Each check may rely on those before it.
+const CHECKS: [(Refusal, Check); 6] = [
+    (Refusal::Size, sizes_are_allowed),
+    (Refusal::UnknownVertex, vertices_are_known),
+    (Refusal::DuplicateEdge, edges_are_distinct),
+    (Refusal::Cycle, no_vertex_reaches_itself),
+    (Refusal::Cover, channels_hold_each_vertex_once),
+    (Refusal::Broken, channels_follow_reachability),
+];
+
+/// The first check that fails, if one does.
+pub fn first_failing(record: &Record) -> Option<Refusal> {
+    CHECKS
+        .iter()
+        .find(|(_, holds)| !holds(record))
+        .map(|&(refusal, _)| refusal)
+}
+
+fn sizes_are_allowed(record: &Record) -> bool {
+    (1..=MAX_VERTICES).contains(&record.vertex_count) && record.edges.len() <= MAX_EDGES
+}
+
+fn vertices_are_known(record: &Record) -> bool {
+    let in_edges = record.edges.iter().flat_map(|edge| [edge.tail, edge.head]);
+    let in_channels = record.channels.iter().flatten().flatten().copied();
+    in_edges
+        .chain(in_channels)
+        .all(|vertex| vertex < record.vertex_count)
+}
+
+fn edges_are_distinct(record: &Record) -> bool {
+    let mut met = BTreeSet::new();
+    record.edges.iter().all(|edge| met.insert(edge))
+}
+
+fn no_vertex_reaches_itself(record: &Record) -> bool {
+    !Reachability::of(record.vertex_count, &record.edges).has_cycle()
+}
+
+fn channels_hold_each_vertex_once(record: &Record) -> bool {
+    let Some(channels) = &record.channels else {
+        return true;
+    };
+    let mut held: Vec<usize> = channels.iter().flatten().copied().collect();
+    held.sort_unstable();
+    held.into_iter().eq(0..record.vertex_count)
+}
+
+fn channels_follow_reachability(record: &Record) -> bool {
+    let Some(channels) = &record.channels else {
+        return true;
+    };
+    let reach = Reachability::of(record.vertex_count, &record.edges);
+    let follows = |pair: &[usize]| reach.reaches(pair[0], pair[1]);
+    channels
+        .iter()
+        .all(|channel| channel.windows(2).all(follows))
+}

@@ -1,0 +1,338 @@
+//! Damaged records: one fault or several, in what a record says or in its bytes.
+
+// All faults of the bytes have one type, also those that keep the length.
+#![allow(clippy::ptr_arg)]
+
+use crate::random::{give_channels, Generator};
+use crate::record::{push_field, split_fields, Edge, Record};
+use crate::record::{MAX_BYTES, MAX_EDGES, MAX_VERTICES, TAG_CHANNELS, TAG_VERTICES};
+
+/// A fault in what the record says.
+pub type Fault = fn(&mut Record, &mut Generator);
+/// A fault in the bytes.
+pub type ByteFault = fn(&mut Vec<u8>, &mut Generator);
+
+/// Every fault in what a record says.
+pub const FAULTS: [Fault; 15] = [
+    no_vertex,
+    too_many_vertices,
+    fewer_vertices,
+    unknown_end,
+    duplicate_edge,
+    way_back,
+    edge_to_itself,
+    too_many_edges,
+    channels_without_one,
+    channels_with_one_twice,
+    channel_out_of_order,
+    channels_joined,
+    no_channels,
+    unknown_in_channel,
+    empty_channel,
+];
+
+/// Every fault in the bytes.
+pub const BYTE_FAULTS: [ByteFault; 12] = [
+    truncated,
+    extended,
+    bit_flipped,
+    byte_changed,
+    byte_lost,
+    byte_added,
+    tag_changed,
+    length_changed,
+    field_lost,
+    field_twice,
+    fields_swapped,
+    oversized,
+];
+
+/// The bytes of `record` with one to four faults.
+pub fn damaged(mut record: Record, generator: &mut Generator) -> Vec<u8> {
+    let several = [1, 1, 1, 2, 3, 4];
+    let count = generator.pick(&several).unwrap_or(1);
+    let in_bytes = generator.below(count + 1);
+    for _ in in_bytes..count {
+        if let Some(fault) = generator.pick(&FAULTS) {
+            fault(&mut record, generator);
+        }
+    }
+    let mut bytes = record.to_bytes();
+    for _ in 0..in_bytes {
+        if let Some(fault) = generator.pick(&BYTE_FAULTS) {
+            fault(&mut bytes, generator);
+        }
+    }
+    bytes
+}
+
+fn no_vertex(record: &mut Record, _: &mut Generator) {
+    record.vertex_count = 0;
+}
+
+fn too_many_vertices(record: &mut Record, generator: &mut Generator) {
+    let far = generator.between(MAX_VERTICES + 1, 255);
+    record.vertex_count = generator
+        .pick(&[MAX_VERTICES + 1, far])
+        .unwrap_or(MAX_VERTICES + 1);
+}
+
+fn fewer_vertices(record: &mut Record, generator: &mut Generator) {
+    record.vertex_count = generator.below(record.vertex_count + 1);
+}
+
+fn unknown_end(record: &mut Record, generator: &mut Generator) {
+    let unknown = generator.between(record.vertex_count, 255);
+    let known = generator.below(record.vertex_count);
+    let ends = generator.pick(&[(unknown, known), (known, unknown), (unknown, unknown)]);
+    let (tail, head) = ends.unwrap_or((unknown, unknown));
+    insert_edge(record, Edge::new(tail, head), generator);
+}
+
+fn duplicate_edge(record: &mut Record, generator: &mut Generator) {
+    if let Some(edge) = generator.pick(&record.edges) {
+        insert_edge(record, edge, generator);
+    }
+}
+
+/// An edge against a walk of one or more edges.
+fn way_back(record: &mut Record, generator: &mut Generator) {
+    let Some(first) = generator.pick(&record.edges) else {
+        return;
+    };
+    let mut end = first.head;
+    for _ in 0..generator.below(4) {
+        let next: Vec<Edge> = record
+            .edges
+            .iter()
+            .copied()
+            .filter(|edge| edge.tail == end)
+            .collect();
+        end = generator.pick(&next).map_or(end, |edge| edge.head);
+    }
+    insert_edge(record, Edge::new(end, first.tail), generator);
+}
+
+/// An edge from a vertex to itself, now and then twice.
+fn edge_to_itself(record: &mut Record, generator: &mut Generator) {
+    let vertex = generator.below(record.vertex_count);
+    for _ in 0..generator.between(1, 2) {
+        insert_edge(record, Edge::new(vertex, vertex), generator);
+    }
+}
+
+fn too_many_edges(record: &mut Record, generator: &mut Generator) {
+    let count = MAX_EDGES + generator.between(1, 3);
+    while record.edges.len() < count {
+        let edge = Edge::new(
+            generator.below(record.vertex_count),
+            generator.below(record.vertex_count),
+        );
+        record.edges.push(edge);
+    }
+}
+
+fn insert_edge(record: &mut Record, edge: Edge, generator: &mut Generator) {
+    let place = generator.below(record.edges.len() + 1);
+    record.edges.insert(place, edge);
+}
+
+/// The record's channels; where it has none, good ones or else a channel for each vertex.
+fn channels<'a>(record: &'a mut Record, generator: &mut Generator) -> &'a mut Vec<Vec<usize>> {
+    if record.channels.is_none() && record.check().is_ok() {
+        give_channels(record, generator);
+    }
+    let alone = || (0..record.vertex_count).map(|v| vec![v]).collect();
+    record.channels.get_or_insert_with(alone)
+}
+
+fn channels_without_one(record: &mut Record, generator: &mut Generator) {
+    let lists = channels(record, generator);
+    let place = generator.below(lists.len());
+    if let Some(list) = lists.get_mut(place) {
+        let lost = generator.below(list.len());
+        if lost < list.len() {
+            list.remove(lost);
+        }
+        if list.is_empty() {
+            lists.remove(place);
+        }
+    }
+}
+
+fn channels_with_one_twice(record: &mut Record, generator: &mut Generator) {
+    let vertex = generator.below(record.vertex_count);
+    let lists = channels(record, generator);
+    let place = generator.below(lists.len());
+    match lists.get_mut(place) {
+        Some(list) if list.len() < MAX_VERTICES && generator.percent(70) => list.push(vertex),
+        _ => lists.push(vec![vertex]),
+    }
+}
+
+/// Two neighbours of a channel change places.
+fn channel_out_of_order(record: &mut Record, generator: &mut Generator) {
+    let lists = channels(record, generator);
+    let long: Vec<usize> = (0..lists.len()).filter(|&i| lists[i].len() > 1).collect();
+    if let Some(place) = generator.pick(&long) {
+        let list = &mut lists[place];
+        let lower = generator.below(list.len() - 1);
+        list.swap(lower, lower + 1);
+    }
+}
+
+fn channels_joined(record: &mut Record, generator: &mut Generator) {
+    let lists = channels(record, generator);
+    generator.shuffle(lists);
+    if let [.., one, other] = lists.as_mut_slice() {
+        if one.len() + other.len() <= MAX_VERTICES {
+            one.append(other);
+            lists.pop();
+        }
+    }
+}
+
+fn no_channels(record: &mut Record, _: &mut Generator) {
+    record.channels = Some(Vec::new());
+}
+
+fn unknown_in_channel(record: &mut Record, generator: &mut Generator) {
+    let unknown = generator.between(record.vertex_count, 255);
+    let lists = channels(record, generator);
+    let place = generator.below(lists.len());
+    match lists.get_mut(place).and_then(|list| list.last_mut()) {
+        Some(vertex) => *vertex = unknown,
+        None => lists.push(vec![unknown]),
+    }
+}
+
+fn empty_channel(record: &mut Record, generator: &mut Generator) {
+    let lists = channels(record, generator);
+    lists.insert(generator.below(lists.len() + 1), Vec::new());
+}
+
+fn truncated(bytes: &mut Vec<u8>, generator: &mut Generator) {
+    bytes.truncate(generator.below(bytes.len()));
+}
+
+fn extended(bytes: &mut Vec<u8>, generator: &mut Generator) {
+    for _ in 0..generator.between(1, 6) {
+        let value = generator.pick(&[0, 0, 1, 2, 3, 255]);
+        bytes.push(value.unwrap_or(0));
+    }
+}
+
+fn bit_flipped(bytes: &mut Vec<u8>, generator: &mut Generator) {
+    let bit = 1 << generator.below(8);
+    change(bytes, generator, |byte, _| byte ^ bit);
+}
+
+fn byte_changed(bytes: &mut Vec<u8>, generator: &mut Generator) {
+    change(bytes, generator, |_, generator| generator.below(256) as u8);
+}
+
+/// Changes one byte, as often in the first twelve as anywhere.
+fn change(bytes: &mut [u8], generator: &mut Generator, to: impl FnOnce(u8, &mut Generator) -> u8) {
+    let range = if generator.percent(50) {
+        bytes.len().min(12)
+    } else {
+        bytes.len()
+    };
+    if let Some(byte) = bytes.get_mut(generator.below(range)) {
+        *byte = to(*byte, generator);
+    }
+}
+
+fn byte_lost(bytes: &mut Vec<u8>, generator: &mut Generator) {
+    if !bytes.is_empty() {
+        bytes.remove(generator.below(bytes.len()));
+    }
+}
+
+fn byte_added(bytes: &mut Vec<u8>, generator: &mut Generator) {
+    let place = generator.below(bytes.len() + 1);
+    bytes.insert(place, generator.below(256) as u8);
+}
+
+/// Where the heads of the fields stand, as far as they can be told.
+fn heads(bytes: &[u8]) -> Vec<usize> {
+    let next = |&head: &usize| {
+        let length = u16::from_be_bytes([*bytes.get(head + 1)?, *bytes.get(head + 2)?]);
+        Some(head + 3 + usize::from(length)).filter(|&next| next < bytes.len())
+    };
+    let first = (!bytes.is_empty()).then_some(0);
+    std::iter::successors(first, next).collect()
+}
+
+fn tag_changed(bytes: &mut Vec<u8>, generator: &mut Generator) {
+    if let Some(head) = generator.pick(&heads(bytes)) {
+        let any = generator.below(256) as u8;
+        bytes[head] = generator.pick(&[0, 1, 2, 3, 4, any]).unwrap_or(any);
+    }
+}
+
+/// Adds a little to a length, or takes it away.
+fn length_changed(bytes: &mut Vec<u8>, generator: &mut Generator) {
+    let Some(head) = generator.pick(&heads(bytes)) else {
+        return;
+    };
+    if let Some([high, low]) = bytes.get_mut(head + 1..head + 3) {
+        let length = u16::from_be_bytes([*high, *low]);
+        let step = generator.pick(&[1, 2, 256, u16::MAX, u16::MAX - 1]);
+        [*high, *low] = length.wrapping_add(step.unwrap_or(1)).to_be_bytes();
+    }
+}
+
+/// The fields as they can be told, joined again after `change`.
+fn change_fields(bytes: &mut Vec<u8>, change: impl FnOnce(&mut Vec<(u8, &[u8])>)) {
+    let mut joined = Vec::new();
+    if let Some(mut fields) = split_fields(bytes) {
+        change(&mut fields);
+        for (tag, content) in fields {
+            push_field(&mut joined, tag, content);
+        }
+        *bytes = joined;
+    }
+}
+
+fn field_lost(bytes: &mut Vec<u8>, generator: &mut Generator) {
+    change_fields(bytes, |fields| {
+        if !fields.is_empty() {
+            fields.remove(generator.below(fields.len()));
+        }
+    });
+}
+
+fn field_twice(bytes: &mut Vec<u8>, generator: &mut Generator) {
+    change_fields(bytes, |fields| {
+        if let Some(field) = generator.pick(fields) {
+            fields.insert(generator.below(fields.len() + 1), field);
+        }
+    });
+}
+
+fn fields_swapped(bytes: &mut Vec<u8>, generator: &mut Generator) {
+    change_fields(bytes, |fields| generator.shuffle(fields));
+}
+
+/// A field of good channels so long that the record is one byte too long, or just not.
+fn oversized(bytes: &mut Vec<u8>, generator: &mut Generator) {
+    let over = generator.below(2);
+    change_fields(bytes, |fields| {
+        fields.retain(|&(tag, _)| tag != TAG_CHANNELS);
+    });
+    let vertices = bytes.get(3).copied().filter(|_| bytes[0] == TAG_VERTICES);
+    let vertex = generator.below(usize::from(vertices.unwrap_or(1))) as u8;
+    let mut left = (MAX_BYTES + over).saturating_sub(bytes.len() + 3);
+    let mut content = Vec::new();
+    while left >= 2 {
+        // A last byte alone would be no channel, so the one before leaves two.
+        let length = if left == 257 { 254 } else { left.min(256) - 1 };
+        content.push(length as u8);
+        content.extend(std::iter::repeat_n(vertex, length));
+        left -= length + 1;
+    }
+    if content.len() <= MAX_BYTES {
+        push_field(bytes, TAG_CHANNELS, &content);
+    }
+}

@@ -1,0 +1,258 @@
+//! Every lawful chart of a small graph, by trying all.
+//!
+//! A lawful chart has rows, parts, links and tracks, and what is asked of one of these says
+//! nothing of the others. So the least of each is found by trying all of its own choices. Nothing
+//! here uses the modules that draw; only [`LawfulChart::of`] looks at a finished chart.
+
+use crate::chart::Chart;
+use crate::record::{Edge, Record};
+use std::collections::{BTreeMap, BTreeSet};
+
+/// Which of the vertices 0 to n − 1 stands in a relation to which.
+#[derive(Clone, Debug, PartialEq, Eq, PartialOrd, Ord)]
+pub struct Relation {
+    size: usize,
+    holds: Vec<bool>,
+}
+
+impl Relation {
+    /// The relation that holds for the given pairs alone.
+    pub fn of(size: usize, pairs: impl IntoIterator<Item = (usize, usize)>) -> Relation {
+        let mut holds = vec![false; size * size];
+        for (u, v) in pairs {
+            holds[u * size + v] = true;
+        }
+        Relation { size, holds }
+    }
+
+    /// Whether it holds from `u` to `v`.
+    pub fn has(&self, u: usize, v: usize) -> bool {
+        self.holds[u * self.size + v]
+    }
+
+    /// The pairs that it holds for.
+    pub fn pairs(&self) -> impl Iterator<Item = (usize, usize)> + '_ {
+        let all = (0..self.size * self.size).filter(|&place| self.holds[place]);
+        all.map(|place| (place / self.size, place % self.size))
+    }
+
+    /// Descent: what one or more steps join. Two steps are put together until nothing is new.
+    pub fn closed(mut self) -> Relation {
+        loop {
+            let before = self.holds.clone();
+            for u in 0..self.size {
+                for w in (0..self.size).filter(|w| before[u * self.size + w]) {
+                    for v in 0..self.size {
+                        self.holds[u * self.size + v] |= before[w * self.size + v];
+                    }
+                }
+            }
+            if self.holds == before {
+                return self;
+            }
+        }
+    }
+
+    /// Whether something is related to itself.
+    pub fn has_loop(&self) -> bool {
+        (0..self.size).any(|v| self.has(v, v))
+    }
+}
+
+/// Descent in a graph.
+pub fn descent(record: &Record) -> Relation {
+    let pair = |edge: &Edge| (edge.tail, edge.head);
+    Relation::of(record.vertex_count, record.edges.iter().map(pair)).closed()
+}
+
+/// A bundle of a lawful chart; its part is known by number here.
+#[derive(Clone, Copy, Debug, PartialEq, Eq)]
+pub struct PartBundle {
+    /// The part that it belongs to.
+    pub part: usize,
+    /// The first row.
+    pub first_row: usize,
+    /// The last row.
+    pub last_row: usize,
+    /// The track.
+    pub track: usize,
+}
+
+impl PartBundle {
+    /// Whether both belong to one part and share a row.
+    fn meets(&self, other: &PartBundle) -> bool {
+        let rows = self.first_row.max(other.first_row)..=self.last_row.min(other.last_row);
+        self.part == other.part && !rows.is_empty()
+    }
+}
+
+/// A chart as the paper describes a lawful one.
+#[derive(Clone, Debug, PartialEq, Eq)]
+pub struct LawfulChart {
+    /// The row of each vertex.
+    pub rows: Vec<usize>,
+    /// The part of each vertex.
+    pub parts: Vec<usize>,
+    /// The links.
+    pub links: BTreeSet<(usize, usize)>,
+    /// The bundles.
+    pub bundles: Vec<PartBundle>,
+}
+
+impl LawfulChart {
+    /// What `chart`, drawn for `record`, is as a lawful chart; its links are the reduced edges.
+    pub fn of(record: &Record, chart: &Chart) -> LawfulChart {
+        let reduced = chart.edges.iter().filter(|entry| entry.reduced);
+        let pair = |number: usize| (record.edges[number].tail, record.edges[number].head);
+        let bundles = chart.bundles.iter().map(|bundle| PartBundle {
+            part: bundle.channel,
+            first_row: bundle.first_row,
+            last_row: bundle.last_row,
+            track: bundle.track,
+        });
+        LawfulChart {
+            rows: chart.vertices.iter().map(|entry| entry.row).collect(),
+            parts: chart.vertices.iter().map(|entry| entry.channel).collect(),
+            links: reduced.map(|entry| pair(entry.number)).collect(),
+            bundles: bundles.collect(),
+        }
+    }
+
+    /// Whether it is lawful for the graph.
+    pub fn is_lawful(&self, record: &Record) -> bool {
+        let descent = descent(record);
+        self.rows.len() == record.vertex_count
+            && self.parts.len() == record.vertex_count
+            && edges_rise(&record.edges, &self.rows)
+            && parts_are_chains(&descent, &self.parts)
+            && self.links_say(&descent)
+            && self.bundles.iter().all(|b| self.parts.contains(&b.part))
+            && tracks_keep_apart(&self.bundles)
+    }
+
+    /// The number of rows.
+    pub fn row_count(&self) -> usize {
+        self.rows.iter().max().map_or(0, |highest| highest + 1)
+    }
+
+    /// The number of parts.
+    pub fn part_count(&self) -> usize {
+        distinct(self.parts.iter().copied())
+    }
+
+    /// The bundles of one part.
+    pub fn bundles_of(&self, part: usize) -> Vec<PartBundle> {
+        let own = self.bundles.iter().filter(|bundle| bundle.part == part);
+        own.copied().collect()
+    }
+
+    /// The number of tracks used in one part.
+    pub fn track_count(&self, part: usize) -> usize {
+        distinct(self.bundles_of(part).iter().map(|bundle| bundle.track))
+    }
+
+    fn links_say(&self, descent: &Relation) -> bool {
+        let size = self.parts.len();
+        let known = |&(u, v): &(usize, usize)| u < size && v < size;
+        self.links.iter().all(known)
+            && Relation::of(size, self.links.iter().copied()).closed() == *descent
+    }
+}
+
+fn edges_rise(edges: &[Edge], rows: &[usize]) -> bool {
+    edges.iter().all(|edge| rows[edge.tail] < rows[edge.head])
+}
+
+/// Of two vertices of a part, one reaches the other.
+fn parts_are_chains(descent: &Relation, parts: &[usize]) -> bool {
+    let related = |u: usize, v: usize| descent.has(u, v) || descent.has(v, u);
+    (0..parts.len()).all(|v| (0..v).all(|u| parts[u] != parts[v] || related(u, v)))
+}
+
+fn tracks_keep_apart(bundles: &[PartBundle]) -> bool {
+    let apart =
+        |one: &PartBundle, other: &PartBundle| !one.meets(other) || one.track != other.track;
+    (0..bundles.len()).all(|i| (0..i).all(|j| apart(&bundles[i], &bundles[j])))
+}
+
+fn distinct(numbers: impl Iterator<Item = usize>) -> usize {
+    numbers.collect::<BTreeSet<_>>().len()
+}
+
+/// The fewest rows of any lawful chart. (One with more rows than vertices is not the least.)
+pub fn least_rows(record: &Record) -> Option<usize> {
+    choices(record.vertex_count, record.vertex_count)
+        .filter(|rows| edges_rise(&record.edges, rows))
+        .filter_map(|rows| rows.iter().max().map(|highest| highest + 1))
+        .min()
+}
+
+/// All divisions into parts of which any lawful chart could have one; some come more than once.
+pub fn lawful_parts(record: &Record) -> impl Iterator<Item = Vec<usize>> {
+    let descent = descent(record);
+    choices(record.vertex_count, record.vertex_count)
+        .filter(move |parts| parts_are_chains(&descent, parts))
+}
+
+/// The fewest parts of any lawful chart.
+pub fn least_parts(record: &Record) -> Option<usize> {
+    lawful_parts(record)
+        .map(|parts| distinct(parts.into_iter()))
+        .min()
+}
+
+/// For each descent over `size` vertices, the fewest links that have it; all sets are tried.
+pub fn least_links(size: usize) -> BTreeMap<Relation, usize> {
+    let mut least = BTreeMap::new();
+    for holds in choices(size * size, 2) {
+        let holds: Vec<bool> = holds.into_iter().map(|chosen| chosen == 1).collect();
+        let count = holds.iter().filter(|&&chosen| chosen).count();
+        let descent = Relation { size, holds }.closed();
+        let found = least.entry(descent).or_insert(count);
+        *found = count.min(*found);
+    }
+    least
+}
+
+/// The fewest tracks on which these bundles, all of one part, can stand.
+pub fn least_tracks(bundles: &[PartBundle]) -> Option<usize> {
+    choices(bundles.len(), bundles.len())
+        .filter(|tracks| {
+            let moved = bundles.iter().zip(tracks);
+            let moved: Vec<PartBundle> = moved
+                .map(|(&bundle, &track)| PartBundle { track, ..bundle })
+                .collect();
+            tracks_keep_apart(&moved)
+        })
+        .map(|tracks| distinct(tracks.into_iter()))
+        .min()
+}
+
+/// Every graph without a cycle over `size` vertices, edges by tail and then head.
+pub fn acyclic_graphs(size: usize) -> impl Iterator<Item = Record> {
+    let pairs: Vec<(usize, usize)> = (0..size)
+        .flat_map(|u| (0..size).map(move |v| (u, v)))
+        .filter(|(u, v)| u != v)
+        .collect();
+    choices(pairs.len(), 2).filter_map(move |chosen| {
+        let edges = pairs.iter().zip(chosen).filter(|&(_, chosen)| chosen == 1);
+        let record = Record {
+            vertex_count: size,
+            edges: edges.map(|(&(u, v), _)| Edge::new(u, v)).collect(),
+            channels: None,
+        };
+        (!descent(&record).has_loop()).then_some(record)
+    })
+}
+
+/// All lists of `length` numbers below `bound`, like an odometer.
+pub fn choices(length: usize, bound: usize) -> impl Iterator<Item = Vec<usize>> {
+    let first = (length == 0 || bound > 0).then(|| vec![0; length]);
+    std::iter::successors(first, move |list| {
+        let place = list.iter().rposition(|&number| number + 1 < bound)?;
+        let mut next = list.clone();
+        next[place] += 1;
+        next[place + 1..].fill(0);
+        Some(next)
+    })
+}

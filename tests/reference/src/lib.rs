@@ -1,0 +1,28 @@
+//! A reference reading of the descent chart paper ("document 01").
+//!
+//! Data goes one way: bytes, edges, reachability, channels, rows, marks, bundles, columns, kinds,
+//! chart, listing. Each module holds one of these and says, in its head, which of the paper's
+//! words it stands for.
+
+pub mod bundles;
+pub mod chart;
+pub mod checks;
+pub mod columns;
+pub mod damage;
+pub mod descent;
+pub mod geometry;
+pub mod hex;
+pub mod kinds;
+pub mod lawful;
+pub mod lines;
+pub mod listing;
+pub mod marks;
+pub mod random;
+pub mod record;
+pub mod refusal;
+pub mod rows;
+pub mod session;
+pub mod shrink;
+pub mod strokes;
+pub mod tracks;
+pub mod vectors;

@@ -1,0 +1,104 @@
+//! Channels, the paper's lines: lists of vertices in which each reaches the next.
+
+use crate::descent::Reachability;
+use crate::record::Record;
+
+/// Where a vertex stands among the channels.
+#[derive(Clone, Copy, Debug, Default, PartialEq, Eq)]
+pub struct Slot {
+    /// The number of the channel.
+    pub channel: usize,
+    /// The position in the channel, from 0.
+    pub position: usize,
+}
+
+/// All channels of a chart.
+#[derive(Clone, Debug, PartialEq, Eq)]
+pub struct Channels {
+    lists: Vec<Vec<usize>>,
+    slots: Vec<Slot>,
+}
+
+impl Channels {
+    /// The given channels of a checked record, or else planned ones.
+    pub fn of(record: &Record, reach: &Reachability) -> Channels {
+        let lists = match &record.channels {
+            Some(given) => given.clone(),
+            None => plan(reach),
+        };
+        let mut slots = vec![Slot::default(); record.vertex_count];
+        for (channel, list) in lists.iter().enumerate() {
+            for (position, &vertex) in list.iter().enumerate() {
+                slots[vertex] = Slot { channel, position };
+            }
+        }
+        Channels { lists, slots }
+    }
+
+    /// The channels in their order.
+    pub fn lists(&self) -> &[Vec<usize>] {
+        &self.lists
+    }
+
+    /// Where `vertex` stands.
+    pub fn slot(&self, vertex: usize) -> Slot {
+        self.slots[vertex]
+    }
+}
+
+/// Plans channels: each vertex, from 0 up, asks once for a successor.
+pub fn plan(reach: &Reachability) -> Vec<Vec<usize>> {
+    let mut planner = Planner {
+        reach,
+        predecessors: vec![None; reach.vertex_count()],
+    };
+    for vertex in 0..reach.vertex_count() {
+        planner.ask(vertex, &mut vec![false; reach.vertex_count()]);
+    }
+    planner.channels()
+}
+
+/// The state between two asks. The paper's holder of a word is its predecessor here.
+struct Planner<'a> {
+    reach: &'a Reachability,
+    predecessors: Vec<Option<usize>>,
+}
+
+impl Planner<'_> {
+    /// Looks for a successor of `asker` among the vertices not yet visited in this ask.
+    ///
+    /// A vertex with a predecessor is free if that one can be given another successor. Each call
+    /// visits at least one more vertex before the next, so the search ends.
+    fn ask(&mut self, asker: usize, visited: &mut [bool]) -> bool {
+        let reach = self.reach;
+        for vertex in reach.descendants(asker) {
+            if visited[vertex] {
+                continue;
+            }
+            visited[vertex] = true;
+            let free = match self.predecessors[vertex] {
+                None => true,
+                Some(holder) => self.ask(holder, visited),
+            };
+            if free {
+                self.predecessors[vertex] = Some(asker);
+                return true;
+            }
+        }
+        false
+    }
+
+    /// Channels begin at the vertices without a predecessor, ascending.
+    fn channels(&self) -> Vec<Vec<usize>> {
+        let mut successors = vec![None; self.predecessors.len()];
+        for (vertex, predecessor) in self.predecessors.iter().enumerate() {
+            if let Some(holder) = predecessor {
+                successors[*holder] = Some(vertex);
+            }
+        }
+        (0..self.predecessors.len())
+            .filter(|&vertex| self.predecessors[vertex].is_none())
+            .map(|first| std::iter::successors(Some(first), |&last| successors[last]).collect())
+            .collect()
+    }
+}

@@ -1,0 +1,160 @@
+//! The record: its bytes, and what stands in them.
+//!
+//! Vertices are the paper's words, edges its arrows, given channels its house lines.
+
+use crate::checks;
+use crate::refusal::Refusal;
+
+/// The largest number of vertices.
+pub const MAX_VERTICES: usize = 128;
+/// The largest number of edges.
+pub const MAX_EDGES: usize = 4096;
+/// The largest number of bytes of a record.
+pub const MAX_BYTES: usize = 65_535;
+
+/// The field that holds the number of vertices.
+pub const TAG_VERTICES: u8 = 1;
+/// The field that holds the edges.
+pub const TAG_EDGES: u8 = 2;
+/// The field that holds the given channels.
+pub const TAG_CHANNELS: u8 = 3;
+
+/// An edge from its tail to its head.
+#[derive(Clone, Copy, Debug, PartialEq, Eq, PartialOrd, Ord, Hash)]
+pub struct Edge {
+    /// The vertex at which the edge begins.
+    pub tail: usize,
+    /// The vertex at which the edge ends.
+    pub head: usize,
+}
+
+impl Edge {
+    /// The edge from `tail` to `head`.
+    pub fn new(tail: usize, head: usize) -> Edge {
+        Edge { tail, head }
+    }
+}
+
+/// What a record says. Only its layout is sure; [`Record::check`] tells the rest.
+#[derive(Clone, Debug, PartialEq, Eq)]
+pub struct Record {
+    /// The number of vertices.
+    pub vertex_count: usize,
+    /// The edges in their order; the place in this list is the edge's number.
+    pub edges: Vec<Edge>,
+    /// The given channels, where the record has that field.
+    pub channels: Option<Vec<Vec<usize>>>,
+}
+
+impl Record {
+    /// Takes the bytes apart: check 1.
+    pub fn parse(bytes: &[u8]) -> Result<Record, Refusal> {
+        parse_layout(bytes).ok_or(Refusal::Layout)
+    }
+
+    /// The checks 2 to 7: the first that fails.
+    pub fn check(&self) -> Result<(), Refusal> {
+        checks::first_failing(self).map_or(Ok(()), Err)
+    }
+
+    /// The checks 1 to 7.
+    pub fn read(bytes: &[u8]) -> Result<Record, Refusal> {
+        let record = Record::parse(bytes)?;
+        record.check()?;
+        Ok(record)
+    }
+
+    /// The bytes that say this record.
+    ///
+    /// Panics where a number or a length does not fit into its bytes; no parsed record does that.
+    pub fn to_bytes(&self) -> Vec<u8> {
+        let mut bytes = Vec::new();
+        push_field(&mut bytes, TAG_VERTICES, &[byte(self.vertex_count)]);
+        let ends = self.edges.iter().flat_map(|edge| [edge.tail, edge.head]);
+        push_field(&mut bytes, TAG_EDGES, &ends.map(byte).collect::<Vec<_>>());
+        if let Some(channels) = &self.channels {
+            let mut content = Vec::new();
+            for channel in channels {
+                content.push(byte(channel.len()));
+                content.extend(channel.iter().copied().map(byte));
+            }
+            push_field(&mut bytes, TAG_CHANNELS, &content);
+        }
+        bytes
+    }
+}
+
+/// The record in `bytes`, or nothing where the layout is not the paper's.
+fn parse_layout(bytes: &[u8]) -> Option<Record> {
+    if bytes.len() > MAX_BYTES {
+        return None;
+    }
+    let fields = split_fields(bytes)?;
+    let (size, edges, channels) = match fields.as_slice() {
+        [(TAG_VERTICES, size), (TAG_EDGES, edges)] => (size, edges, None),
+        [(TAG_VERTICES, size), (TAG_EDGES, edges), (TAG_CHANNELS, channels)] => {
+            (size, edges, Some(channels))
+        }
+        _ => return None,
+    };
+    let [vertex_count] = size else { return None };
+    Some(Record {
+        vertex_count: usize::from(*vertex_count),
+        edges: split_edges(edges)?,
+        channels: match channels {
+            Some(content) => Some(split_channels(content)?),
+            None => None,
+        },
+    })
+}
+
+/// Tags and contents of all fields; nothing where one runs past the end.
+pub(crate) fn split_fields(bytes: &[u8]) -> Option<Vec<(u8, &[u8])>> {
+    let mut fields = Vec::new();
+    let mut rest = bytes;
+    while !rest.is_empty() {
+        let (head, body) = rest.split_at_checked(3)?;
+        let length = u16::from_be_bytes([head[1], head[2]]);
+        let (content, after) = body.split_at_checked(usize::from(length))?;
+        fields.push((head[0], content));
+        rest = after;
+    }
+    Some(fields)
+}
+
+/// Pairs of bytes as edges; nothing where a byte is left over.
+fn split_edges(content: &[u8]) -> Option<Vec<Edge>> {
+    let pairs = content.chunks_exact(2);
+    if !pairs.remainder().is_empty() {
+        return None;
+    }
+    let edge = |pair: &[u8]| Edge::new(usize::from(pair[0]), usize::from(pair[1]));
+    Some(pairs.map(edge).collect())
+}
+
+/// The given channels; nothing where one is empty or runs past the field.
+fn split_channels(content: &[u8]) -> Option<Vec<Vec<usize>>> {
+    let mut channels = Vec::new();
+    let mut rest = content;
+    while let Some((&length, body)) = rest.split_first() {
+        if length == 0 {
+            return None;
+        }
+        let (channel, after) = body.split_at_checked(usize::from(length))?;
+        channels.push(channel.iter().copied().map(usize::from).collect());
+        rest = after;
+    }
+    Some(channels)
+}
+
+/// Adds a field: its tag, its length with the high byte first, its content.
+pub(crate) fn push_field(bytes: &mut Vec<u8>, tag: u8, content: &[u8]) {
+    let length = u16::try_from(content.len()).expect("a field's length has two bytes");
+    bytes.push(tag);
+    bytes.extend(length.to_be_bytes());
+    bytes.extend(content);
+}
+
+fn byte(number: usize) -> u8 {
+    u8::try_from(number).expect("the number has one byte")
+}

@@ -1,0 +1,57 @@
+//! Why something is sent back: the paper's ten refusals.
+
+use std::fmt;
+
+/// A refusal. The order of the cases is the order of the paper's table.
+#[derive(Clone, Copy, Debug, PartialEq, Eq, PartialOrd, Ord, Hash)]
+pub enum Refusal {
+    /// 1, "layout": fields, lengths or order are not as the paper says.
+    Layout = 1,
+    /// 2, "size": no vertex, too many vertices or too many edges.
+    Size,
+    /// 3, "stranger": an edge or a channel names a vertex that is not there.
+    UnknownVertex,
+    /// 4, "double": an edge stands twice.
+    DuplicateEdge,
+    /// 5, "ring": a vertex reaches itself.
+    Cycle,
+    /// 6, "cover": the given channels lack or repeat a vertex.
+    Cover,
+    /// 7, "broken": a vertex of a given channel is not reached by the one before.
+    Broken,
+    /// 8, "short": a lent list has too few entries.
+    Short,
+    /// 9, "full": the session has all the edges it can hold.
+    Full,
+    /// 10, "off page": a place lies beyond the page.
+    OffPage,
+}
+
+impl Refusal {
+    /// The number that the paper gives.
+    pub fn number(self) -> u8 {
+        self as u8
+    }
+
+    /// The word that the paper gives.
+    pub fn word(self) -> &'static str {
+        match self {
+            Refusal::Layout => "layout",
+            Refusal::Size => "size",
+            Refusal::UnknownVertex => "stranger",
+            Refusal::DuplicateEdge => "double",
+            Refusal::Cycle => "ring",
+            Refusal::Cover => "cover",
+            Refusal::Broken => "broken",
+            Refusal::Short => "short",
+            Refusal::Full => "full",
+            Refusal::OffPage => "off page",
+        }
+    }
+}
+
+impl fmt::Display for Refusal {
+    fn fmt(&self, out: &mut fmt::Formatter<'_>) -> fmt::Result {
+        write!(out, "refused {}", self.number())
+    }
+}

@@ -1,0 +1,126 @@
+//! A session: a graph that grows edge by edge. It goes in and comes back by value.
+
+use crate::record::{MAX_EDGES, MAX_VERTICES};
+use crate::refusal::Refusal;
+use std::collections::BTreeSet;
+
+/// A number of vertices and a set of edges without a cycle.
+#[derive(Clone, Debug, Default, PartialEq, Eq)]
+pub struct Session {
+    vertex_count: usize,
+    edges: BTreeSet<(usize, usize)>,
+}
+
+/// A call on a session that has been started.
+#[derive(Clone, Copy, Debug, PartialEq, Eq)]
+pub enum Call {
+    /// Adds the edge from the first to the second vertex.
+    Add(usize, usize),
+    /// Asks whether the first vertex reaches the second.
+    Leads(usize, usize),
+}
+
+/// What a call answers.
+#[derive(Clone, Copy, Debug, PartialEq, Eq)]
+pub enum Answer {
+    /// The edge was added.
+    Added,
+    /// Whether the first vertex reaches the second.
+    Leads(bool),
+    /// The call was refused, and the session is as it was.
+    Refused(Refusal),
+}
+
+impl Session {
+    /// A session with `vertex_count` vertices and no edges; refused, one with no vertices.
+    pub fn start(vertex_count: usize) -> (Session, Option<Refusal>) {
+        if !(1..=MAX_VERTICES).contains(&vertex_count) {
+            return (Session::default(), Some(Refusal::Size));
+        }
+        let edges = BTreeSet::new();
+        let session = Session {
+            vertex_count,
+            edges,
+        };
+        (session, None)
+    }
+
+    /// Adds the edge from `u` to `v`, or comes back as it was.
+    pub fn add(mut self, u: usize, v: usize) -> (Session, Option<Refusal>) {
+        let refusal = self.refusal_of(u, v);
+        if refusal.is_none() {
+            self.edges.insert((u, v));
+        }
+        (self, refusal)
+    }
+
+    /// Whether `u` reaches `v`; refused where one of them is unknown.
+    pub fn leads(self, u: usize, v: usize) -> (Session, Result<bool, Refusal>) {
+        let answer = if self.knows(u, v) {
+            Ok(self.reaches(u, v))
+        } else {
+            Err(Refusal::UnknownVertex)
+        };
+        (self, answer)
+    }
+
+    /// Makes one call.
+    pub fn call(self, call: Call) -> (Session, Answer) {
+        match call {
+            Call::Add(u, v) => {
+                let (session, refusal) = self.add(u, v);
+                (session, refusal.map_or(Answer::Added, Answer::Refused))
+            }
+            Call::Leads(u, v) => {
+                let (session, answer) = self.leads(u, v);
+                (session, answer.map_or_else(Answer::Refused, Answer::Leads))
+            }
+        }
+    }
+
+    /// The number of vertices, 0 after a refused start.
+    pub fn vertex_count(&self) -> usize {
+        self.vertex_count
+    }
+
+    /// The edges.
+    pub fn edges(&self) -> &BTreeSet<(usize, usize)> {
+        &self.edges
+    }
+
+    /// Why the edge from `u` to `v` cannot be added: 3, 4, 5, 9, the first that applies.
+    fn refusal_of(&self, u: usize, v: usize) -> Option<Refusal> {
+        if !self.knows(u, v) {
+            Some(Refusal::UnknownVertex)
+        } else if self.edges.contains(&(u, v)) {
+            Some(Refusal::DuplicateEdge)
+        } else if u == v || self.reaches(v, u) {
+            Some(Refusal::Cycle)
+        } else if self.edges.len() == MAX_EDGES {
+            Some(Refusal::Full)
+        } else {
+            None
+        }
+    }
+
+    fn knows(&self, u: usize, v: usize) -> bool {
+        u < self.vertex_count && v < self.vertex_count
+    }
+
+    /// Searches the set of edges from `u` until `v` is met.
+    fn reaches(&self, u: usize, v: usize) -> bool {
+        let mut met = BTreeSet::new();
+        let mut open = vec![u];
+        while let Some(tail) = open.pop() {
+            for &(_, head) in self.edges.range((tail, 0)..=(tail, usize::MAX)) {
+                if head == v {
+                    return true;
+                }
+                if met.insert(head) {
+                    open.push(head);
+                }
+            }
+        }
+        false
+    }
+}

@@ -1,0 +1,46 @@
+//! Files of vectors: a name, a record in hexadecimal, its listing, a blank line.
+
+use crate::hex::{from_hex, to_hex};
+use crate::listing::listing;
+
+/// A record with the listing that it must have.
+#[derive(Clone, Debug, PartialEq, Eq)]
+pub struct Vector {
+    /// The name.
+    pub name: String,
+    /// The record.
+    pub bytes: Vec<u8>,
+    /// The listing, each line ended.
+    pub listing: String,
+}
+
+/// Reads a file of vectors. A block of comments alone is passed over.
+pub fn parse(text: &str) -> Result<Vec<Vector>, String> {
+    text.split("\n\n")
+        .map(|block| block.trim_matches('\n'))
+        .filter(|block| block.lines().any(|line| !line.starts_with('#')))
+        .map(parse_block)
+        .collect()
+}
+
+fn parse_block(block: &str) -> Result<Vector, String> {
+    let mut lines = block.lines();
+    let name = lines.next().and_then(|line| line.strip_prefix("# "));
+    let name = name.ok_or_else(|| format!("no name: {block}"))?;
+    let bytes = lines.next().and_then(from_hex);
+    let bytes = bytes.ok_or_else(|| format!("no record: {name}"))?;
+    let listing: String = lines.flat_map(|line| [line, "\n"]).collect();
+    if listing.is_empty() {
+        return Err(format!("no listing: {name}"));
+    }
+    Ok(Vector {
+        name: name.to_string(),
+        bytes,
+        listing,
+    })
+}
+
+/// A record as a block of such a file, with the listing that this reading gives.
+pub fn block(name: &str, bytes: &[u8]) -> String {
+    format!("# {name}\n{}\n{}", to_hex(bytes), listing(bytes))
+}

@@ -1,0 +1,199 @@
+//! Demand 3 on all small graphs: no lawful chart is smaller than the one drawn.
+
+use crate::support::{draw, graph, with_channels};
+use reference::bundles::Bundle;
+use reference::chart::Chart;
+use reference::lawful::{
+    acyclic_graphs, choices, descent, lawful_parts, least_links, least_parts, least_rows,
+    least_tracks, LawfulChart, PartBundle, Relation,
+};
+use reference::record::Record;
+use reference::tracks;
+use std::collections::BTreeMap;
+
+const SIZES: std::ops::RangeInclusive<usize> = 1..=4;
+
+/// The chart drawn is lawful, and each of its counts is the number handed over.
+fn assert_lawful(record: &Record, chart: &Chart) -> LawfulChart {
+    let ours = LawfulChart::of(record, chart);
+    assert!(ours.is_lawful(record), "{record:?}");
+    let counts = &chart.counts;
+    assert_eq!(ours.row_count(), counts.rows, "{record:?}");
+    assert_eq!(ours.part_count(), counts.channels, "{record:?}");
+    assert_eq!(ours.links.len(), counts.reduced_edges, "{record:?}");
+    assert_eq!(ours.bundles.len(), counts.bundles, "{record:?}");
+    for part in 0..counts.tracks.len() {
+        assert_eq!(ours.track_count(part), counts.tracks[part], "{record:?}");
+    }
+    ours
+}
+
+/// No lawful chart has fewer rows, fewer links or, with the same bundles, fewer tracks.
+fn assert_least(record: &Record, chart: &Chart, links: &BTreeMap<Relation, usize>) {
+    let ours = assert_lawful(record, chart);
+    assert_eq!(Some(ours.row_count()), least_rows(record), "{record:?}");
+    let least = links.get(&descent(record)).copied();
+    assert_eq!(Some(ours.links.len()), least, "{record:?}");
+    for part in 0..chart.counts.channels {
+        let least = least_tracks(&ours.bundles_of(part));
+        assert_eq!(Some(ours.track_count(part)), least, "{record:?}");
+    }
+}
+
+#[test]
+fn all_graphs_are_tried() {
+    let counts: Vec<usize> = SIZES.map(|size| acyclic_graphs(size).count()).collect();
+    assert_eq!(counts, [1, 3, 25, 543]);
+}
+
+#[test]
+fn no_lawful_chart_is_smaller() {
+    for size in SIZES {
+        let links = least_links(size);
+        for record in acyclic_graphs(size) {
+            let chart = draw(&record);
+            assert_least(&record, &chart, &links);
+            let least = least_parts(&record);
+            assert_eq!(Some(chart.counts.channels), least, "{record:?}");
+        }
+    }
+}
+
+#[test]
+fn nor_where_an_editor_gave_the_lines() {
+    let mut tried = 0;
+    for size in SIZES {
+        let links = least_links(size);
+        for record in acyclic_graphs(size) {
+            for parts in lawful_parts(&record) {
+                let given = as_channels(&record, &parts);
+                assert_least(&given, &draw(&given), &links);
+                tried += 1;
+            }
+        }
+    }
+    assert!(tried > 10_000, "{tried}");
+}
+
+/// The parts as channels, each in the order of descent, without the empty ones.
+fn as_channels(record: &Record, parts: &[usize]) -> Record {
+    let descent = descent(record);
+    let descendants = |u: usize| (0..parts.len()).filter(|&v| descent.has(u, v)).count();
+    let channel = |part: usize| {
+        let mut vertices: Vec<usize> = (0..parts.len()).filter(|&v| parts[v] == part).collect();
+        vertices.sort_by_key(|&vertex| std::cmp::Reverse(descendants(vertex)));
+        vertices
+    };
+    let channels = (0..parts.len()).map(channel);
+    Record {
+        channels: Some(channels.filter(|channel| !channel.is_empty()).collect()),
+        ..record.clone()
+    }
+}
+
+#[test]
+fn tracks_are_fewest_for_any_bundles() {
+    let intervals: Vec<(usize, usize)> = (0..4)
+        .flat_map(|first| (first..4).map(move |last| (first, last)))
+        .collect();
+    let mut spread = [0; 5];
+    for chosen in choices(4, intervals.len()) {
+        let bundle = |&number: &usize| Bundle {
+            first_row: intervals[number].0,
+            last_row: intervals[number].1,
+            ..Bundle::default()
+        };
+        let mut bundles: Vec<Bundle> = chosen.iter().map(bundle).collect();
+        let count = tracks::assign(&mut bundles);
+        let placed: Vec<PartBundle> = bundles.iter().map(part_bundle).collect();
+        assert_eq!(Some(count), least_tracks(&placed), "{bundles:?}");
+        let free = LawfulChart {
+            bundles: placed,
+            ..LawfulChart::of(&graph(1, &[]), &draw(&graph(1, &[])))
+        };
+        assert!(free.is_lawful(&graph(1, &[])), "{bundles:?}");
+        assert_eq!(free.track_count(0), count);
+        spread[count] += 1;
+    }
+    assert!(spread[1..].iter().all(|&met| met > 0), "{spread:?}");
+}
+
+fn part_bundle(bundle: &Bundle) -> PartBundle {
+    PartBundle {
+        part: bundle.channel,
+        first_row: bundle.first_row,
+        last_row: bundle.last_row,
+        track: bundle.track,
+    }
+}
+
+/// The complete graph of four vertices, drawn: one channel, two bundles.
+fn complete() -> (Record, LawfulChart) {
+    let record = graph(4, &[(0, 1), (0, 2), (0, 3), (1, 2), (1, 3), (2, 3)]);
+    let chart = LawfulChart::of(&record, &draw(&record));
+    (record, chart)
+}
+
+#[test]
+fn unlawful_charts_are_told_apart() {
+    let (record, ours) = complete();
+    assert!(ours.is_lawful(&record));
+    let mut level = ours.clone();
+    level.rows[3] = level.rows[2];
+    let mut less = ours.clone();
+    less.links.remove(&(1, 2));
+    let mut more = ours.clone();
+    more.links.insert((3, 0));
+    let mut beyond = ours.clone();
+    beyond.links.insert((3, 4));
+    let mut crowded = ours.clone();
+    crowded.bundles[1].track = crowded.bundles[0].track;
+    let mut lost = ours.clone();
+    lost.bundles[1].part = 7;
+    for chart in [level, less, more, beyond, crowded, lost] {
+        assert!(!chart.is_lawful(&record), "{chart:?}");
+    }
+    let apart = graph(2, &[]);
+    let together = LawfulChart {
+        parts: vec![0, 0],
+        ..LawfulChart::of(&apart, &draw(&apart))
+    };
+    assert!(!together.is_lawful(&apart));
+}
+
+#[test]
+fn larger_lawful_charts_are_lawful_and_larger() {
+    let (record, ours) = complete();
+    let mut tall = ours.clone();
+    tall.rows[3] += 1;
+    let mut broad = ours.clone();
+    broad.parts[2] = 5;
+    let mut linked = ours.clone();
+    linked.links.insert((0, 3));
+    let mut spread = ours.clone();
+    spread.bundles.push(spread.bundles[0]);
+    spread.bundles[2].track = 9;
+    for chart in [&tall, &broad, &linked, &spread] {
+        assert!(chart.is_lawful(&record), "{chart:?}");
+    }
+    assert!(tall.row_count() > ours.row_count());
+    assert!(broad.part_count() > ours.part_count());
+    assert!(linked.links.len() > ours.links.len());
+    assert!(spread.track_count(0) > ours.track_count(0));
+}
+
+#[test]
+fn an_editor_s_lines_may_be_more_than_the_fewest() {
+    let record = with_channels(2, &[(0, 1)], &[&[0], &[1]]);
+    assert_eq!(draw(&record).counts.channels, 2);
+    assert_eq!(least_parts(&record), Some(1));
+}
+
+#[test]
+fn choices_are_all_lists() {
+    assert_eq!(choices(3, 4).count(), 64);
+    assert_eq!(choices(0, 0).collect::<Vec<_>>(), [Vec::<usize>::new()]);
+    assert_eq!(choices(2, 0).count(), 0);
+    let pairs = [[0, 0], [0, 1], [1, 0], [1, 1]];
+    assert_eq!(choices(2, 2).collect::<Vec<_>>(), pairs);
+}

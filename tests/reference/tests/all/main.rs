@@ -1,0 +1,17 @@
+//! All tests of the reference, in one program.
+
+mod chart;
+mod damage;
+mod edges;
+mod geometry;
+mod lawful;
+mod misreadings;
+mod programs;
+mod proof_table;
+mod random;
+mod rules;
+mod sessions;
+mod shrink;
+mod strokes;
+mod support;
+mod vectors;

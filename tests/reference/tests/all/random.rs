@@ -1,0 +1,125 @@
+//! The generator: the same for the same seed, and wide enough.
+
+use reference::chart::Chart;
+use reference::kinds::Kind;
+use reference::random::{graph, record, sound_record, Generator, Shape, SHAPES};
+use reference::record::{Record, MAX_BYTES, MAX_EDGES, MAX_VERTICES};
+use std::collections::{BTreeMap, BTreeSet};
+
+fn records(seed: u64, count: usize) -> Vec<Vec<u8>> {
+    let mut generator = Generator::new(seed);
+    (0..count).map(|_| record(&mut generator)).collect()
+}
+
+#[test]
+fn one_seed_gives_the_same_records() {
+    assert_eq!(records(7, 200), records(7, 200));
+    assert_ne!(records(7, 200), records(8, 200));
+}
+
+#[test]
+fn seed_0_is_good_too() {
+    let distinct: BTreeSet<Vec<u8>> = records(0, 200).into_iter().collect();
+    assert!(distinct.len() > 150);
+}
+
+#[test]
+fn numbers_stay_below_their_bound_and_reach_it() {
+    let mut generator = Generator::new(3);
+    let met: BTreeSet<usize> = (0..1000).map(|_| generator.below(7)).collect();
+    assert!(met.into_iter().eq(0..7));
+    let met: BTreeSet<usize> = (0..1000).map(|_| generator.between(5, 9)).collect();
+    assert!(met.into_iter().eq(5..=9));
+    assert_eq!(generator.below(0), 0);
+    assert_eq!(generator.pick::<u8>(&[]), None);
+    assert!((0..100).all(|_| !generator.percent(0) && generator.percent(100)));
+}
+
+#[test]
+fn sound_records_pass_all_checks() {
+    let mut generator = Generator::new(4);
+    let mut given = 0;
+    for _ in 0..2000 {
+        let record = sound_record(&mut generator);
+        assert_eq!(Record::read(&record.to_bytes()).as_ref(), Ok(&record));
+        given += usize::from(record.channels.is_some());
+    }
+    assert!((500..900).contains(&given), "{given}");
+}
+
+#[test]
+fn every_refusal_and_every_size_is_met() {
+    let mut answers: BTreeMap<u8, usize> = BTreeMap::new();
+    let mut lengths = BTreeSet::new();
+    let mut sizes = BTreeSet::new();
+    for bytes in records(5, 6000) {
+        let chart = Chart::read(&bytes);
+        sizes.extend(chart.as_ref().map(|chart| chart.vertices.len()));
+        let number = chart.err().map_or(0, |refusal| refusal.number());
+        *answers.entry(number).or_default() += 1;
+        lengths.insert(bytes.len());
+    }
+    assert!(answers.keys().copied().eq(0..=7), "{answers:?}");
+    assert!(answers.values().all(|&count| count >= 60), "{answers:?}");
+    assert!(lengths.contains(&MAX_BYTES) && lengths.contains(&(MAX_BYTES + 1)));
+    assert!(sizes.len() > 100 && sizes.last() == Some(&MAX_VERTICES));
+}
+
+#[test]
+fn every_kind_and_mark_is_met_often() {
+    let mut met: BTreeMap<(u8, bool), usize> = BTreeMap::new();
+    for bytes in records(6, 1500) {
+        for edge in Chart::read(&bytes).map_or(Vec::new(), |chart| chart.edges) {
+            let kind = match edge.kind {
+                Kind::Path => 0,
+                Kind::PathTransitive { .. } => 1,
+                Kind::Straight => 2,
+                Kind::Bent { .. } => 3,
+            };
+            *met.entry((kind, edge.reduced)).or_default() += 1;
+        }
+    }
+    // A side arrow is always implied, so (1, true) is never met.
+    let kinds = [
+        (0, false),
+        (0, true),
+        (1, false),
+        (2, false),
+        (2, true),
+        (3, false),
+        (3, true),
+    ];
+    assert!(met.keys().copied().eq(kinds), "{met:?}");
+    assert!(met.values().all(|&count| count > 100), "{met:?}");
+}
+
+#[test]
+fn shapes_are_what_they_are_called() {
+    let mut generator = Generator::new(9);
+    for shape in SHAPES {
+        for size in [1, 2, 20, 128] {
+            let record = graph(&mut generator, shape, size);
+            let (n, m) = (record.vertex_count, record.edges.len());
+            assert_eq!(record.check(), Ok(()));
+            let right = match shape {
+                Shape::Empty => n == size && m == 0,
+                Shape::Chain => n == size && m >= n - 1,
+                Shape::Forest => n == size && m < n,
+                Shape::Full => n == MAX_VERTICES && m == MAX_EDGES,
+                Shape::Dense if size > 2 => n == size && m > n,
+                _ => n == size,
+            };
+            assert!(right, "{shape:?} {n} {m}");
+        }
+    }
+}
+
+#[test]
+fn limits_are_met_on_both_sides() {
+    let all = records(10, 6000);
+    let parsed: Vec<Record> = all.iter().flat_map(|bytes| Record::parse(bytes)).collect();
+    let edges: BTreeSet<usize> = parsed.iter().map(|record| record.edges.len()).collect();
+    let vertices: BTreeSet<usize> = parsed.iter().map(|record| record.vertex_count).collect();
+    assert!(edges.contains(&0) && edges.contains(&4096) && edges.contains(&4097));
+    assert!([0, 1, 128, 129].iter().all(|size| vertices.contains(size)));
+}
