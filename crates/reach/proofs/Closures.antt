@@ -1,5 +1,5 @@
 -- What the bits of a graph's table say: the tests, the counts and the cycles by them. Assumes nothing.
-use mathlib.Core.Path.{_≡_, ap, _∙_}
+use mathlib.Core.Path.{_≡_, sym, ap, ap₂, _∙_}
 use mathlib.Core.Logic.{⊎-elim, _↔_}
 use mathlib.Core.Bool.{false}
 use mathlib.Core.List.{List}
@@ -17,7 +17,7 @@ use Rattle.masks.specs.Sets.{at}
 use Rattle.masks.proofs.Tables.{at-lt, at-zeros}
 use Rattle.reach.specs.Graph.{Reaches, Longer, edgeCount, Edge}
 use Rattle.reach.specs.Refusal.{refusal}
-use Rattle.reach.specs.Closure.{Reachable, reachable?, Composed}
+use Rattle.reach.specs.Closure.{Adjacent, Reachable, reachable?, Composed}
 use Rattle.reach.specs.Steps.{Marked, Closing}
 use Rattle.reach.proofs.Routes.{longer-between, ends-below}
 use Rattle.reach.proofs.Warshall.{complete}
@@ -29,6 +29,15 @@ use Rattle.reach.proofs.Refusing.{accepted-within}
 -- the table's bits are the graph's reachability
 abbrev pub Bits : ℕ → List ℕ → List ℕ → List ℕ → Type 0
 Bits n tails heads t = (u v : ℕ) → u < 128 → v < 128 → at 2 t u v ≡ 1 ↔ Reachable n tails heads u v
+
+-- the table of the edges of an accepted graph
+pub marked-bits : (n : ℕ) (tails heads t : List ℕ) → refusal n tails heads ≡ 0 → Marked 2 tails heads (edgeCount tails heads) t
+    → (u v : ℕ) → v < 128 → at 2 t u v ≡ 1 ↔ Adjacent n tails heads u v
+unfolding Edge
+marked-bits n tails heads t accepted m u v hv = (
+  (λ e. (accepted, m .only u v hv e)),
+  λ a. ap₂ (at 2 t) (sym (a .1 .2)) (sym (a .1 .3)) ∙ m .all (a .1 .0) (a .1 .1),
+)
 
 -- the closed table of an accepted graph
 pub closed-bits : (n : ℕ) (tails heads t s : List ℕ) → refusal n tails heads ≡ 0 → Marked 2 tails heads (edgeCount tails heads) t → Closing 2 t n n s → Bits n tails heads s

@@ -16,13 +16,20 @@ use Rattle.reach.specs.declared.Reachability.{Reachability}
 abbrev pub Reachable : ℕ → List ℕ → List ℕ → ℕ → ℕ → Type 0
 Reachable n tails heads u v = (refusal n tails heads ≡ 0) × Reaches (Edge tails heads) u v
 
--- the same, computed
+-- there is an edge from u to v in a graph that is not refused
+abbrev pub Adjacent : ℕ → List ℕ → List ℕ → ℕ → ℕ → Type 0
+Adjacent n tails heads u v = (refusal n tails heads ≡ 0) × Edge tails heads u v
+
+-- reachability, computed
 unfoldable pub reachable? : ℕ → List ℕ → List ℕ → ℕ → ℕ → Bool
 reachable? n tails heads u v = eqb (refusal n tails heads) 0 && reaches? (edge? tails heads) n u v
 
--- r is the graph's reachability: document 01's 'descent table', two masks a vertex, with the number of descendants of each vertex
+-- r is the graph's reachability: a table of its edges, document 01's 'descent table', each two masks a vertex, and the number of
+-- descendants of each vertex
 pub record Closure (n : ℕ) (tails heads : List ℕ) (r : Reachability) : Type 0 where
   pub answer : r .refusal ≡ refusal n tails heads
+  pub edge-masks : length (r .edges) ≡ 256
+  pub edge-bits : (u v : ℕ) → u < 128 → v < 128 → at 2 (r .edges) u v ≡ 1 ↔ Adjacent n tails heads u v
   pub masks : length (r .table) ≡ 256
   pub bits : (u v : ℕ) → u < 128 → v < 128 → at 2 (r .table) u v ≡ 1 ↔ Reachable n tails heads u v
   pub vertices : length (r .counts) ≡ 128

@@ -19,8 +19,10 @@ const MOST_EDGES: usize = 4096;
 // The masks of a vertex.
 const WIDTH: u32 = 2;
 
+// The edges' own bits, and the table of what reaches what.
 pub struct Reachability {
     pub refusal: u8,
+    pub edges: [u64; 256],
     pub table: [u64; 256],
     pub counts: [u8; 128],
     pub cyclic: bool,
@@ -147,17 +149,20 @@ pub fn transitive_closure<'a>(n: usize, tails: &'a [u8], heads: &'a [u8]) -> Rea
     if refusal != 0 {
         return Reachability {
             refusal,
+            edges: [0; 256],
             table: [0; 256],
             counts: [0; 128],
             cyclic: false,
         };
     }
-    let mut table = marked(m, tails, heads);
+    let edges = marked(m, tails, heads);
+    let mut table = edges;
     close(&mut table, n);
     let counts = counts_of(&table);
     let cyclic = is_cyclic(&table);
     Reachability {
         refusal: 0,
+        edges,
         table,
         counts,
         cyclic,

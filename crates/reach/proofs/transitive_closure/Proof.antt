@@ -2,10 +2,11 @@ use mathlib.Core.Path.{_≡_, refl, sym, _∙_, subst}
 use Prim.Native.Nat.{ℕ}
 use native.Mathlib.Omega.{arith}
 use lib.ListN.{getD-replicate}
+use Rattle.masks.proofs.Tables.{at-zeros}
 use Rattle.reach.specs.Refusal.{refusal}
 use Rattle.reach.specs.Steps.{Within, Marked}
 use Rattle.reach.proofs.Refusing.{accepted-within, within-more}
-use Rattle.reach.proofs.Closures.{closed-bits, refused-bits, same-count, same-cycles, none-counted, none-cyclic}
+use Rattle.reach.proofs.Closures.{marked-bits, closed-bits, refused-bits, same-count, same-cycles, none-counted, none-cyclic}
 use borrow.Author.Needs.{needs}
 use Rattle.reach.proofs.transitive_closure.Statement.{statement}
 use Rattle.reach.proofs.transitive_closure.Tie as tie
@@ -23,6 +24,8 @@ returns c =
     let refused : refusal (a .n) (a .tails .now) (a .heads .now) ≡ 0 → ⊥ = λ e. c .if1 .taken (same ∙ e) in
     record {
       answer = same;
+      edge-masks = refl;
+      edge-bits = λ u v hu hv. ((λ e. absurd (let z = at-zeros 2 256 u v in omega arith)), λ a. absurd (refused (a .0)));
       masks = refl;
       bits = refused-bits (a .n) (a .tails .now) (a .heads .now) refused;
       vertices = refl;
@@ -73,6 +76,8 @@ returns-2 c =
     let counts = c .before .before .counts-of .ensures in
     record {
       answer = sym accepted;
+      edge-masks = marked .ensures .0;
+      edge-bits = λ u v hu hv. marked-bits n tails heads (marked .result) accepted edges u v hv;
       masks = close .kept .0 ∙ marked .ensures .0;
       bits = bits;
       vertices = counts .0;
