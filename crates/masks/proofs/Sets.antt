@@ -2,7 +2,7 @@
 use mathlib.Core.Path.{_≡_, refl, sym, ap, ap₂, _∙_}
 use mathlib.Core.Logic.{_≢_, ⊎-elim}
 use mathlib.Core.List.{List}
-use Prim.Native.Nat.{ℕ, zero, suc, _+_, _-_, _*_, _/_, _%_, _^_, _≤_, _<_}
+use Prim.Native.Nat.{ℕ, zero, suc, _+_, _-_, _*_, _/_, _%_, _^_, _≤_, _<_, max}
 use native.Mathlib.Nat.{lt-of-le-of-lt, not-suc-le-zero}
 use native.Mathlib.Omega.{arith}
 use borrow.Author.Count.{below-more}
@@ -16,7 +16,7 @@ use Rattle.counting.proofs.Truth.{lt-or-le}
 use Rattle.counting.proofs.Sums.{sum-ext, sum-split}
 use Rattle.masks.specs.Bits.{bit}
 use Rattle.masks.specs.Sets.{maskOf, member, United, Next}
-use Rattle.masks.proofs.Bits.{bit-lt, bit-shr, bit-of-zero, bit-high, trailing-below, trailing-at, trailing-lt, ones-sum}
+use Rattle.masks.proofs.Bits.{bit-lt, bit-shr, bit-of-zero, bit-high, bit-or, trailing-below, trailing-at, trailing-lt, ones-sum}
 
 pub member-lt : (s : List ℕ) (first v : ℕ) → member s first v < 2
 unfolding member
@@ -107,6 +107,14 @@ united-more s first other j r hl o =
       below = λ i l. getD-set-other r (first + j) i x 0 (λ e. omega arith) ∙ o .below i l;
       above = λ i l. getD-set-other r (first + j) i x 0 (λ e. omega arith) ∙ o .above i (omega arith);
     }
+
+-- of w masks: a member of either set
+pub united-member : (w : ℕ) (s : List ℕ) (first : ℕ) (o r : List ℕ) → United s first o w r → (v : ℕ) → v < w * 64 → member r first v ≡ max (member s first v) (member o 0 v)
+unfolding member
+united-member w s first o r a v h =
+    ap (λ (x : ℕ). bit x (v % 64)) (a .done (v / 64) (omega arith))
+    ∙ bit-or (getD s (first + v / 64) 0) (getD o (v / 64) 0) (v % 64)
+    ∙ ap (λ (i : ℕ). max (bit (getD s (first + v / 64) 0) (v % 64)) (bit (getD o i 0) (v % 64))) (let e : v / 64 ≡ 0 + v / 64 = omega arith in e)
 
 -- the next member is not before where the search began
 pub next-from : (s : List ℕ) (first top from r : ℕ) → Next s first top from r → from ≤ top → from ≤ r

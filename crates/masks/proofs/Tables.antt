@@ -1,8 +1,8 @@
 -- Laws of a table that has a set of w masks for each vertex, for any w. Assumes nothing.
 use mathlib.Core.Path.{_≡_, refl, sym, ap, _∙_, subst}
 use mathlib.Core.Logic.{_≢_, ⊎-elim}
-use mathlib.Core.List.{List}
-use Prim.Native.Nat.{ℕ, _+_, _-_, _*_, _/_, _%_, _^_, _≤_, _<_, max}
+use mathlib.Core.List.{List, [], _∷_}
+use Prim.Native.Nat.{ℕ, zero, suc, _+_, _-_, _*_, _/_, _%_, _^_, _≤_, _<_, max}
 use native.Mathlib.Nat.{mul-comm, mul-le-mul-left}
 use native.Mathlib.Decide.{ℕ-discrete, decLt}
 use native.Mathlib.Omega.{arith}
@@ -14,8 +14,8 @@ use Rattle.counting.proofs.Truth.{lt-or-le}
 use Rattle.counting.proofs.Zeros.{zeros}
 use Rattle.masks.specs.Bits.{bit}
 use Rattle.masks.specs.Sets.{maskOf, member, at, inserted, United}
-use Rattle.masks.proofs.Bits.{bit-of-zero, bit-or, with-here, with-other}
-use Rattle.masks.proofs.Sets.{member-lt}
+use Rattle.masks.proofs.Bits.{bit-of-zero, with-here, with-other}
+use Rattle.masks.proofs.Sets.{member-lt, united-member}
 
 pub at-lt : (w : ℕ) (t : List ℕ) (u v : ℕ) → at w t u v < 2
 unfolding at
@@ -73,7 +73,44 @@ put-law w t u v hv hl = record {
         ∙ ap (λ (j : ℕ). bit (getD t j 0) (v′ % 64)) (sym e)
     go u′ v′ hv′ ne (no d) = ap (λ (y : ℕ). bit y (v′ % 64)) (getD-set-other t i (w * u′ + v′ / 64) x 0 d)
 
+-- ---- the masks of a vertex
+
+-- o has the w masks that t has for k
+pub record Row (w : ℕ) (t : List ℕ) (k : ℕ) (o : List ℕ) : Type 0 where
+  pub mask : (i : ℕ) → i < w → getD o i 0 ≡ getD t (w * k + i) 0
+
+-- the two masks of k, read one by one
+pub pair-row : (t : List ℕ) (k a b : ℕ) → a ≡ getD t (2 * k + 0) 0 → b ≡ getD t (2 * k + 1) 0 → Row 2 t k (a ∷ b ∷ [])
+pair-row t k a b p q = record { mask = go }
+  where
+    go : (i : ℕ) → i < 2 → getD (a ∷ b ∷ []) i 0 ≡ getD t (2 * k + i) 0
+    go zero l = p
+    go (suc zero) l = q
+    go (suc (suc i)) l = absurd (omega arith)
+
+pub row-member : (w : ℕ) (t : List ℕ) (k : ℕ) (o : List ℕ) → Row w t k o → (v : ℕ) → v < w * 64 → member o 0 v ≡ at w t k v
+unfolding at member
+row-member w t k o r v h =
+    ap (λ (i : ℕ). bit (getD o i 0) (v % 64)) (let e : 0 + v / 64 ≡ v / 64 = omega arith in e)
+    ∙ ap (λ (x : ℕ). bit x (v % 64)) (r .mask (v / 64) (omega arith))
+
 -- ---- a set is put into the set of a vertex
+
+-- where all masks but those of u stay, so do the sets of the other vertices
+pub others-kept : (w u : ℕ) (t s : List ℕ) → ((i : ℕ) → i < w * u → getD s i 0 ≡ getD t i 0) → ((i : ℕ) → w * u + w ≤ i → getD s i 0 ≡ getD t i 0)
+    → (u′ v : ℕ) → v < w * 64 → u′ ≢ u → at w s u′ v ≡ at w t u′ v
+unfolding at member
+others-kept w u t s below above u′ v h ne = ap (λ (x : ℕ). bit x (v % 64)) (elsewhere (v / 64) (mask-lt w v h))
+  where
+    elsewhere : (i : ℕ) → i < w → getD s (w * u′ + i) 0 ≡ getD t (w * u′ + i) 0
+    elsewhere i hi =
+        ⊎-elim
+        (λ l. below (w * u′ + i) l)
+        (λ l. ⊎-elim
+        (λ m. absurd (ne (same-row w u′ i u ((w * u′ + i) - w * u) hi (omega arith) (omega arith))))
+        (λ m. above (w * u′ + i) m)
+        (lt-or-le (w * u′ + i) (w * u + w)))
+        (lt-or-le (w * u′ + i) (w * u))
 
 -- s is t with the set o of w masks put into the set of u
 pub record Absorbed (w : ℕ) (t : List ℕ) (u : ℕ) (o s : List ℕ) : Type 0 where
@@ -81,21 +118,5 @@ pub record Absorbed (w : ℕ) (t : List ℕ) (u : ℕ) (o s : List ℕ) : Type 0
   pub other : (u′ v : ℕ) → v < w * 64 → u′ ≢ u → at w s u′ v ≡ at w t u′ v
 
 pub absorbed-law : (w : ℕ) (t : List ℕ) (u : ℕ) (o s : List ℕ) → United t (w * u) o w s → Absorbed w t u o s
-unfolding at member
-absorbed-law w t u o s a = record {
-  here = λ v h.
-      ap (λ (x : ℕ). bit x (v % 64)) (a .done (v / 64) (mask-lt w v h))
-      ∙ bit-or (getD t (w * u + v / 64) 0) (getD o (v / 64) 0) (v % 64)
-      ∙ ap (λ (i : ℕ). max (bit (getD t (w * u + v / 64) 0) (v % 64)) (bit (getD o i 0) (v % 64))) (let e : v / 64 ≡ 0 + v / 64 = omega arith in e);
-  other = λ u′ v h ne. ap (λ (x : ℕ). bit x (v % 64)) (elsewhere u′ (v / 64) (mask-lt w v h) ne);
-}
-  where
-    elsewhere : (u′ i : ℕ) → i < w → u′ ≢ u → getD s (w * u′ + i) 0 ≡ getD t (w * u′ + i) 0
-    elsewhere u′ i hi ne =
-        ⊎-elim
-        (λ l. a .below (w * u′ + i) l)
-        (λ l. ⊎-elim
-        (λ m. absurd (ne (same-row w u′ i u ((w * u′ + i) - w * u) hi (omega arith) (omega arith))))
-        (λ m. a .above (w * u′ + i) m)
-        (lt-or-le (w * u′ + i) (w * u + w)))
-        (lt-or-le (w * u′ + i) (w * u))
+unfolding at
+absorbed-law w t u o s a = record { here = united-member w t (w * u) o s a; other = others-kept w u t s (a .below) (a .above) }

@@ -6,7 +6,7 @@ ghost use Prim.Native.Nat.{_+_, _*_, _/_, _<_};
 ghost use lib.Dec.{leb, ltb};
 ghost use lib.ListN.{length, getD};
 ghost use Rattle.counting.specs.Count.{sum};
-ghost use Rattle.masks.specs.Sets.{member, member?, inserted, United, Next};
+ghost use Rattle.masks.specs.Sets.{member, member?, inserted, United, Next, Imaged};
 
 // Mask i of the set.
 pub fn mask_at(masks: &[u64], first: usize, i: usize) -> u64
@@ -87,4 +87,32 @@ pub fn next(masks: &[u64], first: usize, width: u32, from: usize) -> usize
         v = (v / 64 + 1) * 64;
     }
     top
+}
+
+// Puts into the set of two masks at `first` the sets that a table of two masks a vertex has for the vertices below 128 in the set at
+// `from`; false where the list ends before, and then nothing changes.
+pub fn image<'a>(
+    masks: &mut [u64],
+    first: usize,
+    table: &'a [u64],
+    sets: &'a [u64],
+    from: usize,
+) -> bool
+    ensures answer { λ r. ⌜ r ≡ leb (first + 2) (length (now (masks .entry))) ⌝ }
+    ensures made { λ r. ⌜ (r ≡ true → Imaged 2 (now (table .entry)) (now (sets .entry)) from 128 first (now (masks .entry)) (now (masks .exit))) ⌝ }
+    ensures kept { λ r. ⌜ (r ≡ false → now (masks .exit) ≡ now (masks .entry)) ⌝ }
+{
+    if masks.len() < 2 {
+        return false;
+    }
+    if masks.len() - 2 < first {
+        return false;
+    }
+    let mut w = next(sets, from, 2, 0);
+    while w < 128 {
+        let row = [mask_at(table, 2 * w, 0), mask_at(table, 2 * w, 1)];
+        unite(masks, first, &row);
+        w = next(sets, from, 2, w + 1);
+    }
+    true
 }

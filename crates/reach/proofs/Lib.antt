@@ -3,6 +3,6 @@ pub mod Warshall
 pub mod Stepping
 pub mod Marking
 pub mod Decide
-pub mod Gathering
+pub mod Composing
 pub mod Refusing
 pub mod Closures

@@ -1,17 +1,14 @@
 -- A step of Warshall's closure over a table: the set of k is put into each set that has k. Assumes nothing.
-use mathlib.Core.Path.{_≡_, refl, sym, ap, ap₂, _∙_, subst}
+use mathlib.Core.Path.{_≡_, refl, sym, ap₂, _∙_, subst}
 use mathlib.Core.Logic.{_⊎_, inl, inr, ⊎-elim, _≢_}
-use mathlib.Core.List.{List, [], _∷_}
-use Prim.Native.Nat.{ℕ, zero, suc, _+_, _*_, _/_, _%_, _≤_, _<_, min, max}
+use mathlib.Core.List.{List}
+use Prim.Native.Nat.{ℕ, zero, suc, _+_, _*_, _≤_, _<_, min, max}
 use native.Mathlib.Nat.{not-suc-le-zero, lt-of-lt-of-le, le-refl, lt-irrefl, le-of-suc-le-suc, eq-or-lt-of-le}
 use native.Mathlib.Numerals.{add-one}
 use native.Mathlib.Omega.{arith}
-use lib.ListN.{length, getD, take, drop, length-take, length-drop}
-use lib.Seq.{getD-take, getD-drop}
 use Rattle.counting.proofs.Truth.{lt-or-le}
-use Rattle.masks.specs.Bits.{bit}
-use Rattle.masks.specs.Sets.{member, at}
-use Rattle.masks.proofs.Tables.{at-lt, Absorbed}
+use Rattle.masks.specs.Sets.{at}
+use Rattle.masks.proofs.Tables.{at-lt, Row, row-member, Absorbed}
 use Rattle.reach.specs.Graph.{Reaches}
 use Rattle.reach.specs.Steps.{Through, Closing}
 use Rattle.reach.specs.Steps.Closing.{start, step}
@@ -19,32 +16,6 @@ use Rattle.reach.proofs.Routes.{begins-below}
 use Rattle.reach.proofs.Warshall.{Step, Stage, stage-step, complete}
 
 -- ---- the step goes vertex by vertex: what is done below n is done below n + 1
-
--- o has the w masks that t has for k
-pub record Row (w : ℕ) (t : List ℕ) (k : ℕ) (o : List ℕ) : Type 0 where
-  pub mask : (i : ℕ) → i < w → getD o i 0 ≡ getD t (w * k + i) 0
-
--- the two masks of k, read one by one
-pub pair-row : (t : List ℕ) (k : ℕ) → Row 2 t k (getD t (2 * k) 0 ∷ getD t (2 * k + 1) 0 ∷ [])
-pair-row t k = record { mask = go }
-  where
-    go : (i : ℕ) → i < 2 → getD (getD t (2 * k) 0 ∷ getD t (2 * k + 1) 0 ∷ []) i 0 ≡ getD t (2 * k + i) 0
-    go zero l = ap (λ (j : ℕ). getD t j 0) (let e : 2 * k ≡ 2 * k + 0 = omega arith in e)
-    go (suc zero) l = refl
-    go (suc (suc i)) l = absurd (omega arith)
-
--- the masks of k as a part of the table
-pub part-row : (w : ℕ) (t : List ℕ) (k m : ℕ) → m ≡ w → Row w t k (take m (drop (w * k) t))
-part-row w t k m e = record { mask = λ i l. getD-take m (drop (w * k) t) i 0 (omega arith) ∙ getD-drop (w * k) t i 0 }
-
-pub part-length : (w : ℕ) (t : List ℕ) (k m : ℕ) → m ≡ w → w * k + w ≤ length t → length (take m (drop (w * k) t)) ≡ w
-part-length w t k m e h = simp (length-take, length-drop) (omega arith)
-
-pub row-member : (w : ℕ) (t : List ℕ) (k : ℕ) (o : List ℕ) → Row w t k o → (v : ℕ) → v < w * 64 → member o 0 v ≡ at w t k v
-unfolding at member
-row-member w t k o r v h =
-    ap (λ (i : ℕ). bit (getD o i 0) (v % 64)) (let e : 0 + v / 64 ≡ v / 64 = omega arith in e)
-    ∙ ap (λ (x : ℕ). bit x (v % 64)) (r .mask (v / 64) (omega arith))
 
 pub through-none : (w : ℕ) (t : List ℕ) (k : ℕ) → Through w t 0 k t
 through-none w t k = record { below = λ u v l h. absurd (not-suc-le-zero l); above = λ u v l h. refl }

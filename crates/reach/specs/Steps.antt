@@ -1,9 +1,8 @@
 -- What the private steps of the closure leave behind, over tables with w masks a vertex, for any w. Assumes nothing.
 use mathlib.Core.Path.{_≡_}
-use mathlib.Core.Logic.{_≢_, _⊎_, _↔_}
 use mathlib.Core.List.{List}
 use Prim.Native.Nat.{ℕ, _+_, _*_, _≤_, _<_, max, min}
-use lib.ListN.{length, getD}
+use lib.ListN.{getD}
 use Rattle.masks.specs.Sets.{at}
 
 -- t has the bits of the first i edges, and no other
@@ -25,9 +24,3 @@ pub data Closing (w : ℕ) (t : List ℕ) (n : ℕ) : ℕ → List ℕ → Type 
 pub record Within (n m : ℕ) (tails heads : List ℕ) : Type 0 where
   pub tail : (i : ℕ) → i < m → getD tails i 0 < n
   pub head : (i : ℕ) → i < m → getD heads i 0 < n
-
--- s is r with the sets that t has for the vertices below j in its set of u put into the set of u
-pub record Gathered (w : ℕ) (t : List ℕ) (u j : ℕ) (r s : List ℕ) : Type 0 where
-  pub size : length s ≡ length r
-  pub here : (v : ℕ) → v < w * 64 → at w s u v ≡ 1 ↔ ((at w r u v ≡ 1) ⊎ ((x : ℕ) × (x < j) × (at w t u x ≡ 1) × (at w t x v ≡ 1)))
-  pub other : (u′ v : ℕ) → v < w * 64 → u′ ≢ u → at w s u′ v ≡ at w r u′ v

@@ -9,7 +9,7 @@ ghost use Rattle.masks.specs.Sets.{at};
 ghost use Rattle.reach.specs.Graph.{edgeCount};
 ghost use Rattle.reach.specs.Refusal.{refusal, strange?};
 ghost use Rattle.reach.specs.Closure.{Closure, Composed};
-ghost use Rattle.reach.specs.Steps.{Marked, Through, Closing, Within, Gathered};
+ghost use Rattle.reach.specs.Steps.{Marked, Through, Closing, Within};
 
 // The most vertices and edges of a graph.
 const MOST_VERTICES: usize = 128;
@@ -169,27 +169,13 @@ pub fn transitive_closure<'a>(n: usize, tails: &'a [u8], heads: &'a [u8]) -> Rea
     }
 }
 
-// Puts into the set of u in `longer` the sets that the table has for the vertices in its set of u.
-fn gather<'a>(longer: &mut [u64], table: &'a [u64], u: usize)
-    requires { ⌜ (length (now longer) ≡ 256) × (length (now table) ≡ 256) × (u < 128) ⌝ }
-    ensures { λ _. ⌜ Gathered 2 (now (table .entry)) u 128 (now (longer .entry)) (now (longer .exit)) ⌝ }
-{
-    let mut w = masks::next(table, 2 * u, WIDTH, 0);
-    while w < MOST_VERTICES {
-        let start = 2 * w;
-        let end = start + 2;
-        masks::unite(longer, 2 * u, &table[start..end]);
-        w = masks::next(table, 2 * u, WIDTH, w + 1);
-    }
-}
-
 // The table followed by itself. Of the table of a graph: which vertex reaches which by two edges or more.
 pub fn longer_routes(table: [u64; 256]) -> [u64; 256]
     ensures { λ r. ⌜ Composed table r ⌝ }
 {
     let mut longer = [0; 256];
     for u in 0..MOST_VERTICES {
-        gather(&mut longer, &table, u);
+        masks::image(&mut longer, 2 * u, &table, &table, 2 * u);
     }
     longer
 }

@@ -1,8 +1,9 @@
 use mathlib.Core.Path.{_≡_, refl, _∙_}
-use Prim.Native.Nat.{ℕ, _≤_, _-_, zero-le}
+use Prim.Native.Nat.{ℕ, _+_, _*_, _≤_, _-_, zero-le}
 use native.Mathlib.Omega.{arith}
+use borrow.Author.Tests.{le-leb}
 use lib.ListN.{length}
-use Rattle.reach.proofs.Gathering.{Composing, composing-none, composing-more}
+use Rattle.reach.proofs.Composing.{Composing, composing-none, composing-more}
 use borrow.Author.Needs.{needs}
 use Rattle.reach.proofs.longer_routes.Statement.{statement}
 use Rattle.reach.proofs.longer_routes.Tie as tie
@@ -16,14 +17,23 @@ abbrev μ-loop : tie.MeasureT-loop
 loop-holds : tie.Need-loop-holds Inv-loop μ-loop
 loop-holds c = (zero-le, refl, composing-none 2 (c .args .t1) 256)
 
-slice-aggregate-gather : tie.Need-slice-aggregate-gather Inv-loop μ-loop
-slice-aggregate-gather c = search needs
+slice-aggregate-image : tie.Need-slice-aggregate-image Inv-loop μ-loop
+slice-aggregate-image c = search needs
 
-slice-aggregate-gather-2 : tie.Need-slice-aggregate-gather-2 Inv-loop μ-loop
-slice-aggregate-gather-2 c = search needs
+mul-image : tie.Need-mul-image Inv-loop μ-loop
+mul-image c = search needs
 
-gather-requires : tie.Need-gather-requires Inv-loop μ-loop
-gather-requires c κs = search needs
+slice-aggregate-image-2 : tie.Need-slice-aggregate-image-2 Inv-loop μ-loop
+slice-aggregate-image-2 c = search needs
+
+slice-aggregate-image-3 : tie.Need-slice-aggregate-image-3 Inv-loop μ-loop
+slice-aggregate-image-3 c = search needs
+
+mul-image-2 : tie.Need-mul-image-2 Inv-loop μ-loop
+mul-image-2 c = search needs
+
+image-requires : tie.Need-image-requires Inv-loop μ-loop
+image-requires c κs = search needs
 
 add-u : tie.Need-add-u Inv-loop μ-loop
 add-u c = search needs
@@ -33,9 +43,10 @@ loop-less c = search needs
 
 loop-again : tie.Need-loop-again Inv-loop μ-loop
 loop-again c =
-    let l = c .before .before .before .before .before .loop in
-    let call = c .before .gather in
-    (omega arith, call .kept .0 ∙ l .inv .1, composing-more 2 (c .before .before .before .before .before .before .args .t1) (l .u) (l .longer) (call .last .0) (call .ensures) (l .inv .2))
+    let l = c .before .before .before .before .before .before .loop in
+    let call = c .before .image in
+    let made = call .ensures .1 .0 (call .ensures .0 ∙ le-leb (2 * l .u + 2) (length (l .longer)) (omega arith)) in
+    (omega arith, call .kept .0 ∙ l .inv .1, composing-more 2 (c .before .before .before .before .before .before .before .args .t1) (l .u) (l .longer) (call .last .0) made (l .inv .2))
 
 returns : tie.Need-returns Inv-loop μ-loop
 returns c =
@@ -49,9 +60,12 @@ longer-routes-spec =
     Inv-loop
     μ-loop
     loop-holds
-    slice-aggregate-gather
-    slice-aggregate-gather-2
-    gather-requires
+    slice-aggregate-image
+    mul-image
+    slice-aggregate-image-2
+    slice-aggregate-image-3
+    mul-image-2
+    image-requires
     add-u
     loop-less
     loop-again

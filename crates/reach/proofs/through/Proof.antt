@@ -4,11 +4,11 @@ use mathlib.Core.List.{List}
 use Prim.Native.Nat.{ℕ, _+_, _-_, _*_, _≤_, _<_, zero-le}
 use native.Mathlib.Omega.{arith}
 use borrow.Author.Tests.{eqb-true, eqb-false, le-leb}
-use lib.ListN.{length}
+use lib.ListN.{length, getD}
 use Rattle.masks.specs.Sets.{at}
-use Rattle.masks.proofs.Tables.{absorbed-law}
+use Rattle.masks.proofs.Tables.{pair-row, absorbed-law}
 use Rattle.reach.specs.Steps.{Through}
-use Rattle.reach.proofs.Stepping.{pair-row, through-none, through-set, through-clear}
+use Rattle.reach.proofs.Stepping.{through-none, through-set, through-clear}
 use borrow.Author.Needs.{needs}
 use Rattle.reach.proofs.through.Statement.{statement}
 use Rattle.reach.proofs.through.Tie as tie
@@ -80,7 +80,7 @@ loop-again c =
       omega arith,
       ap length (w .6) ∙ w .3 .kept .0 ∙ l .inv .1,
       subst done (sym (w .6))
-          (through-set 2 (a .t .now) (l .u) (a .k) (l .t) (omega arith) (l .inv .2) (w .3 .last .0) _ (pair-row (a .t .now) (a .k))
+          (through-set 2 (a .t .now) (l .u) (a .k) (l .t) (omega arith) (l .inv .2) (w .3 .last .0) _ (pair-row (a .t .now) (a .k) _ _ (ap (λ (i : ℕ). getD (a .t .now) i 0) (let z : 2 * a .k ≡ 2 * a .k + 0 = omega arith in z)) refl)
           (eqb-true (at 2 (l .t) (l .u) (a .k)) 1 (sym e ∙ w .0 .taken)) (absorbed-law 2 (l .t) (l .u) _ (w .3 .last .0) united)),
     ))
     (λ w. (
