@@ -60,3 +60,13 @@ sum-bound (suc n) f e = omega (arith, sum-bound n f (λ i l. e i (omega arith)),
 pub count-ext : (n : ℕ) (f g : ℕ → Bool) → ((i : ℕ) → i < n → f i ≡ g i) → count n f ≡ count n g
 unfolding count
 count-ext n f g e = sum-ext n (λ i. indicator (f i)) (λ i. indicator (g i)) (λ i l. ap indicator (e i l))
+
+-- terms that are no larger, and one that is smaller
+pub sum-smaller : (n : ℕ) (f g : ℕ → ℕ) (i : ℕ) → i < n → f i < g i → ((j : ℕ) → j < n → f j ≤ g j) → sum n f < sum n g
+unfolding sum
+sum-smaller zero f g i l s e = absurd (not-suc-le-zero l)
+sum-smaller (suc n) f g i l s e = go (ℕ-discrete n i) (λ m. sum-smaller n f g i m s (λ j h. e j (omega arith)))
+  where
+    go : Dec (n ≡ i) → (i < n → sum n f < sum n g) → sum n f + f n < sum n g + g n
+    go (yes q) r = omega (arith, sum-mono n f g (λ j h. e j (omega arith)), ap f q, ap g q)
+    go (no q) r = omega (arith, r (omega arith), e n (omega arith))

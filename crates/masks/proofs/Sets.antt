@@ -2,7 +2,7 @@
 use mathlib.Core.Path.{_≡_, refl, sym, ap, ap₂, _∙_}
 use mathlib.Core.Logic.{_≢_, ⊎-elim}
 use mathlib.Core.List.{List}
-use Prim.Native.Nat.{ℕ, zero, suc, _+_, _-_, _*_, _/_, _%_, _^_, _≤_, _<_, max}
+use Prim.Native.Nat.{ℕ, zero, suc, _+_, _-_, _*_, _/_, _%_, _^_, _≤_, _<_, max, min}
 use native.Mathlib.Nat.{lt-of-le-of-lt, not-suc-le-zero}
 use native.Mathlib.Omega.{arith}
 use borrow.Author.Count.{below-more}
@@ -15,8 +15,8 @@ use Rattle.counting.specs.Count.{sum}
 use Rattle.counting.proofs.Truth.{lt-or-le}
 use Rattle.counting.proofs.Sums.{sum-ext, sum-split}
 use Rattle.masks.specs.Bits.{bit}
-use Rattle.masks.specs.Sets.{maskOf, member, United, Next}
-use Rattle.masks.proofs.Bits.{bit-lt, bit-shr, bit-of-zero, bit-high, bit-or, trailing-below, trailing-at, trailing-lt, ones-sum}
+use Rattle.masks.specs.Sets.{maskOf, member, inserted, United, Next}
+use Rattle.masks.proofs.Bits.{bit-lt, bit-shr, bit-of-zero, bit-high, bit-or, bit-and, trailing-below, trailing-at, trailing-lt, ones-sum}
 
 pub member-lt : (s : List ℕ) (first v : ℕ) → member s first v < 2
 unfolding member
@@ -119,3 +119,16 @@ united-member w s first o r a v h =
 -- the next member is not before where the search began
 pub next-from : (s : List ℕ) (first top from r : ℕ) → Next s first top from r → from ≤ top → from ≤ r
 next-from s first top from r n h = ⊎-elim (λ l. n .found l .0) (λ l. omega arith) (lt-or-le r top)
+
+-- of w masks: a member of both sets
+pub intersected-member : (w : ℕ) (a b r : List ℕ) → ((i : ℕ) → i < w → getD r i 0 ≡ bitAnd (getD a i 0) (getD b i 0)) → (v : ℕ) → v < w * 64
+    → member r 0 v ≡ min (member a 0 v) (member b 0 v)
+unfolding member
+intersected-member w a b r same v h =
+    let i : ℕ = 0 + v / 64 in
+    ap (λ (x : ℕ). bit x (v % 64)) (same i (omega arith)) ∙ bit-and (getD a i 0) (getD b i 0) (v % 64)
+
+-- as many masks as before
+pub inserted-length : (s : List ℕ) (first v : ℕ) → length (inserted s first v) ≡ length s
+unfolding inserted
+inserted-length s first v = length-set s (first + v / 64) _

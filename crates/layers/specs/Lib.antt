@@ -1,0 +1,4 @@
+pub mod Rows
+pub mod Layered
+pub mod Rounds
+pub mod Examples
