@@ -2,3 +2,4 @@ pub mod Truth
 pub mod Sums
 pub mod Somes
 pub mod Zeros
+pub mod Classes

@@ -3,3 +3,4 @@ pub mod Depth
 pub mod Growing
 pub mod Answers
 pub mod Compaction
+pub mod Graphs

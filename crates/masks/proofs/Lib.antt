@@ -2,3 +2,4 @@ pub mod Bits
 pub mod Sets
 pub mod Tables
 pub mod Images
+pub mod Members

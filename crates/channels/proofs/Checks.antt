@@ -1,0 +1,301 @@
+-- The checks of given channels: what each says, and what each step of its loop keeps. Assumes nothing.
+use mathlib.Core.Path.{_≡_, refl, sym, ap, _∙_, subst}
+use mathlib.Core.Logic.{_≢_}
+use mathlib.Core.Bool.{Bool, true, false, true≢false, not, _&&_, _||_}
+use mathlib.Core.List.{List, [], _∷_}
+use Prim.Native.Nat.{ℕ, _+_, _-_, _≤_, _<_}
+use native.Mathlib.Omega.{arith}
+use native.Mathlib.Decide.{ℕ-discrete}
+use lib.ListN.{length, getD, drop, replicate}
+use lib.Dec.{eqb, leb}
+use borrow.Author.Tests.{eq-eqb, ne-eqb, le-leb, lt-leb, leb-false, not-false}
+use Rattle.counting.specs.Count.{indicator, choose}
+use Rattle.counting.proofs.Truth.{indicator-le, or-neither}
+use Rattle.counting.proofs.Somes.{some-found, some-none}
+use Rattle.masks.specs.Sets.{member?, inserted}
+use Rattle.masks.proofs.Members.{length-inserted, inserted-here, inserted-other, member-zeros}
+use Rattle.matching.specs.Lists.{times, has, linked, allLinked}
+use Rattle.matching.specs.Division.{Covers}
+use Rattle.matching.proofs.Lists.{Within, times-here, times-other, times-tail, times-none, has-true, has-false, times-hasnt}
+use Rattle.channels.specs.Given.{front, lines, filled, linesOf, verticesOf, unknown?, repeats?, lacks?, broken?}
+use Rattle.channels.proofs.Fields.{left, left-all, left-length, left-vertex, left-end, lines-length, lines-vertex, lines-end}
+
+-- ---- what the checks say
+
+pub unknown-within : (n : ℕ) (l : List ℕ) → unknown? n l ≡ false → Within n l
+unfolding unknown?
+unknown-within n [] e v h = times-none v
+unknown-within n (x ∷ l) e v h =
+    let p = or-neither (leb n x) (unknown? n l) e in
+    let q : v ≢ x = λ (o : v ≡ x). omega (arith, leb-false n x (p .0)) in
+    times-other x v l q ∙ unknown-within n l (p .1) v h
+
+pub unknown-wider : (n m : ℕ) (l : List ℕ) → n ≤ m → unknown? n l ≡ false → unknown? m l ≡ false
+unfolding unknown?
+unknown-wider n m [] h e = refl
+unknown-wider n m (x ∷ l) h e =
+    let p = or-neither (leb n x) (unknown? n l) e in
+    rw (lt-leb m x (omega (arith, leb-false n x (p .0)))) (unknown-wider n m l h (p .1))
+
+pub repeats-once : (l : List ℕ) → repeats? l ≡ false → (v : ℕ) → times v l ≤ 1
+unfolding repeats?
+repeats-once [] e v = omega (arith, times-none v)
+repeats-once (x ∷ l) e v = go (ℕ-discrete v x) (repeats-once l (or-neither (has x l) (repeats? l) e .1) v)
+  where
+    go : Dec (v ≡ x) → times v l ≤ 1 → times v (x ∷ l) ≤ 1
+    go (yes q) ih = omega (arith, ap (λ y. times y (x ∷ l)) q, times-here x l, has-false x l (or-neither (has x l) (repeats? l) e .0))
+    go (no q) ih = omega (arith, times-other x v l q, ih)
+
+pub once-repeats : (l : List ℕ) → ((v : ℕ) → times v l ≤ 1) → repeats? l ≡ false
+unfolding repeats?
+once-repeats [] h = refl
+once-repeats (x ∷ l) h =
+    rw (times-hasnt x l (omega (arith, h x, times-here x l))) (once-repeats l (λ v. omega (arith, h v, times-tail v x l)))
+
+pub twice-repeats : (l : List ℕ) (v : ℕ) → 2 ≤ times v l → repeats? l ≡ true
+twice-repeats l v h = go (repeats? l) refl
+  where
+    go : (b : Bool) → repeats? l ≡ b → b ≡ true
+    go true e = refl
+    go false e = absurd (omega (arith, repeats-once l e v))
+
+pub lacks-has : (n : ℕ) (l : List ℕ) → lacks? n l ≡ false → (v : ℕ) → v < n → 0 < times v l
+unfolding lacks?
+lacks-has n l e v h = go (has v l) refl
+  where
+    go : (b : Bool) → has v l ≡ b → 0 < times v l
+    go true p = has-true v l p
+    go false p = absurd (true≢false (sym (some-found n (λ u. not (has u l)) v h (ap not p)) ∙ e))
+
+pub has-lacks : (n : ℕ) (l : List ℕ) → ((v : ℕ) → v < n → has v l ≡ true) → lacks? n l ≡ false
+unfolding lacks?
+has-lacks n l f = some-none n (λ u. not (has u l)) (λ v h. ap not (f v h))
+
+pub hasnt-lacks : (n : ℕ) (l : List ℕ) (v : ℕ) → v < n → has v l ≡ false → lacks? n l ≡ true
+unfolding lacks?
+hasnt-lacks n l v h e = some-found n (λ u. not (has u l)) v h (ap not e)
+
+pub broken-linked : (leads : ℕ → ℕ → Bool) (ls : List (List ℕ)) → broken? leads ls ≡ false → allLinked leads ls ≡ true
+unfolding broken?
+broken-linked leads ls e = not-false (allLinked leads ls) e
+
+-- channels that pass all checks
+pub given-covers : (leads : ℕ → ℕ → Bool) (n : ℕ) (field : List ℕ) → unknown? n (verticesOf field) ≡ false → repeats? (verticesOf field) ≡ false → lacks? n (verticesOf field) ≡ false
+    → broken? leads (linesOf field) ≡ false → Covers leads n (linesOf field)
+given-covers leads n field u p q b = record {
+  once = λ v h. omega (arith, repeats-once (verticesOf field) p v, lacks-has n (verticesOf field) q v h);
+  only = unknown-within n (verticesOf field) u;
+  next = broken-linked leads (linesOf field) b;
+}
+
+-- ---- a vertex of n or more
+
+module _ (n : ℕ) (field : List ℕ) where
+  -- what is still to be looked at decides
+  pub record Known (i k : ℕ) : Type 0 where
+    pub same : unknown? n (verticesOf field) ≡ unknown? n (left field i k)
+
+  pub known-none : Known 0 0
+  known-none = record { same = ap (unknown? n) (left-all field) }
+
+  module _ (i : ℕ) (h : i < length field) (k : ℕ) (o : Known i k) (x : ℕ) (ex : x ≡ getD field i 0) where
+    pub known-length : k ≡ 0 → Known (i + 1) x
+    known-length e = record { same = o .same ∙ ap (unknown? n) (left-length field i h k e ∙ ap (left field (i + 1)) (sym ex)) }
+
+    at : k ≢ 0 → unknown? n (verticesOf field) ≡ (leb n x || unknown? n (left field (i + 1) (k - 1)))
+    unfolding unknown?
+    at d = o .same ∙ ap (unknown? n) (left-vertex field i h k d ∙ ap (λ y. y ∷ left field (i + 1) (k - 1)) (sym ex))
+
+    pub known-found : k ≢ 0 → n ≤ x → unknown? n (verticesOf field) ≡ true
+    known-found d l = at d ∙ rw (le-leb n x l)
+
+    pub known-more : k ≢ 0 → x < n → Known (i + 1) (k - 1)
+    known-more d l = record { same = at d ∙ rw (lt-leb n x l) }
+
+  pub known-all : (i k : ℕ) → Known i k → length field ≤ i → unknown? n (verticesOf field) ≡ false
+  unfolding unknown?
+  known-all i k o h = o .same ∙ ap (unknown? n) (left-end field i k h)
+
+-- ---- a vertex twice
+
+module _ (field : List ℕ) where
+  -- the vertices before byte i are the set's, each of them once
+  pub record Once (i k : ℕ) (seen : List ℕ) : Type 0 where
+    pub masks : length seen ≡ 4
+    pub often : (v : ℕ) → times v (verticesOf field) ≡ indicator (member? seen 0 v) + times v (left field i k)
+
+  pub once-none : Once 0 0 (replicate 4 0)
+  once-none = record {
+    masks = refl;
+    often = λ v. omega (arith, ap (times v) (left-all field), ap indicator (member-zeros 4 v));
+  }
+
+  module _ (i : ℕ) (h : i < length field) (k : ℕ) (seen : List ℕ) (o : Once i k seen) where
+    pub once-length : k ≡ 0 → (x : ℕ) → x ≡ getD field i 0 → Once (i + 1) x seen
+    once-length e x ex = record { masks = o .masks; often = λ v. o .often v ∙ ap (λ l. indicator (member? seen 0 v) + times v l) (left-length field i h k e ∙ ap (left field (i + 1)) (sym ex)) }
+
+    module _ (d : k ≢ 0) (x : ℕ) (ex : x ≡ getD field i 0) where
+      abbrev rest : List ℕ
+      rest = left field (i + 1) (k - 1)
+
+      left-is : left field i k ≡ x ∷ rest
+      left-is = left-vertex field i h k d ∙ ap (λ y. y ∷ rest) (sym ex)
+
+      pub once-again : member? seen 0 x ≡ true → repeats? (verticesOf field) ≡ true
+      once-again e = twice-repeats (verticesOf field) x (omega (arith, o .often x, ap indicator e, ap (times x) left-is, times-here x rest))
+
+      pub once-more : x < 256 → member? seen 0 x ≡ false → (seen′ : List ℕ) → seen′ ≡ inserted seen 0 x → Once (i + 1) (k - 1) seen′
+      once-more b e seen′ es = rw es (record {
+        masks = length-inserted seen 0 x ∙ o .masks;
+        often = λ v. go v (ℕ-discrete v x);
+      })
+        where
+          go : (v : ℕ) → Dec (v ≡ x) → times v (verticesOf field) ≡ indicator (member? (inserted seen 0 x) 0 v) + times v rest
+          go v (yes q) = subst (λ y. times y (verticesOf field) ≡ indicator (member? (inserted seen 0 x) 0 y) + times y rest) (sym q)
+              (omega (arith, o .often x, ap indicator e, ap indicator (inserted-here seen 0 x (omega (arith, o .masks))), ap (times x) left-is, times-here x rest))
+          go v (no q) = omega (arith, o .often v, ap indicator (inserted-other seen 0 x v q), ap (times v) left-is, times-other x v rest q)
+
+  pub once-all : (i k : ℕ) (seen : List ℕ) → Once i k seen → length field ≤ i → repeats? (verticesOf field) ≡ false
+  once-all i k seen o h = once-repeats (verticesOf field) λ v.
+      omega (arith, o .often v, indicator-le (member? seen 0 v), ap (times v) (left-end field i k h), times-none v)
+
+-- ---- the set of the vertices
+
+has-cons : (v x : ℕ) (l : List ℕ) → has v (x ∷ l) ≡ (eqb x v || has v l)
+unfolding has
+has-cons v x l = refl
+
+or-nothing : (b : Bool) → (b || false) ≡ b
+or-nothing true = refl
+or-nothing false = refl
+
+and-shift : (a b c : Bool) → ((a && b) && c) ≡ (a && (b && c))
+and-shift true b c = refl
+and-shift false b c = refl
+
+or-swap : (a b c : Bool) → (a || (b || c)) ≡ ((b || a) || c)
+or-swap true true c = refl
+or-swap true false c = refl
+or-swap false true c = refl
+or-swap false false c = refl
+
+module _ (field : List ℕ) where
+  -- the vertices before byte i are the set's
+  pub record Seen (i k : ℕ) (seen : List ℕ) : Type 0 where
+    pub masks : length seen ≡ 4
+    pub all : (v : ℕ) → has v (verticesOf field) ≡ (member? seen 0 v || has v (left field i k))
+
+  pub seen-none : Seen 0 0 (replicate 4 0)
+  seen-none = record { masks = refl; all = λ v. ap (has v) (left-all field) ∙ sym (ap (λ b. b || has v (left field 0 0)) (member-zeros 4 v)) }
+
+  module _ (i : ℕ) (h : i < length field) (k : ℕ) (seen : List ℕ) (o : Seen i k seen) where
+    pub seen-length : k ≡ 0 → (x : ℕ) → x ≡ getD field i 0 → Seen (i + 1) x seen
+    seen-length e x ex = record { masks = o .masks; all = λ v. o .all v ∙ ap (λ l. member? seen 0 v || has v l) (left-length field i h k e ∙ ap (left field (i + 1)) (sym ex)) }
+
+    pub seen-more : k ≢ 0 → (x : ℕ) → x ≡ getD field i 0 → x < 256 → (seen′ : List ℕ) → seen′ ≡ inserted seen 0 x → Seen (i + 1) (k - 1) seen′
+    seen-more d x ex b seen′ es = rw es (record {
+      masks = length-inserted seen 0 x ∙ o .masks;
+      all = λ v.
+          o .all v ∙ ap (λ l. member? seen 0 v || has v l) (left-vertex field i h k d ∙ ap (λ y. y ∷ rest) (sym ex)) ∙ ap (λ y. member? seen 0 v || y) (has-cons v x rest)
+          ∙ or-swap (member? seen 0 v) (eqb x v) (has v rest) ∙ ap (λ y. y || has v rest) (go v (ℕ-discrete v x));
+    })
+      where
+        rest : List ℕ
+        rest = left field (i + 1) (k - 1)
+
+        go : (v : ℕ) → Dec (v ≡ x) → (eqb x v || member? seen 0 v) ≡ member? (inserted seen 0 x) 0 v
+        go v (yes q) = subst (λ y. (eqb x y || member? seen 0 y) ≡ member? (inserted seen 0 x) 0 y) (sym q) (rw (eq-eqb x x refl) (sym (inserted-here seen 0 x (omega (arith, o .masks)))))
+        go v (no q) = rw (ne-eqb x v (λ z. q (sym z))) (sym (inserted-other seen 0 x v q))
+
+  pub seen-all : (i k : ℕ) (seen : List ℕ) → Seen i k seen → length field ≤ i → (v : ℕ) → member? seen 0 v ≡ has v (verticesOf field)
+  unfolding has
+  seen-all i k seen o h v = sym (o .all v ∙ ap (λ l. member? seen 0 v || has v l) (left-end field i k h) ∙ or-nothing (member? seen 0 v))
+
+-- ---- a vertex that is not led to
+
+linked-filled : (leads : ℕ → ℕ → Bool) (ls : List (List ℕ)) → allLinked leads (filled ls) ≡ allLinked leads ls
+unfolding filled allLinked linked
+linked-filled leads [] = refl
+linked-filled leads ([] ∷ ls) = linked-filled leads ls
+linked-filled leads ((v ∷ l) ∷ ls) = ap (λ b. linked leads (v ∷ l) && b) (linked-filled leads ls)
+
+-- the lists with `last` before the first, unless it is 256
+unfoldable pub after : ℕ → List (List ℕ) → List (List ℕ)
+after last ls = choose (eqb last 256) (λ _. ls) (λ _. front last ls)
+
+module _ (leads : ℕ → ℕ → Bool) where
+  after-none : (last : ℕ) (ls : List (List ℕ)) → last ≡ 256 → after last ls ≡ ls
+  unfolding after
+  after-none last ls e = rw (eq-eqb last 256 e)
+
+  after-some : (last : ℕ) (ls : List (List ℕ)) → last ≢ 256 → after last ls ≡ front last ls
+  unfolding after
+  after-some last ls e = rw (ne-eqb last 256 e)
+
+  -- a line has ended
+  linked-ended : (last : ℕ) (ls : List (List ℕ)) → allLinked leads (after last ([] ∷ ls)) ≡ allLinked leads ls
+  unfolding after allLinked linked front
+  linked-ended last ls = go (eqb last 256)
+    where
+      go : (b : Bool) → allLinked leads (choose b (λ _. [] ∷ ls) (λ _. front last ([] ∷ ls))) ≡ allLinked leads ls
+      go true = refl
+      go false = refl
+
+  linked-two : (u v : ℕ) (ls : List (List ℕ)) → allLinked leads (front u (front v ls)) ≡ (leads u v && allLinked leads (front v ls))
+  unfolding front allLinked linked
+  linked-two u v [] = and-shift (leads u v) true true
+  linked-two u v (l ∷ ls) = and-shift (leads u v) (linked leads (v ∷ l)) (allLinked leads ls)
+
+  linked-next : (last v : ℕ) (ls : List (List ℕ)) → allLinked leads (after last (front v ls)) ≡ ((eqb last 256 || leads last v) && allLinked leads (front v ls))
+  linked-next last v ls = go (ℕ-discrete last 256)
+    where
+      go : Dec (last ≡ 256) → allLinked leads (after last (front v ls)) ≡ ((eqb last 256 || leads last v) && allLinked leads (front v ls))
+      go (yes e) = ap (allLinked leads) (after-none last (front v ls) e) ∙ sym (ap (λ b. (b || leads last v) && allLinked leads (front v ls)) (eq-eqb last 256 e))
+      go (no e) =
+          ap (allLinked leads) (after-some last (front v ls) e) ∙ linked-two last v ls
+          ∙ sym (ap (λ b. (b || leads last v) && allLinked leads (front v ls)) (ne-eqb last 256 e))
+
+  module _ (field : List ℕ) where
+    -- what is still to be looked at decides
+    pub record Linking (i k last : ℕ) : Type 0 where
+      pub small : last ≤ 256
+      pub same : allLinked leads (linesOf field) ≡ allLinked leads (after last (lines k (drop i field)))
+
+    pub linking-none : Linking 0 0 256
+    unfolding linesOf
+    linking-none = record { small = omega arith; same = linked-filled leads (lines 0 field) ∙ ap (allLinked leads) (sym (after-none 256 (lines 0 field) refl)) }
+
+    module _ (i : ℕ) (h : i < length field) (k last : ℕ) (o : Linking i k last) where
+      pub linking-length : k ≡ 0 → (x : ℕ) → x ≡ getD field i 0 → Linking (i + 1) x 256
+      linking-length e x ex = rw ex (record {
+        small = omega arith;
+        same = o .same ∙ ap (λ ls. allLinked leads (after last ls)) (lines-length field i h k e) ∙ linked-ended last (lines (getD field i 0) (drop (i + 1) field))
+            ∙ ap (allLinked leads) (sym (after-none 256 (lines (getD field i 0) (drop (i + 1) field)) refl));
+      })
+
+      module _ (d : k ≢ 0) (x : ℕ) (ex : x ≡ getD field i 0) where
+        step : allLinked leads (linesOf field) ≡ ((eqb last 256 || leads last x) && allLinked leads (front x (lines (k - 1) (drop (i + 1) field))))
+        step = o .same ∙ ap (λ ls. allLinked leads (after last ls)) (lines-vertex field i h k d ∙ ap (λ y. front y (lines (k - 1) (drop (i + 1) field))) (sym ex)) ∙ linked-next last x (lines (k - 1) (drop (i + 1) field))
+
+        pub linking-broken : (eqb last 256 || leads last x) ≡ false → broken? leads (linesOf field) ≡ true
+        unfolding broken?
+        linking-broken e = ap not (step ∙ ap (λ b. b && allLinked leads (front x (lines (k - 1) (drop (i + 1) field)))) e)
+
+        pub linking-more : x < 256 → (eqb last 256 || leads last x) ≡ true → Linking (i + 1) (k - 1) x
+        linking-more b e = record {
+          small = omega arith;
+          same = step ∙ ap (λ c. c && allLinked leads (front x (lines (k - 1) (drop (i + 1) field)))) e
+              ∙ ap (allLinked leads) (sym (after-some x (lines (k - 1) (drop (i + 1) field)) (λ z. omega arith)));
+        }
+
+    pub linking-all : (i k last : ℕ) → Linking i k last → length field ≤ i → broken? leads (linesOf field) ≡ false
+    unfolding broken? allLinked
+    linking-all i k last o h = ap not (o .same ∙ ap (λ ls. allLinked leads (after last ls)) (lines-end field i k h) ∙ linked-ended last [])
+
+-- ---- whether a vertex may follow
+
+pub follows-first : (leads : ℕ → ℕ → Bool) (last v : ℕ) → last ≡ 256 → (eqb last 256 || leads last v) ≡ true
+follows-first leads last v e = rw (eq-eqb last 256 e)
+
+pub follows-led : (leads : ℕ → ℕ → Bool) (last v : ℕ) → last ≢ 256 → (eqb last 256 || leads last v) ≡ leads last v
+follows-led leads last v d = rw (ne-eqb last 256 d)

@@ -1,0 +1,10 @@
+pub mod Open
+pub mod Going
+pub mod Laying
+pub mod Following
+pub mod Answers
+pub mod Fields
+pub mod Checks
+pub mod Reading
+pub mod Theorems
+pub mod Acyclic

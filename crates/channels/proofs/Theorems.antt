@@ -1,0 +1,123 @@
+-- What the channels that the calls hand over are: a division into channels, in which each vertex leads to the next, and planned ones the
+-- least of all. Here the theorems stand of the struct that `plan` and `given` return. Assumes nothing.
+use mathlib.Core.Path.{_≡_, refl, sym, ap, ap₂, _∙_, subst}
+use mathlib.Core.Bool.{Bool, true, false, true≢false, _||_}
+use mathlib.Core.List.{List, [], flatten}
+use Prim.Native.Nat.{ℕ, suc, _+_, _≤_}
+use native.Mathlib.Omega.{arith}
+use lib.Dec.{eqb, ltb}
+use lib.ListN.{length, getD}
+use borrow.Author.Tests.{eq-eqb, ltb-false}
+use Rattle.counting.specs.Count.{choose}
+use Rattle.counting.proofs.Sums.{sum-ext}
+use Rattle.counting.proofs.Classes.{sum-one}
+use Rattle.matching.specs.Lists.{times, channelOf, positionOf, startsFrom}
+use Rattle.matching.specs.Chains.{planned}
+use Rattle.matching.specs.Division.{Order, Division, Covers, Channelled}
+use Rattle.matching.proofs.Lists.{length-times}
+use Rattle.matching.proofs.Ordered.{channelled, standing}
+use Rattle.matching.proofs.Planned.{planned-least, planned-covers}
+use Rattle.channels.specs.Table.{leadsIn}
+use Rattle.channels.specs.Given.{linesOf, verticesOf, unknown?, repeats?, lacks?, broken?}
+use Rattle.channels.specs.Arranged.{Arranged}
+use Rattle.channels.specs.Promise.{Answers, Plans, Gives, outsized?, planRefusal, givenRefusal}
+use Rattle.channels.specs.Sound.{Sound, channel, position}
+use Rattle.channels.specs.declared.Channels.{Channels}
+use Rattle.channels.proofs.Checks.{given-covers}
+
+-- ---- what the refusals tell
+
+taken : (refusal : ℕ) (ls : List (List ℕ)) (r : Channels) → Answers refusal ls r → r .refusal ≡ 0 → (refusal ≡ 0) × Arranged ls r
+taken refusal ls r a e =
+    let z : refusal ≡ 0 = sym (a .refused) ∙ e in
+    (z, subst (λ b. Arranged (choose b (λ _. ls) (λ _. [])) r) (eq-eqb refusal 0 z) (a .arranged))
+
+sized-small : (n : ℕ) → outsized? n ≡ false → n ≤ 128
+unfolding outsized?
+sized-small n e = go (eqb n 0) e
+  where
+    go : (b : Bool) → (b || ltb 128 n) ≡ false → n ≤ 128
+    go true p = absurd (true≢false p)
+    go false p = ltb-false 128 n p
+
+plan-sized : (n : ℕ) → planRefusal n ≡ 0 → outsized? n ≡ false
+unfolding planRefusal
+plan-sized n e = go (outsized? n) e
+  where
+    go : (b : Bool) → _≡_ {A = ℕ} (choose b (λ _. 2) (λ _. 0)) 0 → b ≡ false
+    go true p = absurd (omega arith)
+    go false p = refl
+
+-- what each check says of given channels that are taken
+pub record Passed (leads : ℕ → ℕ → Bool) (n : ℕ) (field : List ℕ) : Type 0 where
+  pub size : outsized? n ≡ false
+  pub known : unknown? n (verticesOf field) ≡ false
+  pub once : repeats? (verticesOf field) ≡ false
+  pub none-lacks : lacks? n (verticesOf field) ≡ false
+  pub led : broken? leads (linesOf field) ≡ false
+
+pub given-passed : (leads : ℕ → ℕ → Bool) (n : ℕ) (field : List ℕ) → givenRefusal leads n field ≡ 0 → Passed leads n field
+unfolding givenRefusal
+given-passed leads n field e = let p = go (outsized? n) (unknown? n (verticesOf field)) (repeats? (verticesOf field)) (lacks? n (verticesOf field)) (broken? leads (linesOf field)) e in record {
+  size = p .0;
+  known = p .1;
+  once = p .2;
+  none-lacks = p .3;
+  led = p .4;
+}
+  where
+    go : (a b c d f : Bool) → _≡_ {A = ℕ} (choose a (λ _. 2) (λ _. choose b (λ _. 3) (λ _. choose (c || d) (λ _. 6) (λ _. choose f (λ _. 7) (λ _. 0))))) 0
+        → (a ≡ false) × (b ≡ false) × (c ≡ false) × (d ≡ false) × (f ≡ false)
+    go true b c d f p = absurd (omega arith)
+    go false true c d f p = absurd (omega arith)
+    go false false true d f p = absurd (omega arith)
+    go false false false true f p = absurd (omega arith)
+    go false false false false true p = absurd (omega arith)
+    go false false false false false p = (refl, refl, refl, refl, refl)
+
+-- ---- channels that cover the vertices, handed over
+
+module _ (leads : ℕ → ℕ → Bool) (n : ℕ) (o : Order leads n) (ls : List (List ℕ)) (r : Channels) (a : Arranged ls r) (c : Covers leads n ls) where
+  sound-arranged : Sound leads n r
+  sound-arranged =
+      let s : Channelled leads n (length ls) (channelOf ls) (positionOf ls) = channelled leads n o ls c in
+      let ch : (v : ℕ) → channel r v ≡ channelOf ls v = a .channel in
+      let po : (v : ℕ) → position r v ≡ positionOf ls v = a .position in
+      record {
+        channelled = record {
+          division = record {
+            below = λ v l. omega (arith, s .division .below v l, ch v, a .counted);
+            related = λ u v l m d e. s .division .related u v l m d (sym (ch u) ∙ e ∙ ch v);
+          };
+          next = λ u v l m e f. s .next u v l m (sym (ch u) ∙ e ∙ ch v) (sym (po v) ∙ f ∙ ap suc (po u));
+          later = λ u v l m e f. s .later u v l m (sym (ch u) ∙ e ∙ ch v) (omega (arith, po u, po v));
+          apart = λ u v l m e f. s .apart u v l m (sym (ch u) ∙ e ∙ ch v) (sym (po u) ∙ f ∙ po v);
+        };
+        all = a .total ∙ length-times n (flatten ls) (c .only) ∙ sum-ext n (λ v. times v (flatten ls)) (λ v. 1) (c .once) ∙ sum-one n;
+        standing = λ v l.
+            a .order (getD (r .starts) (channel r v) 0 + position r v)
+            ∙ ap₂ (λ (x y : ℕ). getD (flatten ls) (x + y) 0) (a .starts (channel r v) ∙ ap (λ x. getD (startsFrom 0 ls) x 0) (ch v)) (po v)
+            ∙ standing v ls (omega (arith, c .once v l));
+      }
+
+-- ---- the theorems
+
+module _ (n : ℕ) (table : List ℕ) (r : Channels) where
+  -- planned channels are a division, if the table is a strict order on the vertices
+  pub plan-sound : Plans n table r → r .refusal ≡ 0 → Order (leadsIn table) n → Sound (leadsIn table) n r
+  plan-sound p e o =
+      let t = taken (planRefusal n) (planned (leadsIn table) n) r p e in
+      sound-arranged (leadsIn table) n o (planned (leadsIn table) n) r (t .1) (planned-covers (leadsIn table) n (sized-small n (plan-sized n (t .0))) o)
+
+  -- and no division has fewer parts, whatever the table
+  pub plan-least : Plans n table r → r .refusal ≡ 0 → (m : ℕ) (part : ℕ → ℕ) → Division (leadsIn table) n m part → r .count ≤ m
+  plan-least p e m part d =
+      let t = taken (planRefusal n) (planned (leadsIn table) n) r p e in
+      omega (arith, t .1 .counted, planned-least (leadsIn table) n (sized-small n (plan-sized n (t .0))) m part d)
+
+  -- given channels that are taken are such a division too
+  pub given-sound : (field : List ℕ) → Gives n table field r → r .refusal ≡ 0 → Order (leadsIn table) n → Sound (leadsIn table) n r
+  given-sound field p e o =
+      let t = taken (givenRefusal (leadsIn table) n field) (linesOf field) r p e in
+      let q : Passed (leadsIn table) n field = given-passed (leadsIn table) n field (t .0) in
+      sound-arranged (leadsIn table) n o (linesOf field) r (t .1) (given-covers (leadsIn table) n field (q .known) (q .once) (q .none-lacks) (q .led))

@@ -1,0 +1,52 @@
+-- `channels::plan` meets its contract. Assumes nothing.
+use native.Mathlib.Omega.{arith}
+use Rattle.channels.proofs.Answers.{answers-refused, answers-taken, none-outsized, many-outsized, sized, plan-outsized, plan-taken, plan-channels}
+use borrow.Author.Needs.{needs}
+use Rattle.channels.proofs.plan.Statement.{statement}
+use Rattle.channels.proofs.plan.Tie as tie
+
+empty-requires : tie.Need-empty-requires
+empty-requires c κs = search needs
+
+returns : tie.Need-returns
+returns c =
+    answers-refused _ 2 _ _ (plan-outsized _ (none-outsized _ (c .before .if1 .taken))) (λ e. omega arith) (c .empty .ensures)
+
+empty-requires-2 : tie.Need-empty-requires-2
+empty-requires-2 c κs = search needs
+
+returns-2 : tie.Need-returns-2
+returns-2 c =
+    answers-refused _ 2 _ _ (plan-outsized _ (many-outsized _ (c .before .if2 .taken))) (λ e. omega arith) (c .empty2 .ensures)
+
+slice-aggregate-matched : tie.Need-slice-aggregate-matched
+slice-aggregate-matched c = search needs
+
+matched-requires : tie.Need-matched-requires
+matched-requires c κs = search needs
+
+slice-aggregate-chains : tie.Need-slice-aggregate-chains
+slice-aggregate-chains c = search needs
+
+chains-requires : tie.Need-chains-requires
+chains-requires c κs = search needs
+
+returns-3 : tie.Need-returns-3
+returns-3 c =
+    let m = c .before .before in
+    let s = m .before .before in
+    answers-taken _ _ _ (plan-taken _ (sized _ (s .before .if1 .left) (s .if2 .left))) (plan-channels _ _ _ _ (m .matched .ensures .0) (c .chains .ensures))
+
+pub plan-spec : {M : Type 1} → statement M
+plan-spec =
+    tie.close
+    (tie.spec
+    empty-requires
+    returns
+    empty-requires-2
+    returns-2
+    slice-aggregate-matched
+    matched-requires
+    slice-aggregate-chains
+    chains-requires
+    returns-3)

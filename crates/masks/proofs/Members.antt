@@ -1,0 +1,65 @@
+-- Laws of a set with a vertex put in, and of the vertices of one set that another lacks. Assumes nothing.
+use mathlib.Core.Path.{_≡_, ap, _∙_}
+use mathlib.Core.Logic.{_≢_, _⊎_, inl, inr}
+use mathlib.Core.Bool.{true, false, not, _&&_}
+use mathlib.Core.List.{List}
+use Prim.Native.Nat.{ℕ, _+_, _-_, _/_, _%_, _^_, _<_, min}
+use native.Mathlib.Decide.{ℕ-discrete, decLt}
+use native.Mathlib.Omega.{arith}
+use lib.Bits.{bitOr, bitAnd}
+use lib.Dec.{eqb}
+use lib.ListN.{length, getD, set, replicate, length-set}
+use lib.Seq.{getD-set-same, getD-set-other, set-out}
+use borrow.Author.Tests.{eq-eqb}
+use Rattle.counting.proofs.Truth.{two-cases}
+use Rattle.masks.specs.Bits.{bit}
+use Rattle.masks.specs.Sets.{maskOf, member, member?, at, inserted}
+use Rattle.masks.proofs.Bits.{bit-lt, bit-and, bit-not, with-here, with-other}
+use Rattle.masks.proofs.Tables.{at-zeros}
+
+pub length-inserted : (s : List ℕ) (first v : ℕ) → length (inserted s first v) ≡ length s
+unfolding inserted
+length-inserted s first v = length-set s (maskOf first v) _
+
+-- the set has the vertex
+pub inserted-here : (s : List ℕ) (first v : ℕ) → first + v / 64 < length s → member? (inserted s first v) first v ≡ true
+unfolding inserted member
+inserted-here s first v l =
+    eq-eqb _ 1 (ap (λ x. bit x (v % 64)) (getD-set-same s (maskOf first v) _ 0 l) ∙ with-here (getD s (maskOf first v) 0) (v % 64))
+
+-- and of other vertices those that it had
+pub inserted-other : (s : List ℕ) (first v u : ℕ) → u ≢ v → member? (inserted s first v) first u ≡ member? s first u
+unfolding inserted member
+inserted-other s first v u d = ap (λ x. eqb x 1) (go (ℕ-discrete (u / 64) (v / 64)))
+  where
+    i : ℕ
+    i = maskOf first v
+
+    x : ℕ
+    x = bitOr (getD s i 0) (2 ^ (v % 64))
+
+    at-mask : Dec (i < length s) → u / 64 ≡ v / 64 → bit (getD (set s i x) i 0) (u % 64) ≡ bit (getD s i 0) (u % 64)
+    at-mask (yes l) q = ap (λ y. bit y (u % 64)) (getD-set-same s i x 0 l) ∙ with-other (getD s i 0) (v % 64) (u % 64) (λ e. d (omega arith))
+    at-mask (no l) q = ap (λ y. bit (getD y i 0) (u % 64)) (set-out s i x (omega arith))
+
+    go : Dec (u / 64 ≡ v / 64) → bit (getD (set s i x) (maskOf first u) 0) (u % 64) ≡ bit (getD s (maskOf first u) 0) (u % 64)
+    go (yes q) = rw q (at-mask (decLt i (length s)) q)
+    go (no q) = ap (λ y. bit y (u % 64)) (getD-set-other s i (maskOf first u) x 0 (λ e. q (omega arith)))
+
+-- an empty set has no vertex
+pub member-zeros : (k v : ℕ) → member? (replicate k 0) 0 v ≡ false
+unfolding at
+member-zeros k v = ap (λ x. eqb x 1) (at-zeros 0 k 0 v)
+
+-- ---- what one set has and another lacks, mask by mask
+
+pub bit-without : (a b k : ℕ) → b < 2 ^ 64 → k < 64 → eqb (bit (bitAnd a ((2 ^ 64 - 1) - b)) k) 1 ≡ (eqb (bit a k) 1 && not (eqb (bit b k) 1))
+bit-without a b k h l =
+    ap (λ x. eqb x 1) (bit-and a ((2 ^ 64 - 1) - b) k ∙ ap (λ x. min (bit a k) x) (bit-not 64 b k h l))
+    ∙ each (bit a k) (bit b k) (two-cases (bit a k) (bit-lt a k)) (two-cases (bit b k) (bit-lt b k))
+  where
+    each : (x y : ℕ) → (x ≡ 0) ⊎ (x ≡ 1) → (y ≡ 0) ⊎ (y ≡ 1) → eqb (min x (1 - y)) 1 ≡ (eqb x 1 && not (eqb y 1))
+    each x y (inl p) (inl q) = rw (p, q)
+    each x y (inl p) (inr q) = rw (p, q)
+    each x y (inr p) (inl q) = rw (p, q)
+    each x y (inr p) (inr q) = rw (p, q)

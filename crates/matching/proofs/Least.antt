@@ -1,0 +1,127 @@
+-- No division of the vertices, in which of two vertices of a part one leads to the other, has fewer parts than vertices are without predecessor. Assumes nothing.
+use mathlib.Core.Path.{_≡_, refl, sym, ap, _∙_, subst}
+use mathlib.Core.Logic.{⊎-elim}
+use mathlib.Core.Bool.{Bool, true, false, true≢false, not, _&&_}
+use mathlib.Core.List.{List}
+use Prim.Native.Nat.{ℕ, _+_, _≤_, _<_}
+use native.Mathlib.Omega.{arith}
+use native.Mathlib.Decide.{ℕ-discrete, decLt}
+use lib.ListN.{getD}
+use lib.Dec.{eqb, leb}
+use borrow.Author.Tests.{lt-ltb, leb-true, le-leb, lt-leb, eqb-true, eqb-false, not-true}
+use Rattle.counting.specs.Count.{indicator, sum, count}
+use Rattle.counting.proofs.Truth.{and-elim}
+use Rattle.counting.proofs.Sums.{sum-ext, sum-mono}
+use Rattle.counting.proofs.Classes.{sum-add, sum-one, sum-swap, one-of, count-positive, at-most-one, count-classes, indicator-and-le}
+use Rattle.matching.specs.Search.{most, nobody}
+use Rattle.matching.specs.Chains.{begins}
+use Rattle.matching.specs.Division.{Division}
+use Rattle.matching.proofs.Kept.{heldBy}
+use Rattle.matching.proofs.Closed.{Into}
+use Rattle.matching.proofs.Asked.{Asked}
+
+-- a set of vertices, no two of which lead to one another, is no larger than a division
+pub antichain-fits : (leads : ℕ → ℕ → Bool) (n m : ℕ) (part : ℕ → ℕ) → Division leads n m part → (A : ℕ → Bool)
+    → ((a b : ℕ) → a < n → b < n → A a ≡ true → A b ≡ true → leads a b ≡ true → ⊥)
+    → count n A ≤ m
+antichain-fits leads n m part p A anti =
+    omega (
+      arith,
+      count-classes n m A part (λ w l t. p .below w l),
+      sum-mono m (λ q. count n (λ w. A w && eqb (part w) q)) (λ q. 1) (λ q l. at-most-one n (λ w. A w && eqb (part w) q) (only q)),
+      sum-one m,
+    )
+  where
+    only : (q i j : ℕ) → i < n → j < n → (A i && eqb (part i) q) ≡ true → (A j && eqb (part j) q) ≡ true → i ≡ j
+    only q i j a b s t = go (ℕ-discrete i j)
+      where
+        go : Dec (i ≡ j) → i ≡ j
+        go (yes e) = e
+        go (no e) =
+            let s′ : (A i ≡ true) × (eqb (part i) q ≡ true) = and-elim (A i) (eqb (part i) q) s in
+            let t′ : (A j ≡ true) × (eqb (part j) q ≡ true) = and-elim (A j) (eqb (part j) q) t in
+            absurd (⊎-elim (anti i j a b (s′ .0) (t′ .0)) (anti j i b a (t′ .0) (s′ .0))
+            (p .related i j a b e (eqb-true (part i) q (s′ .1) ∙ sym (eqb-true (part j) q (t′ .1)))))
+
+module _ (leads : ℕ → ℕ → Bool) (n : ℕ) (small : n ≤ most) (predecessor : List ℕ) (q : Asked leads n n predecessor) where
+  -- no predecessor: no number below n
+  begins-out : (v : ℕ) → v < n → indicator (begins n predecessor v) ≡ indicator (leb n (getD predecessor v 0))
+  unfolding begins
+  begins-out v l = go (eqb (getD predecessor v 0) nobody) refl
+    where
+      go : (b : Bool) → eqb (getD predecessor v 0) nobody ≡ b → indicator b ≡ indicator (leb n (getD predecessor v 0))
+      go true e = let p : getD predecessor v 0 ≡ nobody = eqb-true (getD predecessor v 0) nobody e in sym (ap indicator (le-leb n (getD predecessor v 0) (omega arith)))
+      go false e = sym (ap indicator (lt-leb n (getD predecessor v 0) (q .sound v l (eqb-false (getD predecessor v 0) nobody e) .0)))
+
+  -- as many channels begin as vertices failed
+  begins-failed : count n (begins n predecessor) ≡ count n (q .failed)
+  unfolding count heldBy
+  begins-failed =
+      let at : ℕ → ℕ = λ v. getD predecessor v 0 in
+      let e0 : sum n (λ v. indicator (begins n predecessor v)) ≡ sum n (λ v. indicator (leb n (at v))) = sum-ext n (λ v. indicator (begins n predecessor v)) (λ v. indicator (leb n (at v))) begins-out in
+      let e1 : sum n (λ v. sum n (λ a. indicator (eqb (at v) a))) ≡ sum n (λ a. sum n (λ v. indicator (eqb (at v) a))) = sum-swap n n (λ v a. indicator (eqb (at v) a)) in
+      let e2 : sum n (λ v. sum n (λ a. indicator (eqb (at v) a)) + indicator (leb n (at v))) ≡ sum n (λ v. 1) = sum-ext n (λ v. sum n (λ a. indicator (eqb (at v) a)) + indicator (leb n (at v))) (λ v. 1) (λ v l. one-of n (at v)) in
+      let e3 : sum n (λ a. sum n (λ v. indicator (eqb (at v) a)) + indicator (q .failed a)) ≡ sum n (λ a. 1) = sum-ext n (λ a. sum n (λ v. indicator (eqb (at v) a)) + indicator (q .failed a)) (λ v. 1) (λ a l. q .each a l ∙ ap indicator (lt-ltb a n l)) in
+      omega (
+        arith,
+        e0,
+        e1,
+        e2,
+        e3,
+        sum-add n (λ v. sum n (λ a. indicator (eqb (at v) a))) (λ v. indicator (leb n (at v))),
+        sum-add n (λ a. sum n (λ v. indicator (eqb (at v) a))) (λ a. indicator (q .failed a)),
+      )
+
+  -- of how many vertices of S is a the predecessor
+  abbrev ofS : ℕ → ℕ
+  ofS a = count n (λ v. q .S v && eqb (getD predecessor v 0) a)
+
+  -- a failed or is the predecessor of a vertex of S, and is no vertex of S itself
+  abbrev A : ℕ → Bool
+  A a = leb 1 (indicator (q .failed a) + ofS a) && not (q .S a)
+
+  at-most : (a : ℕ) → a < n → indicator (q .failed a) + ofS a ≤ 1
+  unfolding heldBy count
+  at-most a l = omega (
+    arith,
+    q .each a l,
+    ap indicator (lt-ltb a n l),
+    sum-mono n (λ v. indicator (q .S v && eqb (getD predecessor v 0) a)) (λ v. indicator (eqb (getD predecessor v 0) a)) (λ v m. indicator-and-le (q .S v) (eqb (getD predecessor v 0) a)),
+  )
+
+  covers : (a : ℕ) → a < n → indicator (q .failed a) + ofS a ≤ indicator (q .S a) + indicator (A a)
+  covers a l = go (q .S a) refl (decLt 0 (indicator (q .failed a) + ofS a))
+    where
+      go : (b : Bool) → q .S a ≡ b → Dec (0 < indicator (q .failed a) + ofS a) → indicator (q .failed a) + ofS a ≤ indicator (q .S a) + indicator (A a)
+      go true e d = omega (arith, at-most a l, ap indicator e)
+      go false e (no d) = omega arith
+      go false e (yes d) = rw e (rw (le-leb 1 (indicator (q .failed a) + ofS a) d) (omega (arith, at-most a l)))
+
+  enough : count n (q .failed) ≤ count n A
+  unfolding count
+  enough = omega (
+    arith,
+    sum-mono n (λ a. indicator (q .failed a) + ofS a) (λ a. indicator (q .S a) + indicator (A a)) covers,
+    sum-add n (λ a. indicator (q .failed a)) ofS,
+    sum-add n (λ a. indicator (q .S a)) (λ a. indicator (A a)),
+    count-classes n n (q .S) (λ v. getD predecessor v 0) (λ v l t. q .sound v l (q .closed .held v l t) .0),
+  )
+
+  leads-in : (a : ℕ) → a < n → A a ≡ true → Into leads n (q .S) a
+  leads-in a l t = go (q .failed a) refl
+    where
+      go : (b : Bool) → q .failed a ≡ b → Into leads n (q .S) a
+      go true e = q .into a l e
+      go false e =
+          let t′ : (leb 1 (indicator (q .failed a) + ofS a) ≡ true) × (not (q .S a) ≡ true) = and-elim (leb 1 (indicator (q .failed a) + ofS a)) (not (q .S a)) t in
+          let w : (v : ℕ) × (v < n) × ((q .S v && eqb (getD predecessor v 0) a) ≡ true) = count-positive n (λ v. q .S v && eqb (getD predecessor v 0) a) (omega (arith, leb-true 1 (indicator (q .failed a) + ofS a) (t′ .0), ap indicator e)) in
+          let b : (q .S (w .0) ≡ true) × (eqb (getD predecessor (w .0) 0) a ≡ true) = and-elim (q .S (w .0)) (eqb (getD predecessor (w .0) 0) a) (w .2) in
+          subst (λ x. Into leads n (q .S) x) (eqb-true (getD predecessor (w .0) 0) a (b .1)) (q .closed .into (w .0) (w .1) (b .0))
+
+  apart : (a b : ℕ) → a < n → b < n → A a ≡ true → A b ≡ true → leads a b ≡ true → ⊥
+  apart a b l m s t e =
+      let o : not (q .S b) ≡ true = and-elim (leb 1 (indicator (q .failed b) + ofS b)) (not (q .S b)) t .1 in
+      true≢false (sym (leads-in a l s b m e) ∙ not-true (q .S b) o)
+
+  pub least-begins : (m : ℕ) (part : ℕ → ℕ) → Division leads n m part → count n (begins n predecessor) ≤ m
+  least-begins m part p = omega (arith, begins-failed, enough, antichain-fits leads n m part p A apart)

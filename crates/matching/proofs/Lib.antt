@@ -1,0 +1,11 @@
+pub mod Scan
+pub mod Kept
+pub mod Closed
+pub mod Shut
+pub mod Sound
+pub mod Asked
+pub mod Least
+pub mod Lists
+pub mod Chains
+pub mod Ordered
+pub mod Planned

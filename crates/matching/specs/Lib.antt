@@ -1,0 +1,5 @@
+pub mod Search
+pub mod Lists
+pub mod Chains
+pub mod Division
+pub mod Examples
