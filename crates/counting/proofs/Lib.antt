@@ -3,3 +3,5 @@ pub mod Sums
 pub mod Somes
 pub mod Zeros
 pub mod Classes
+pub mod Falsity
+pub mod Deciding

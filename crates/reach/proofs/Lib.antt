@@ -6,3 +6,4 @@ pub mod Decide
 pub mod Composing
 pub mod Refusing
 pub mod Closures
+pub mod Extending

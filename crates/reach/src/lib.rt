@@ -36,7 +36,7 @@ fn wide(x: u8) -> usize
 }
 
 // As many edges as both lists have.
-fn edge_count<'a>(tails: &'a [u8], heads: &'a [u8]) -> usize
+pub fn edge_count<'a>(tails: &'a [u8], heads: &'a [u8]) -> usize
     ensures { λ r. ⌜ r ≡ edgeCount (now (tails .entry)) (now (heads .entry)) ⌝ }
 {
     if tails.len() < heads.len() {

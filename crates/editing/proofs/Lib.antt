@@ -1,0 +1,5 @@
+pub mod Machines
+pub mod Meaning
+pub mod Linking
+pub mod Sessions
+pub mod Sequences

@@ -1,0 +1,100 @@
+-- What the machine's answers say of its set of edges. Assumes nothing.
+use mathlib.Core.Path.{_≡_, refl, sym, ap, _∙_, subst}
+use mathlib.Core.Logic.{_⊎_, inl, inr, ⊎-elim, _↔_}
+use mathlib.Core.Bool.{Bool, true, false, true≢false, _||_}
+use mathlib.Core.List.{_∷_}
+use Prim.Native.Nat.{ℕ, zero, suc, _≤_, _<_}
+use native.Mathlib.Omega.{arith}
+use borrow.Author.Tests.{leb-true, leb-false, lt-leb}
+use lib.Dec.{eqb, leb}
+use lib.ListN.{length}
+use Rattle.counting.proofs.Truth.{or-elim, true-or-false}
+use Rattle.counting.proofs.Deciding.{eq-decided, or-decided}
+use Rattle.counting.proofs.Falsity.{not-true, neither}
+use Rattle.reach.specs.Graph.{Reaches}
+use Rattle.reach.specs.Graph.Reaches.{one, more}
+use Rattle.reach.proofs.Extending.{reaches-mono, Extends, stays-acyclic}
+use Rattle.editing.specs.Machine.{Graph, Call, Answer, Turn, contains, In, unknown?, reached?, cyclic?, full?, verdict, refusal, insert, change, reply, step, Lawful}
+use Rattle.editing.specs.Machine.Edge.{edge}
+use Rattle.editing.specs.Meaning.{Closes, Why, Exact}
+use Rattle.editing.proofs.Machines.{known, reached-decided, insert-extends, add-made, refusedThree, unknown-leads}
+
+-- ---- `leads`
+
+unknown-which : (g : Graph) (u v : ℕ) → unknown? g u v ≡ true → (g .vertices ≤ u) ⊎ (g .vertices ≤ v)
+unfolding unknown?
+unknown-which g u v e = ⊎-elim (λ b. inl (leb-true _ _ b)) (λ b. inr (leb-true _ _ b)) (or-elim (leb (g .vertices) u) (leb (g .vertices) v) e)
+
+known-both : (g : Graph) (u v : ℕ) → u < g .vertices → v < g .vertices → unknown? g u v ≡ false
+unfolding unknown?
+known-both g u v h k = neither (leb (g .vertices) u) (leb (g .vertices) v) (lt-leb _ _ h) (lt-leb _ _ k)
+
+leads-known : (g : Graph) (u v : ℕ) → u < g .vertices → v < g .vertices → step g (Call.leads u v) .answer ≡ Answer.told (reached? g u v)
+unfolding step reply
+leads-known g u v h k = rw (known-both g u v h k)
+
+told-same : (a b : Bool) → Answer.told a ≡ Answer.told b → a ≡ b
+told-same a b e = cc
+
+add-free : (g h : Graph) (k : ℕ) → change g k h .answer ≡ Answer.added → k ≡ 0
+unfolding change
+add-free g h zero e = refl
+add-free g h (suc k) e = absurd (let z : _≡_ {A = ℕ} 0 1 = cc in omega arith)
+
+-- ---- why an edge is refused
+
+-- the test for a cycle is right: some vertex would reach itself
+closes-decided : (g : Graph) → Lawful g → (u v : ℕ) → (cyclic? g u v ≡ true) ↔ Closes g u v
+unfolding cyclic?
+closes-decided g l u v = ((λ e. made (test .1 e)), λ c. ⊎-elim (λ e. e) (λ e. absurd (none e (c .0) (c .1))) (true-or-false (eqb v u || reached? g v u)))
+  where
+    x : Extends (In (g .edges)) (In (edge u v ∷ g .edges)) u v
+    x = insert-extends (g .edges) u v
+
+    test : ((v ≡ u) ⊎ Reaches (In (g .edges)) v u) ↔ ((eqb v u || reached? g v u) ≡ true)
+    test = or-decided (eqb v u) (reached? g v u) (eq-decided v u) (reached-decided g l v u)
+
+    made : (v ≡ u) ⊎ Reaches (In (g .edges)) v u → Closes g u v
+    made (inl e) = (u, subst (Reaches (In (edge u v ∷ g .edges)) u) e (one (x .new)))
+    made (inr p) = (u, more (x .new) (reaches-mono (x .old) p))
+
+    none : (eqb v u || reached? g v u) ≡ false → (w : ℕ) → Reaches (In (edge u v ∷ g .edges)) w w → ⊥
+    none e = stays-acyclic (In (g .edges)) (In (edge u v ∷ g .edges)) u v x (λ q. true≢false (sym (test .0 (inl q)) ∙ e)) (λ p. true≢false (sym (test .0 (inr p)) ∙ e)) (l .acyclic)
+
+refusal-why : (g : Graph) → Lawful g → (u v : ℕ) → Why g u v (refusal g u v)
+unfolding refusal verdict full?
+refusal-why g l u v = go (unknown? g u v) refl (contains (g .edges) u v) refl (cyclic? g u v) refl (leb 4096 (length (g .edges))) refl
+  where
+    no : {b : Bool} → b ≡ false → b ≡ true → ⊥
+    no p q = true≢false (sym q ∙ p)
+
+    open-cycle : cyclic? g u v ≡ false → Closes g u v → ⊥
+    open-cycle e c = no e (closes-decided g l u v .1 c)
+
+    go : (o : Bool) → unknown? g u v ≡ o → (d : Bool) → contains (g .edges) u v ≡ d → (c : Bool) → cyclic? g u v ≡ c
+        → (f : Bool) → leb 4096 (length (g .edges)) ≡ f → Why g u v (verdict o d c f)
+    go true p d q c r f s = Why.unknown (unknown-which g u v p)
+    go false p true q c r f s = Why.duplicate (known g u v p .0) (known g u v p .1) q
+    go false p false q true r f s = Why.cycle (known g u v p .0) (known g u v p .1) (no q) (closes-decided g l u v .0 r)
+    go false p false q false r true s = Why.full (known g u v p .0) (known g u v p .1) (no q) (open-cycle r) (leb-true _ _ s)
+    go false p false q false r false s = Why.free (known g u v p .0) (known g u v p .1) (no q) (open-cycle r) (leb-false _ _ s)
+
+pub exact : (g : Graph) → Lawful g → Exact g
+unfolding step reply insert refusedThree
+exact g l = record {
+  lawful = l;
+  unknown = λ u v h. ap (λ (t : Turn). t .answer) (unknown-leads g u v h);
+  reached = λ u v h k. (
+    (λ e. reached-decided g l u v .1 (told-same _ _ (sym (leads-known g u v h k) ∙ e))),
+    λ p. leads-known g u v h k ∙ ap Answer.told (reached-decided g l u v .0 p),
+  );
+  unreached = λ u v h k. (
+    (λ e p. true≢false (sym (reached-decided g l u v .0 p) ∙ told-same _ _ (sym (leads-known g u v h k) ∙ e))),
+    λ p. leads-known g u v h k ∙ ap Answer.told (not-true (reached? g u v) (λ e. p (reached-decided g l u v .1 e))),
+  );
+  refusals = refusal-why g l;
+  added = λ u v e x y. rw (add-made g u v (add-free g (insert g u v) (refusal g u v) e)) (added-edges u v x y);
+}
+  where
+    added-edges : (u v x y : ℕ) → In (edge u v ∷ g .edges) x y ↔ (In (g .edges) x y ⊎ ((x ≡ u) × (y ≡ v)))
+    added-edges u v x y = let m = insert-extends (g .edges) u v in (m .only x y, ⊎-elim (m .old x y) (λ p. rw (p .0, p .1) (m .new)))

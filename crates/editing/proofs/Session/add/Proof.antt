@@ -1,0 +1,61 @@
+use mathlib.Core.Path.{refl, sym, _∙_}
+use Prim.Native.Nat.{_<_}
+use native.Mathlib.Omega.{arith}
+use borrow.Author.Needs.{needs}
+use Rattle.editing.proofs.Sessions.{add-refused, add-accepted}
+use Rattle.editing.proofs.Session.add.Statement.{statement}
+use Rattle.editing.proofs.Session.add.Tie as tie
+
+refusal-of-requires : tie.Need-refusal-of-requires
+refusal-of-requires c κs = search needs
+
+returns : tie.Need-returns
+returns c =
+    let a = c .before .before .args in
+    add-refused (a .self) (a .tail) (a .head) _ (c .if1 .taken) (c .before .refusal-of .ensures .0)
+
+-- not refused: the ends are in the tables, and there is room
+free : (c : tie.Else1) → let a = c .before .before .args in (a .tail < 128) × (a .head < 128) × (a .self .count < 4096)
+free c = c .before .refusal-of .ensures .1 (c .if1 .left)
+
+slice-aggregate-insert : tie.Need-slice-aggregate-insert
+slice-aggregate-insert c = search needs
+
+mul-insert : tie.Need-mul-insert
+mul-insert c = omega (arith, free (c .before .before) .0)
+
+insert-requires : tie.Need-insert-requires
+insert-requires c κs = search needs
+
+slice-aggregate-link : tie.Need-slice-aggregate-link
+slice-aggregate-link c = search needs
+
+link-requires : tie.Need-link-requires
+link-requires c κs =
+    let h = free (c .before .before .before .before .before .before) in
+    (sym (slice-aggregate-link c), h .0, h .1)
+
+add-t11 : tie.Need-add-t11
+add-t11 c = omega (arith, free (c .before .before .before .before .before .before .before .before) .2)
+
+returns-2 : tie.Need-returns-2
+returns-2 c =
+    let insert = c .before .before .before .before .before in
+    let e = insert .before .before .before in
+    let a = e .before .before .args in
+    add-accepted (a .self) (a .tail) (a .head) _ (sym (slice-aggregate-insert (insert .before))) (sym (e .if1 .left) ∙ e .before .refusal-of .ensures .0)
+    (record { vertices = refl; count = refl; edges = insert .insert .ensures .1; reach = c .before .link .ensures })
+
+pub add-spec : {M : Type 1} → statement M
+add-spec =
+    tie.close
+    (tie.spec
+    refusal-of-requires
+    returns
+    slice-aggregate-insert
+    mul-insert
+    insert-requires
+    slice-aggregate-link
+    link-requires
+    add-t11
+    returns-2)

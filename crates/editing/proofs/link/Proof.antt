@@ -1,0 +1,143 @@
+use mathlib.Core.Path.{_≡_, refl, sym, ap, _∙_, subst}
+use mathlib.Core.Logic.{⊎-elim}
+use mathlib.Core.List.{List, [], _∷_}
+use Prim.Native.Nat.{ℕ, _+_, _-_, _*_, _≤_, zero-le}
+use native.Mathlib.Omega.{arith}
+use borrow.Author.Needs.{needs}
+use borrow.Author.Tests.{le-leb}
+use lib.ListN.{length, getD}
+use Rattle.masks.specs.Sets.{United}
+use Rattle.masks.proofs.Tables.{pair-row, absorbed-law}
+use Rattle.editing.specs.Promise.{Linked}
+use Rattle.editing.proofs.Linking.{Target, target-law, linked-none, linked-set, linked-clear}
+use Rattle.editing.proofs.link.Statement.{statement}
+use Rattle.editing.proofs.link.Tie as tie
+
+abbrev Inv-loop : tie.InvT-loop
+Inv-loop reach₀ tail head row u₀ reach u = (u ≤ 128) × (length reach ≡ 256) × (length row ≡ 2) × Target 2 reach₀ head row × Linked 2 reach₀ tail head u reach
+
+abbrev μ-loop : tie.MeasureT-loop
+μ-loop reach₀ tail head row u₀ reach u = 128 - u
+
+mul-t6 : tie.Need-mul-t6 Inv-loop μ-loop
+mul-t6 c = search needs
+
+mul-t7 : tie.Need-mul-t7 Inv-loop μ-loop
+mul-t7 c = search needs
+
+slice-read-t9 : tie.Need-slice-read-t9 Inv-loop μ-loop
+slice-read-t9 c = search needs
+
+mul-t10 : tie.Need-mul-t10 Inv-loop μ-loop
+mul-t10 c = search needs
+
+add-t11 : tie.Need-add-t11 Inv-loop μ-loop
+add-t11 c = search needs
+
+mul-t12 : tie.Need-mul-t12 Inv-loop μ-loop
+mul-t12 c = search needs
+
+slice-read-t14 : tie.Need-slice-read-t14 Inv-loop μ-loop
+slice-read-t14 c = search needs
+
+slice-aggregate-insert : tie.Need-slice-aggregate-insert Inv-loop μ-loop
+slice-aggregate-insert c = search needs
+
+insert-requires : tie.Need-insert-requires Inv-loop μ-loop
+insert-requires c κs = search needs
+
+loop-holds : tie.Need-loop-holds Inv-loop μ-loop
+loop-holds c =
+    let st = c .before .before .before .before .before .before in
+    let call = c .before .insert in
+    let t = st .args .reach .now in
+    let head = st .args .head in
+    let row : List ℕ = getD t (2 * head) 0 ∷ getD t (2 * head + 1) 0 ∷ [] in (
+      zero-le,
+      st .pre .0,
+      call .kept .0,
+      subst (Target 2 t head) (sym (call .ensures .1)) (target-law 2 t head row (st .pre .2) refl (pair-row t head _ _ (ap (λ (i : ℕ). getD t i 0) (let z : 2 * head ≡ 2 * head + 0 = omega arith in z)) refl)),
+      linked-none 2 t (st .args .tail) head,
+    )
+
+comes-requires : tie.Need-comes-requires Inv-loop μ-loop
+comes-requires c κs = search needs
+
+mul-unite : tie.Need-mul-unite Inv-loop μ-loop
+mul-unite c = search needs
+
+slice-aggregate-unite : tie.Need-slice-aggregate-unite Inv-loop μ-loop
+slice-aggregate-unite c = search needs
+
+unite-requires : tie.Need-unite-requires Inv-loop μ-loop
+unite-requires c κs = search needs
+
+add-u : tie.Need-add-u Inv-loop μ-loop
+add-u c = search needs
+
+loop-less : tie.Need-loop-less Inv-loop μ-loop
+loop-less c = search needs
+
+loop-again : tie.Need-loop-again Inv-loop μ-loop
+loop-again c =
+    let st = c .before .before .before .before .before .before .before .before .before .before .before in
+    let a = st .args in
+    let l = c .before .before .before .before .loop in
+    let row = c .before .before .before .before .before .before .insert .last .0 in
+    let e = c .before .comes .ensures in
+    let done : List ℕ → Type 0 = λ s. Linked 2 (a .reach .now) (a .tail) (a .head) (l .u + 1) s in
+    ⊎-elim
+    (λ w.
+    let call = w .3 in
+    let size : 2 * l .u + length row ≤ length (l .reach) = omega arith in
+    let united = subst (λ (j : ℕ). United (l .reach) (2 * l .u) row j (call .last .0)) (l .inv .2) (call .ensures .1 .0 (call .ensures .0 ∙ le-leb _ _ size)) in (
+      omega arith,
+      ap length (w .6) ∙ call .kept .0 ∙ l .inv .1,
+      l .inv .2,
+      l .inv .3,
+      subst done (sym (w .6))
+          (linked-set 2 (a .reach .now) (a .tail) (a .head) (l .u) (l .reach) (l .inv .4) (call .last .0) row (sym e ∙ w .0 .taken) (st .pre .1) (l .inv .3) (absorbed-law 2 (l .reach) (l .u) row (call .last .0) united)),
+    ))
+    (λ w. (
+      omega arith,
+      ap length (w .1) ∙ l .inv .1,
+      l .inv .2,
+      l .inv .3,
+      subst done (sym (w .1)) (linked-clear 2 (a .reach .now) (a .tail) (a .head) (l .u) (l .reach) (l .inv .4) (sym e ∙ w .0 .left) (st .pre .1)),
+    ))
+    (c .if1 .came)
+
+same-length : tie.Need-same-length Inv-loop μ-loop
+same-length c = search needs
+
+returns : tie.Need-returns Inv-loop μ-loop
+returns c =
+    let a = c .before .before .before .before .before .before .before .before .args in
+    let l = c .before .loop in
+    subst (λ (n : ℕ). Linked 2 (a .reach .now) (a .tail) (a .head) n (l .reach)) (let q : l .u ≡ 128 = omega arith in q) (l .inv .4)
+
+pub link-spec : {M : Type 1} → statement M
+link-spec =
+    tie.close
+    (tie.spec
+    Inv-loop
+    μ-loop
+    mul-t6
+    mul-t7
+    slice-read-t9
+    mul-t10
+    add-t11
+    mul-t12
+    slice-read-t14
+    slice-aggregate-insert
+    insert-requires
+    loop-holds
+    comes-requires
+    mul-unite
+    slice-aggregate-unite
+    unite-requires
+    add-u
+    loop-less
+    loop-again
+    same-length
+    returns)

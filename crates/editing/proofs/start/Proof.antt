@@ -1,0 +1,42 @@
+use mathlib.Core.Logic.{inl, inr}
+use native.Mathlib.Omega.{arith}
+use borrow.Author.Needs.{needs}
+use Rattle.editing.proofs.Machines.{start-passes, start-fails}
+use Rattle.editing.proofs.Sessions.{started}
+use Rattle.editing.proofs.start.Statement.{statement}
+use Rattle.editing.proofs.start.Tie as tie
+
+blank-session-requires : tie.Need-blank-session-requires
+blank-session-requires c κs = search needs
+
+returns : tie.Need-returns
+returns c =
+    let n = c .before .before .args .n in
+    let e = start-fails n (inl (c .before .if1 .taken)) in started n 2 0 _ (e .0) (e .1) (omega arith) (c .blank-session .ensures)
+
+blank-session-requires-2 : tie.Need-blank-session-requires-2
+blank-session-requires-2 c κs = search needs
+
+returns-2 : tie.Need-returns-2
+returns-2 c =
+    let n = c .before .before .before .args .n in
+    let e = start-fails n (inr (c .before .if2 .taken)) in started n 2 0 _ (e .0) (e .1) (omega arith) (c .blank-session2 .ensures)
+
+blank-session-requires-3 : tie.Need-blank-session-requires-3
+blank-session-requires-3 c κs = search needs
+
+returns-3 : tie.Need-returns-3
+returns-3 c =
+    let n = c .before .before .before .args .n in
+    let e = start-passes n (c .before .before .if1 .left) (c .before .if2 .left) in started n 0 n _ (e .0) (e .1) (c .before .if2 .left) (c .blank-session3 .ensures)
+
+pub start-spec : {M : Type 1} → statement M
+start-spec =
+    tie.close
+    (tie.spec
+    blank-session-requires
+    returns
+    blank-session-requires-2
+    returns-2
+    blank-session-requires-3
+    returns-3)

@@ -1,0 +1,5 @@
+pub mod Machine
+pub mod Promise
+pub mod Meaning
+pub mod Histories
+pub mod Examples

@@ -1,0 +1,56 @@
+-- `geometry::aligned` meets its contract. Columns are below 2^16 and rows below 2^8, so the products fit an `i32`. Assumes nothing.
+use Prim.Native.Nat.{ℕ, _+_, _*_, _<_}
+use native.Mathlib.Omega.{arith}
+use borrow.Author.Needs.{needs}
+use lib.Dec.{lit<}
+use lib.IntN.{ℤ, _*ℤ_}
+use mir.Syntax.{w32}
+use mir.Val.{SFits, toZ, ofZ}
+use Rattle.geometry.specs.Signed.{Diff}
+use Rattle.geometry.proofs.Differences.{product-diff, product-fits, bits-equal}
+use Rattle.geometry.proofs.aligned.Statement.{statement}
+use Rattle.geometry.proofs.aligned.Tie as tie
+
+-- of differences of columns and of rows
+module _ (z v : ℤ) (a b c d : ℕ) (hz : Diff z a b) (hv : Diff v c d) (za : a < 65536) (zb : b < 65536) (vc : c < 256) (vd : d < 256) where
+  fits : SFits w32 (toZ w32 (ofZ w32 z) *ℤ toZ w32 (ofZ w32 v))
+  fits = product-fits w32 65536 256 (lit< tt) (lit< tt) (lit< tt) z v a b c d za zb vc vd hz hv
+
+  diff : Diff (toZ w32 (ofZ w32 z) *ℤ toZ w32 (ofZ w32 v)) (a * c + b * d) (a * d + b * c)
+  diff = product-diff w32 65536 256 (lit< tt) (lit< tt) (lit< tt) z v a b c d za zb vc vd hz hv
+
+minus-requires : tie.Need-minus-requires
+minus-requires c κs = search needs
+
+minus-requires-2 : tie.Need-minus-requires-2
+minus-requires-2 c κs = search needs
+
+mul-left : tie.Need-mul-left
+mul-left c = fits _ _ _ _ _ _ (c .before .minus .ensures) (c .minus2 .ensures) (omega arith) (omega arith) (omega arith) (omega arith)
+
+minus-requires-3 : tie.Need-minus-requires-3
+minus-requires-3 c κs = search needs
+
+minus-requires-4 : tie.Need-minus-requires-4
+minus-requires-4 c κs = search needs
+
+mul-right : tie.Need-mul-right
+mul-right c = fits _ _ _ _ _ _ (c .before .minus3 .ensures) (c .minus4 .ensures) (omega arith) (omega arith) (omega arith) (omega arith)
+
+returns : tie.Need-returns
+returns c =
+    bits-equal w32 _ _ _ _ _ _ (mul-left (c .before .before)) (mul-right c)
+    (diff _ _ _ _ _ _ (c .before .before .before .minus .ensures) (c .before .before .minus2 .ensures) (omega arith) (omega arith) (omega arith) (omega arith))
+    (diff _ _ _ _ _ _ (c .before .minus3 .ensures) (c .minus4 .ensures) (omega arith) (omega arith) (omega arith) (omega arith))
+
+pub aligned-spec : {M : Type 1} → statement M
+aligned-spec =
+    tie.close
+    (tie.spec
+    minus-requires
+    minus-requires-2
+    mul-left
+    minus-requires-3
+    minus-requires-4
+    mul-right
+    returns)

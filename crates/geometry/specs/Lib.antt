@@ -1,0 +1,7 @@
+pub mod Segment
+pub mod Signed
+pub mod Test
+pub mod Placement
+pub mod Polylines
+pub mod Courses
+pub mod Examples

@@ -1,0 +1,42 @@
+use mathlib.Core.Path.{sym, ap, _∙_}
+use Rattle.script.specs.declared.Numeral.{Numeral}
+use Rattle.script.specs.Scanning.{withNumber, finishedOne, finished}
+use borrow.Author.Needs.{needs}
+use Rattle.script.proofs.Scanner.finish.Statement.{statement}
+use Rattle.script.proofs.Scanner.finish.Tie as tie
+
+enum-told : tie.Need-enum-told
+enum-told c = search needs
+
+enum-known-first : tie.Need-enum-known-first
+enum-known-first c = search needs
+
+finish-one-requires : tie.Need-finish-one-requires
+finish-one-requires c κs = search needs
+
+enum-told-2 : tie.Need-enum-told-2
+enum-told-2 c = search needs
+
+returns : tie.Need-returns
+unfolding finished
+returns c = rw (c .enum-told .given .1)
+
+returns-2 : tie.Need-returns-2
+unfolding finished
+returns-2 c = c .finish-one .ensures ∙ sym (ap (λ (n : Numeral). withNumber n (finishedOne (c .before .before .before .before .args .self))) (c .before .before .first .given .1))
+
+returns-3 : tie.Need-returns-3
+unfolding finished
+returns-3 c = rw (c .enum-told2 .given .1)
+
+pub finish-spec : {M : Type 1} → statement M
+finish-spec =
+    tie.close
+    (tie.spec
+    enum-told
+    enum-known-first
+    finish-one-requires
+    enum-told-2
+    returns
+    returns-2
+    returns-3)

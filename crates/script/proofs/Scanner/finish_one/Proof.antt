@@ -1,0 +1,61 @@
+use borrow.Author.Tests.{eq-eqb, ne-eqb}
+use mathlib.Core.Path.{sym, ap, _∙_}
+use Rattle.script.specs.declared.Numeral.{Numeral}
+use Rattle.script.specs.Scanning.{withNumber, finishedTwo, finishedOne}
+use borrow.Author.Needs.{needs}
+use Rattle.script.proofs.Scanner.finish_one.Statement.{statement}
+use Rattle.script.proofs.Scanner.finish_one.Tie as tie
+
+returns : tie.Need-returns
+unfolding finishedOne
+returns c = rw (eq-eqb _ _ (c .before .before .if1 .taken), eq-eqb _ _ (c .if2 .taken))
+
+returns-2 : tie.Need-returns-2
+unfolding finishedOne
+returns-2 c = rw (eq-eqb _ _ (c .before .before .if1 .taken), ne-eqb _ _ (c .if2 .left))
+
+returns-3 : tie.Need-returns-3
+unfolding finishedOne
+returns-3 c = rw (ne-eqb _ _ (c .before .before .if1 .left), ne-eqb _ _ (c .if3 .taken))
+
+enum-told : tie.Need-enum-told
+enum-told c = search needs
+
+enum-known-second : tie.Need-enum-known-second
+enum-known-second c = search needs
+
+finish-two-requires : tie.Need-finish-two-requires
+finish-two-requires c κs = search needs
+
+enum-told-2 : tie.Need-enum-told-2
+enum-told-2 c = search needs
+
+returns-4 : tie.Need-returns-4
+unfolding finishedOne
+returns-4 c = rw (ne-eqb _ _ (c .before .before .before .before .if1 .left), eq-eqb _ _ (c .before .before .if3 .left), c .enum-told .given .1)
+
+returns-5 : tie.Need-returns-5
+unfolding finishedOne
+returns-5 c =
+    let a = c .before .before .before .before .before .before .before .before .args in
+    rw (ne-eqb _ _ (c .before .before .before .before .before .before .if1 .left), eq-eqb _ _ (c .before .before .before .before .if3 .left))
+    (c .finish-two .ensures ∙ sym (ap (λ (n : Numeral). withNumber n (finishedTwo (a .self) (a .u))) (c .before .before .second .given .1)))
+
+returns-6 : tie.Need-returns-6
+unfolding finishedOne
+returns-6 c = rw (ne-eqb _ _ (c .before .before .before .before .if1 .left), eq-eqb _ _ (c .before .before .if3 .left), c .enum-told2 .given .1)
+
+pub finish-one-spec : {M : Type 1} → statement M
+finish-one-spec =
+    tie.close
+    (tie.spec
+    returns
+    returns-2
+    returns-3
+    enum-told
+    enum-known-second
+    finish-two-requires
+    enum-told-2
+    returns-4
+    returns-5
+    returns-6)

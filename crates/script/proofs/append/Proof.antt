@@ -1,0 +1,51 @@
+use mathlib.Core.Path.{ap, _∙_}
+use Prim.Native.Nat.{ℕ, _+_, _-_, _*_, min}
+use borrow.Author.Needs.{needs}
+use borrow.Author.Tests.{le-leb, lt-leb}
+use Rattle.script.specs.declared.Numeral.{Numeral}
+use Rattle.script.specs.Orders.{digit?}
+use Rattle.script.specs.Scanning.{appended}
+use Rattle.script.proofs.append.Statement.{statement}
+use Rattle.script.proofs.append.Tie as tie
+
+returns : tie.Need-returns
+unfolding appended digit?
+returns c = simp (lt-leb _ _ (c .if1 .taken))
+
+returns-2 : tie.Need-returns-2
+unfolding appended digit?
+returns-2 c = simp (le-leb _ _ (c .before .if1 .left), lt-leb _ _ (c .if2 .taken))
+
+capped-requires : tie.Need-capped-requires
+capped-requires c κs = search needs
+
+mul-capped : tie.Need-mul-capped
+mul-capped c = search needs
+
+cast-capped : tie.Need-cast-capped
+cast-capped c = search needs
+
+add-capped : tie.Need-add-capped
+add-capped c = search needs
+
+capped-requires-2 : tie.Need-capped-requires-2
+capped-requires-2 c κs = search needs
+
+returns-3 : tie.Need-returns-3
+unfolding appended digit?
+returns-3 c =
+    simp (le-leb _ _ (c .before .before .before .if1 .left), le-leb _ _ (c .before .before .if2 .left))
+    (ap Numeral.Value (c .capped2 .ensures ∙ ap (λ (v : ℕ). min (v * 10 + (c .before .before .before .before .args .byte - 48)) 129) (c .before .capped .ensures)))
+
+pub append-spec : {M : Type 1} → statement M
+append-spec =
+    tie.close
+    (tie.spec
+    returns
+    returns-2
+    capped-requires
+    mul-capped
+    cast-capped
+    add-capped
+    capped-requires-2
+    returns-3)

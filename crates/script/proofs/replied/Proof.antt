@@ -1,0 +1,28 @@
+use mathlib.Core.Path.{_≡_, refl}
+use mathlib.Core.Logic.{_≢_}
+use mathlib.Core.Bool.{Bool}
+use Prim.Native.Nat.{ℕ, zero, suc}
+use Rattle.editing.specs.Promise.{replyAnswer}
+use Rattle.script.specs.declared.Outcome.{Outcome}
+use Rattle.script.specs.Performing.{outcomeOf}
+use Rattle.script.proofs.replied.Statement.{statement}
+use Rattle.script.proofs.replied.Tie as tie
+
+refused : (k : ℕ) (b : Bool) → k ≢ 0 → Outcome.Refused k ≡ outcomeOf (replyAnswer k b)
+unfolding outcomeOf replyAnswer
+refused zero b h = absurd (h refl)
+refused (suc k) b h = refl
+
+returns : tie.Need-returns
+returns c = refused _ _ (c .if1 .taken)
+
+returns-2 : tie.Need-returns-2
+unfolding outcomeOf replyAnswer
+returns-2 c = rw (c .before .if1 .left, c .if2 .taken)
+
+returns-3 : tie.Need-returns-3
+unfolding outcomeOf replyAnswer
+returns-3 c = rw (c .before .if1 .left, c .if2 .left)
+
+pub replied-spec : {M : Type 1} → statement M
+replied-spec = tie.close (tie.spec returns returns-2 returns-3)

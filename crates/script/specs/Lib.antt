@@ -1,0 +1,4 @@
+pub mod Orders
+pub mod Scanning
+pub mod Performing
+pub mod Examples
