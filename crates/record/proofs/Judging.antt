@@ -125,6 +125,18 @@ module _ (n : ℕ) (tails heads : List ℕ) (given : Bool) (field : List ℕ) wh
       go : (o s : Bool) → cases o s strangers (duplicate? (edgeCount tails heads) tails heads) ≡ 0 → verdict o s ≡ 0
       go o s e = ⊎-elim (λ z. z) (λ z. absurd (z (sym (early o s strangers (duplicate? (edgeCount tails heads) tails heads) z) ∙ e))) (zero-or-not (verdict o s))
 
+  -- an accepted graph passes each check of its given channels
+  pub passed : refusalOf c ≡ 0 → (looseRefusal c ≡ 0) × ((given && repeats? (verticesOf field)) ≡ false)
+  unfolding linesRefusal
+  passed h =
+      let loose : looseRefusal c ≡ 0 = ⊎-elim (λ z. z) (λ z. absurd (z (sym (loosely-refused z) ∙ h))) (zero-or-not (looseRefusal c)) in
+      (loose, go (some 128 (λ u. reachable? n tails heads u u)) (given && repeats? (verticesOf field)) (choose (given && lacks? n (verticesOf field)) (λ _. 6) (λ _. choose (given && broken? (reachable? n tails heads) (linesOf field)) (λ _. 7) (λ _. 0))) (sym (refusal-later loose) ∙ h))
+    where
+      go : (t r : Bool) (k : ℕ) → choose t (λ _. 5) (λ _. choose r (λ _. 6) (λ _. k)) ≡ 0 → r ≡ false
+      go true r k e = absurd (let z : _≡_ {A = ℕ} 5 0 = e in omega arith)
+      go false true k e = absurd (let z : _≡_ {A = ℕ} 6 0 = e in omega arith)
+      go false false k e = refl
+
 -- ---- given channels by a relation that is the same for all that they name
 
 unknown-append : (n : ℕ) (l s : List ℕ) → unknown? n (l ++ s) ≡ false → (unknown? n l ≡ false) × (unknown? n s ≡ false)

@@ -1,12 +1,14 @@
 -- Edges taken byte by byte are the pairs of their bytes. Assumes nothing.
 use mathlib.Core.Path.{_≡_, refl, sym, ap, _∙_, subst}
+use mathlib.Core.Logic.{⊎-elim}
 use mathlib.Core.List.{List, [], _∷_}
 use Prim.Native.Nat.{ℕ, zero, suc, _+_, _*_, _/_, _≤_, _<_}
 use native.Mathlib.Nat.{not-suc-le-zero}
 use native.Mathlib.Omega.{arith}
 use borrow.Author.Count.{below-more}
-use lib.ListN.{length, getD, take, drop, set, replicate, length-set, length-take, length-drop}
+use lib.ListN.{length, getD, take, drop, set, replicate, length-set, length-take, length-drop, List·getD-eq-default}
 use lib.Seq.{ext-getD, length-take-le, getD-take, getD-drop, getD-set-same, getD-set-other}
+use Rattle.counting.proofs.Truth.{lt-or-le}
 use Rattle.counting.proofs.Zeros.{zeros}
 use Rattle.record.specs.declared.edges.Edges.{Edges}
 use Rattle.record.specs.Content.{alternate, tailsOf, headsOf, Edged}
@@ -80,3 +82,28 @@ module _ (b : List ℕ) (start m : ℕ) (fits : start + 2 * m ≤ length b) wher
       (let n = bytes-length in let d = length-drop 1 (take (2 * m) (drop start b)) in omega arith)
       (λ i l. e .head i l ∙ ap (λ (j : ℕ). getD b j 0) (let q : start + 2 * i + 1 ≡ start + (1 + 2 * i) = omega arith in q)
       ∙ sym (getD-drop 1 (take (2 * m) (drop start b)) (2 * i) 0 ∙ byte-at (1 + 2 * i) (omega arith)))
+
+  -- as many as there are edges
+  pub pair-lengths : (length (tailsOf (take (2 * m) (drop start b))) ≡ m) × (length (headsOf (take (2 * m) (drop start b))) ≡ m)
+  unfolding tailsOf headsOf
+  pair-lengths =
+      let n = bytes-length in
+      let d = length-drop 1 (take (2 * m) (drop start b)) in
+      let t = alternate-length (take (2 * m) (drop start b)) in
+      let h = alternate-length (drop 1 (take (2 * m) (drop start b))) in
+      (omega arith, omega arith)
+
+  -- entry by entry, and 0 past the last
+  pub edged-entries : (r : Edges) → m ≤ 4096 → Edged b start m r → (i : ℕ)
+      → (getD (r .tails) i 0 ≡ getD (tailsOf (take (2 * m) (drop start b))) i 0) × (getD (r .heads) i 0 ≡ getD (headsOf (take (2 * m) (drop start b))) i 0)
+  edged-entries r few e i = (
+    entry (r .tails) (tailsOf (take (2 * m) (drop start b))) (edged-tails r few e) (pair-lengths .0) (λ l. e .past i l .0),
+    entry (r .heads) (headsOf (take (2 * m) (drop start b))) (edged-heads r few e) (pair-lengths .1) (λ l. e .past i l .1),
+  )
+    where
+      entry : (a s : List ℕ) → take m a ≡ s → length s ≡ m → (m ≤ i → getD a i 0 ≡ 0) → getD a i 0 ≡ getD s i 0
+      entry a s same long past =
+          ⊎-elim
+          (λ l. sym (getD-take m a i 0 l) ∙ ap (λ (x : List ℕ). getD x i 0) same)
+          (λ l. past l ∙ sym (List·getD-eq-default s 0 (omega arith)))
+          (lt-or-le i m)

@@ -15,7 +15,7 @@ pub struct Edges {
 }
 
 // The m edges whose bytes begin at `start`, tail and head in turn.
-fn edges_at(b: &[u8], start: usize, m: usize) -> Edges
+pub(crate) fn edges_at(b: &[u8], start: usize, m: usize) -> Edges
     requires { ⌜ (m ≤ 4096) × (start + 2 * m ≤ length (now b)) ⌝ }
     ensures { λ r. ⌜ Edged (now (b .entry)) start m r ⌝ }
 {

@@ -5,6 +5,7 @@ ghost use Prim.Native.Nat.{_<_};
 pub mod checks;
 mod edges;
 pub mod layout;
+pub mod reading;
 
 // A byte as a usize: asks nothing of the byte, where a cast of an element asks that it fits.
 pub(crate) fn wide(x: u8) -> usize
