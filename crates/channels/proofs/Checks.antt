@@ -3,18 +3,18 @@ use mathlib.Core.Path.{_≡_, refl, sym, ap, _∙_, subst}
 use mathlib.Core.Logic.{_≢_}
 use mathlib.Core.Bool.{Bool, true, false, true≢false, not, _&&_, _||_}
 use mathlib.Core.List.{List, [], _∷_}
-use Prim.Native.Nat.{ℕ, _+_, _-_, _≤_, _<_}
+use Prim.Native.Nat.{ℕ, suc, _+_, _-_, _≤_, _<_}
 use native.Mathlib.Omega.{arith}
 use native.Mathlib.Decide.{ℕ-discrete}
 use lib.ListN.{length, getD, drop, replicate}
 use lib.Dec.{eqb, leb}
-use borrow.Author.Tests.{eq-eqb, ne-eqb, le-leb, lt-leb, leb-false, not-false}
+use borrow.Author.Tests.{eq-eqb, ne-eqb, lt-ltb, le-leb, lt-leb, leb-false, not-false}
 use Rattle.counting.specs.Count.{indicator, choose}
 use Rattle.counting.proofs.Truth.{indicator-le, or-neither}
 use Rattle.counting.proofs.Somes.{some-found, some-none}
 use Rattle.masks.specs.Sets.{member?, inserted}
 use Rattle.masks.proofs.Members.{length-inserted, inserted-here, inserted-other, member-zeros}
-use Rattle.matching.specs.Lists.{times, has, linked, allLinked}
+use Rattle.matching.specs.Lists.{times, has, linked, every, full, allLinked}
 use Rattle.matching.specs.Division.{Covers}
 use Rattle.matching.proofs.Lists.{Within, times-here, times-other, times-tail, times-none, has-true, has-false, times-hasnt}
 use Rattle.channels.specs.Given.{front, lines, filled, linesOf, verticesOf, unknown?, repeats?, lacks?, broken?}
@@ -79,12 +79,20 @@ pub broken-linked : (leads : ℕ → ℕ → Bool) (ls : List (List ℕ)) → br
 unfolding broken?
 broken-linked leads ls e = not-false (allLinked leads ls) e
 
+filled-full : (ls : List (List ℕ)) → every full (filled ls) ≡ true
+unfolding filled every
+filled-full [] = refl
+filled-full ([] ∷ ls) = filled-full ls
+filled-full ((v ∷ l) ∷ ls) = rw (lt-ltb 0 (suc (length l)) (omega arith)) (filled-full ls)
+
 -- channels that pass all checks
 pub given-covers : (leads : ℕ → ℕ → Bool) (n : ℕ) (field : List ℕ) → unknown? n (verticesOf field) ≡ false → repeats? (verticesOf field) ≡ false → lacks? n (verticesOf field) ≡ false
     → broken? leads (linesOf field) ≡ false → Covers leads n (linesOf field)
+unfolding linesOf
 given-covers leads n field u p q b = record {
   once = λ v h. omega (arith, repeats-once (verticesOf field) p v, lacks-has n (verticesOf field) q v h);
   only = unknown-within n (verticesOf field) u;
+  filled = filled-full (lines 0 field);
   next = broken-linked leads (linesOf field) b;
 }
 
@@ -214,7 +222,7 @@ module _ (field : List ℕ) where
 -- ---- a vertex that is not led to
 
 linked-filled : (leads : ℕ → ℕ → Bool) (ls : List (List ℕ)) → allLinked leads (filled ls) ≡ allLinked leads ls
-unfolding filled allLinked linked
+unfolding filled every linked
 linked-filled leads [] = refl
 linked-filled leads ([] ∷ ls) = linked-filled leads ls
 linked-filled leads ((v ∷ l) ∷ ls) = ap (λ b. linked leads (v ∷ l) && b) (linked-filled leads ls)
@@ -234,7 +242,7 @@ module _ (leads : ℕ → ℕ → Bool) where
 
   -- a line has ended
   linked-ended : (last : ℕ) (ls : List (List ℕ)) → allLinked leads (after last ([] ∷ ls)) ≡ allLinked leads ls
-  unfolding after allLinked linked front
+  unfolding after every linked front
   linked-ended last ls = go (eqb last 256)
     where
       go : (b : Bool) → allLinked leads (choose b (λ _. [] ∷ ls) (λ _. front last ([] ∷ ls))) ≡ allLinked leads ls
@@ -242,7 +250,7 @@ module _ (leads : ℕ → ℕ → Bool) where
       go false = refl
 
   linked-two : (u v : ℕ) (ls : List (List ℕ)) → allLinked leads (front u (front v ls)) ≡ (leads u v && allLinked leads (front v ls))
-  unfolding front allLinked linked
+  unfolding front every linked
   linked-two u v [] = and-shift (leads u v) true true
   linked-two u v (l ∷ ls) = and-shift (leads u v) (linked leads (v ∷ l)) (allLinked leads ls)
 
@@ -289,7 +297,7 @@ module _ (leads : ℕ → ℕ → Bool) where
         }
 
     pub linking-all : (i k last : ℕ) → Linking i k last → length field ≤ i → broken? leads (linesOf field) ≡ false
-    unfolding broken? allLinked
+    unfolding broken? every
     linking-all i k last o h = ap not (o .same ∙ ap (λ ls. allLinked leads (after last ls)) (lines-end field i k h) ∙ linked-ended last [])
 
 -- ---- whether a vertex may follow

@@ -89,6 +89,7 @@ module _ (leads : ℕ → ℕ → Bool) (n : ℕ) (o : Order leads n) (ls : List
             below = λ v l. omega (arith, s .division .below v l, ch v, a .counted);
             related = λ u v l m d e. s .division .related u v l m d (sym (ch u) ∙ e ∙ ch v);
           };
+          used = λ k h. let u = s .used k (omega (arith, a .counted)) in (u .0, u .1, ch (u .0) ∙ u .2);
           next = λ u v l m e f. s .next u v l m (sym (ch u) ∙ e ∙ ch v) (sym (po v) ∙ f ∙ ap suc (po u));
           later = λ u v l m e f. s .later u v l m (sym (ch u) ∙ e ∙ ch v) (omega (arith, po u, po v));
           apart = λ u v l m e f. s .apart u v l m (sym (ch u) ∙ e ∙ ch v) (sym (po u) ∙ f ∙ po v);

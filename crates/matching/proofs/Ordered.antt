@@ -1,18 +1,19 @@
 -- Channels that hold every vertex once, and in which each leads to the next, are a division, if `leads` is a strict order. Assumes nothing.
 use mathlib.Core.Path.{_≡_, refl, sym, ap, _∙_}
-use mathlib.Core.Logic.{_≢_, _⊎_, inl, inr}
-use mathlib.Core.Bool.{Bool, true, false}
+use mathlib.Core.Logic.{_≢_, _⊎_, inl, inr, ⊎-elim}
+use mathlib.Core.Bool.{Bool, true, false, false≢true}
 use mathlib.Core.List.{List, [], _∷_, _++_, flatten}
-use Prim.Native.Nat.{ℕ, suc, _+_, _≤_, _<_}
+use Prim.Native.Nat.{ℕ, zero, suc, _+_, _≤_, _<_}
 use native.Mathlib.Omega.{arith}
+use native.Mathlib.Nat.{not-suc-le-zero}
 use native.Mathlib.Decide.{ℕ-discrete, decLt}
 use lib.ListN.{length, getD, length-append, List·getD-append}
 use lib.Seq.{getD-append-add}
 use borrow.Author.Tests.{eq-eqb, ne-eqb}
-use Rattle.counting.proofs.Truth.{and-elim}
-use Rattle.matching.specs.Lists.{times, has, placeFrom, linked, channelFrom, channelOf, positionOf, startsFrom, allLinked}
+use Rattle.counting.proofs.Truth.{and-elim, lt-or-le}
+use Rattle.matching.specs.Lists.{times, has, placeFrom, linked, channelFrom, channelOf, positionOf, startsFrom, every, full, allLinked}
 use Rattle.matching.specs.Division.{Order, Covers, Channelled}
-use Rattle.matching.proofs.Lists.{Within, within-head, within-tail, within-has, times-other, times-none, times-append, has-true, has-false}
+use Rattle.matching.proofs.Lists.{Within, within-head, within-tail, within-has, times-other, times-none, times-append, has-true, has-false, times-here, times-has, times-hasnt}
 
 -- ---- places in one channel
 
@@ -140,6 +141,18 @@ channel-range c (l ∷ ls) v h = go (has v l) refl (channel-range (suc c) ls v)
     go true e ih = rw (channel-here c l ls v e) (omega arith, omega arith)
     go false e ih = let r = ih (further v l ls e h) in rw (channel-on c l ls v e) (omega (arith, r .0), omega (arith, r .1))
 
+-- each channel is some vertex's, if none is empty and no vertex stands twice
+used-from : (c : ℕ) (ls : List (List ℕ)) → every full ls ≡ true → ((v : ℕ) → times v (flatten ls) ≤ 1) → (k : ℕ) → k < length ls → (v : ℕ) × (0 < times v (flatten ls)) × (channelFrom c ls v ≡ c + k)
+unfolding flatten every
+used-from c [] f o k h = absurd (not-suc-le-zero h)
+used-from c ([] ∷ ls) f o k h = absurd (false≢true f)
+used-from c ((x ∷ l) ∷ ls) f o zero h =
+    (x, omega (arith, times-append x (x ∷ l) (flatten ls), times-here x l), channel-here c (x ∷ l) ls x (times-has x (x ∷ l) (omega (arith, times-here x l))) ∙ omega arith)
+used-from c ((x ∷ l) ∷ ls) f o (suc k) h =
+    let r = used-from (suc c) ls (and-elim (full (x ∷ l)) (every full ls) f .1) (λ v. omega (arith, o v, times-append v (x ∷ l) (flatten ls))) k (omega arith) in
+    let a = times-append (r .0) (x ∷ l) (flatten ls) in
+    (r .0, omega (arith, r .1), channel-on c (x ∷ l) ls (r .0) (times-hasnt (r .0) (x ∷ l) (omega (arith, o (r .0), r .1))) ∙ r .2 ∙ omega arith)
+
 -- two vertices of one channel: what their places in it say, their positions say
 module _ (Q : ℕ → ℕ → Type 0) (u v : ℕ) (T : List ℕ → Type 0)
     (each : (l : List ℕ) → T l → 0 < times u l → 0 < times v l → Q (placeFrom 0 l u) (placeFrom 0 l v))
@@ -166,7 +179,7 @@ module _ (leads : ℕ → ℕ → Bool) (n : ℕ) where
   Parts ls = Within n (flatten ls) × (allLinked leads ls ≡ true)
 
   split : (l : List ℕ) (ls : List (List ℕ)) → Parts (l ∷ ls) → Part l × Parts ls
-  unfolding flatten allLinked
+  unfolding flatten every
   split l ls t =
       let a : (linked leads l ≡ true) × (allLinked leads ls ≡ true) = and-elim (linked leads l) (allLinked leads ls) (t .1) in
       (((λ v h. omega (arith, t .0 v h, times-append v l (flatten ls))), a .0), ((λ v h. omega (arith, t .0 v h, times-append v l (flatten ls))), a .1))
@@ -177,6 +190,9 @@ module _ (leads : ℕ → ℕ → Bool) (n : ℕ) where
 
     there : (v : ℕ) → v < n → 0 < times v (flatten ls)
     there v l = omega (arith, c .once v l)
+
+    one : (v : ℕ) → times v (flatten ls) ≤ 1
+    one v = ⊎-elim (λ l. omega (arith, c .once v l)) (λ l. omega (arith, c .only v l)) (lt-or-le v n)
 
     later : (u v : ℕ) → u < n → v < n → channelOf ls u ≡ channelOf ls v → positionOf ls u < positionOf ls v → leads u v ≡ true
     unfolding channelOf
@@ -194,6 +210,7 @@ module _ (leads : ℕ → ℕ → Bool) (n : ℕ) where
         below = λ v l. omega (arith, channel-range 0 ls v (there v l) .1);
         related = λ u v l m d e. go u v l m d e (ℕ-discrete (positionOf ls u) (positionOf ls v)) (decLt (positionOf ls u) (positionOf ls v));
       };
+      used = λ k h. let r = used-from 0 ls (c .filled) one k h in (r .0, within-has n (r .0) (flatten ls) (c .only) (r .1), r .2 ∙ omega arith);
       next = λ u v l m e. one-channel (λ a b. b ≡ suc a → leads u v ≡ true) u v Part
           (λ k t hu hv. place-next leads 0 u v k (t .1) hu hv) Parts split 0 ls parts (there u l) (there v m) e;
       later = later;

@@ -10,24 +10,38 @@ use native.Mathlib.Nat.{not-suc-le-zero}
 use native.Mathlib.Decide.{ℕ-discrete, decLt}
 use lib.ListN.{length, getD}
 use lib.Dec.{eqb, ltb}
-use borrow.Author.Tests.{eq-eqb, ne-eqb}
+use borrow.Author.Tests.{eq-eqb, ne-eqb, lt-ltb}
 use Rattle.counting.specs.Count.{indicator, sum, count}
 use Rattle.counting.proofs.Truth.{indicator-le, and-intro}
 use Rattle.counting.proofs.Sums.{sum-mono}
 use Rattle.counting.proofs.Classes.{sum-add, sum-two, count-le, one-below, indicator-mono}
 use Rattle.matching.specs.Search.{most, nobody, matching}
-use Rattle.matching.specs.Lists.{times, linked, channelOf, positionOf, allLinked}
+use Rattle.matching.specs.Lists.{times, linked, full, every, channelOf, positionOf, allLinked}
 use Rattle.matching.specs.Chains.{successorFrom, successor, chain, begun, planned}
 use Rattle.matching.specs.Division.{Order, Division, Covers, Channelled}
 use Rattle.matching.proofs.Kept.{heldBy}
 use Rattle.matching.proofs.Asked.{Asked, asked-matching}
 use Rattle.matching.proofs.Sound.{Sound}
 use Rattle.matching.proofs.Least.{least-begins}
-use Rattle.matching.proofs.Lists.{times-here, times-other, times-tail, times-none, times-snoc, linked-snoc}
+use Rattle.matching.proofs.Lists.{times-here, times-other, times-tail, times-none, times-snoc, every-snoc}
 use Rattle.matching.proofs.Chains.{chain-end, chain-more, begun-yes, begun-no, successor-here, successor-on, successor-fact, begun-once, begun-within, begun-count}
 use Rattle.matching.proofs.Ordered.{channelled}
 
 module _ (leads : ℕ → ℕ → Bool) (n : ℕ) (small : n ≤ most) (P : List ℕ) where
+  -- what holds of each channel holds of those begun
+  begun-every : (p : List ℕ → Bool) → ((v : ℕ) → v < n → p (chain n P (suc n) v) ≡ true) → (v : ℕ) → v ≤ n → every p (begun n P v) ≡ true
+  unfolding begun every
+  begun-every p f zero l = refl
+  begun-every p f (suc v) l = go (ℕ-discrete (getD P v 0) nobody) (begun-every p f v (omega arith))
+    where
+      go : Dec (getD P v 0 ≡ nobody) → every p (begun n P v) ≡ true → every p (begun n P (suc v)) ≡ true
+      go (yes e) ih = rw (begun-yes n P v e) (every-snoc p (begun n P v) (chain n P (suc n) v) ih (f v (omega arith)))
+      go (no e) ih = rw (begun-no n P v e) ih
+
+  -- a channel has at least the vertex that it begins with
+  chain-full : (v : ℕ) → v < n → full (chain n P (suc n) v) ≡ true
+  chain-full v l = lt-ltb 0 (length (chain n P (suc n) v)) (omega (arith, ap length (chain-more n P n v (λ o. omega arith))))
+
   -- ---- each leads to the next
 
   module _ (s : Sound leads n P) where
@@ -46,15 +60,6 @@ module _ (leads : ℕ → ℕ → Bool) (n : ℕ) (small : n ≤ most) (P : List
             rw (chain-more n P k (successor n P x) (λ o. omega (arith, f .0)))
             (and-intro (leads x (successor n P x)) (linked leads (successor n P x ∷ chain n P k (successor n P (successor n P x)))) a
             (ap (linked leads) (sym (chain-more n P k (successor n P x) (λ o. omega (arith, f .0)))) ∙ ih (f .0)))
-
-    begun-linked : (v : ℕ) → v ≤ n → allLinked leads (begun n P v) ≡ true
-    unfolding begun allLinked
-    begun-linked zero l = refl
-    begun-linked (suc v) l = go (ℕ-discrete (getD P v 0) nobody) (begun-linked v (omega arith))
-      where
-        go : Dec (getD P v 0 ≡ nobody) → allLinked leads (begun n P v) ≡ true → allLinked leads (begun n P (suc v)) ≡ true
-        go (yes e) ih = rw (begun-yes n P v e) (linked-snoc leads (begun n P v) (chain n P (suc n) v) ih (chain-linked (suc n) v (omega arith)))
-        go (no e) ih = rw (begun-no n P v e) ih
 
   -- ---- every vertex is in a channel, if `leads` is a strict order
 
@@ -168,14 +173,16 @@ module _ (leads : ℕ → ℕ → Bool) (n : ℕ) (small : n ≤ most) (P : List
           let r = reached (suc n) v l (omega (arith, count-le n (λ u. leads u v))) in
           omega (arith, r .3, begun-has n (r .0) v (r .1) (r .2), begun-once n P small n v (omega arith));
       only = begun-within n P small n (omega arith);
-      next = begun-linked (q .sound) n (omega arith);
+      filled = begun-every full chain-full n (omega arith);
+      next = begun-every (linked leads) (chain-linked (q .sound) (suc n)) n (omega arith);
     }
 
 module _ (leads : ℕ → ℕ → Bool) (n : ℕ) (small : n ≤ most) where
   -- for any relation: each vertex leads to the next of its channel
   pub planned-linked : allLinked leads (planned leads n) ≡ true
   unfolding planned
-  planned-linked = begun-linked leads n small (matching leads n) (asked-matching leads n small .sound) n (omega arith)
+  planned-linked =
+      begun-every leads n small (matching leads n) (linked leads) (chain-linked leads n small (matching leads n) (asked-matching leads n small .sound) (suc n)) n (omega arith)
 
   -- for any relation: no division has fewer parts
   pub planned-least : (m : ℕ) (part : ℕ → ℕ) → Division leads n m part → length (planned leads n) ≤ m
