@@ -16,7 +16,7 @@ use Rattle.reach.specs.Closure.{Closure, reachable?}
 use Rattle.reach.specs.declared.Reachability.{Reachability}
 use Rattle.reach.proofs.Closures.{same-test}
 use Rattle.reach.proofs.Refusing.{accepted-within}
-use Rattle.matching.specs.Lists.{linked, allLinked}
+use Rattle.matching.specs.Lists.{linked, every, allLinked}
 use Rattle.channels.specs.Given.{linesOf, verticesOf, unknown?, repeats?, lacks?, broken?}
 use Rattle.channels.specs.Table.{leadsIn}
 use Rattle.record.specs.Checks.{Content, content, edgesOf, duplicate?, size?, stranger?, double?, ring?, repeated?, lacking?, unled?, linesRefusal, looseChecks, laterChecks, firstOf, looseRefusal, refusalOf, refusedBy, Judged}
@@ -158,7 +158,7 @@ module _ (n : ℕ) (f g : ℕ → ℕ → Bool) (same : (u v : ℕ) → u < n �
       ap₂ (λ (a b : Bool). a && b) (same x y (leb-false n x (p .0)) (leb-false n y (q .0))) (linked-same (y ∷ l) (p .1))
 
   all-linked-same : (ls : List (List ℕ)) → unknown? n (flatten ls) ≡ false → allLinked f ls ≡ allLinked g ls
-  unfolding allLinked flatten
+  unfolding every flatten
   all-linked-same [] e = refl
   all-linked-same (l ∷ ls) e =
       let p = unknown-append n l (flatten ls) e in
