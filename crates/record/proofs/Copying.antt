@@ -1,7 +1,7 @@
 -- A field copied byte by byte, and how long the field of accepted channels can be. Assumes nothing.
 use mathlib.Core.Path.{_≡_, refl, sym, ap, _∙_, subst}
 use mathlib.Core.Logic.{⊎-elim}
-use mathlib.Core.Bool.{true, false, false≢true}
+use mathlib.Core.Bool.{true, false≢true}
 use mathlib.Core.List.{List, [], _∷_, flatten}
 use Prim.Native.Nat.{ℕ, zero, suc, _+_, _*_, _≤_, _<_}
 use native.Mathlib.Decide.{ℕ-discrete}
@@ -10,7 +10,7 @@ use lib.ListN.{length, getD, take, drop, set, replicate, length-set, length-take
 use lib.Seq.{getD-take, getD-drop, getD-set-same, getD-set-other}
 use Rattle.counting.proofs.Truth.{lt-or-le}
 use Rattle.counting.proofs.Zeros.{zeros}
-use Rattle.channels.specs.Given.{front, lines, filled, linesOf, verticesOf, unknown?, repeats?}
+use Rattle.channels.specs.Given.{front, lines, linesOf, verticesOf}
 use Rattle.channels.proofs.Fields.{flatten-filled}
 use Rattle.record.specs.Layout.{lined}
 use Rattle.record.specs.Reading.{Copied}

@@ -1,9 +1,9 @@
 -- The checks one after the other, and that what a graph's table says of given channels is what the graph says. Assumes nothing.
-use mathlib.Core.Path.{_≡_, refl, sym, ap, ap₂, _∙_, subst}
+use mathlib.Core.Path.{_≡_, refl, sym, ap, ap₂, _∙_}
 use mathlib.Core.Logic.{_⊎_, inl, inr, ⊎-elim}
-use mathlib.Core.Bool.{Bool, true, false, true≢false, not, _&&_, _||_}
+use mathlib.Core.Bool.{Bool, true, false, not, _&&_, _||_}
 use mathlib.Core.List.{List, [], _∷_, _++_, flatten}
-use Prim.Native.Nat.{ℕ, _≤_, _<_}
+use Prim.Native.Nat.{ℕ, _<_}
 use native.Mathlib.Decide.{ℕ-discrete}
 use native.Mathlib.Omega.{arith}
 use borrow.Author.Tests.{leb-false}
@@ -19,7 +19,7 @@ use Rattle.reach.proofs.Refusing.{accepted-within}
 use Rattle.matching.specs.Lists.{linked, every, allLinked}
 use Rattle.channels.specs.Given.{linesOf, verticesOf, unknown?, repeats?, lacks?, broken?}
 use Rattle.channels.specs.Table.{leadsIn}
-use Rattle.record.specs.Checks.{Content, content, edgesOf, duplicate?, size?, stranger?, double?, ring?, repeated?, lacking?, unled?, linesRefusal, looseChecks, laterChecks, firstOf, looseRefusal, refusalOf, refusedBy, Judged}
+use Rattle.record.specs.Checks.{Content, content, duplicate?, size?, stranger?, double?, ring?, repeated?, lacking?, unled?, linesRefusal, looseChecks, laterChecks, firstOf, looseRefusal, refusalOf, refusedBy, Judged}
 
 zero-or-not : (k : ℕ) → (k ≡ 0) ⊎ (k ≡ 0 → ⊥)
 zero-or-not k = go (ℕ-discrete k 0)

@@ -6,3 +6,4 @@ pub mod Judging
 pub mod Copying
 pub mod Standing
 pub mod Readings
+pub mod Soundness

@@ -1,5 +1,5 @@
 -- A field that is found lies within the record. Assumes nothing.
-use mathlib.Core.Path.{_≡_, refl, sym, ap, _∙_}
+use mathlib.Core.Path.{_≡_, refl, sym}
 use mathlib.Core.Bool.{Bool, true, false, _&&_}
 use mathlib.Core.List.{List}
 use Prim.Native.Nat.{ℕ, _+_, _≤_}
@@ -9,7 +9,6 @@ use lib.Dec.{eqb, leb}
 use lib.ListN.{length, getD}
 use Rattle.counting.specs.Count.{choose}
 use Rattle.counting.proofs.Truth.{and-elim}
-use Rattle.record.specs.declared.layout.Field.{Field}
 use Rattle.record.specs.declared.layout.Field.the-variants.{Found, Missing}
 use Rattle.record.specs.Layout.{sizeAt, fieldAt}
 

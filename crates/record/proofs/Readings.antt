@@ -2,13 +2,13 @@
 use mathlib.Core.Path.{_≡_, refl, sym, ap, ap₂, _∙_, subst}
 use mathlib.Core.Logic.{⊎-elim}
 use mathlib.Core.Bool.{Bool, true, false, true≢false, _||_, _&&_}
-use mathlib.Core.List.{List, []}
+use mathlib.Core.List.{List}
 use Prim.Native.Nat.{ℕ, _+_, _-_, _*_, _≤_, _<_}
 use native.Mathlib.Omega.{arith}
 use borrow.Author.Tests.{eq-eqb, ne-eqb, lt-ltb}
 use lib.Dec.{eqb, ltb}
-use lib.ListN.{length, getD, take, drop, length-take, length-drop}
-use Rattle.counting.specs.Count.{choose, some}
+use lib.ListN.{length, take, drop, length-take, length-drop}
+use Rattle.counting.specs.Count.{choose}
 use Rattle.counting.proofs.Truth.{or-right, true-or-false}
 use Rattle.reach.specs.Refusal.{outsized?}
 use Rattle.reach.specs.Closure.{Closure}
@@ -18,13 +18,11 @@ use Rattle.channels.specs.Given.{verticesOf, unknown?, repeats?}
 use Rattle.channels.proofs.Checks.{unknown-within, repeats-once}
 use Rattle.record.specs.declared.layout.Fields.{Fields}
 use Rattle.record.specs.declared.edges.Edges.{Edges}
-use Rattle.record.specs.declared.layout.Layout.{Layout}
 use Rattle.record.specs.declared.layout.Layout.the-variants.{Good, Bad}
-use Rattle.record.specs.declared.reading.Graph.{Graph}
 use Rattle.record.specs.declared.reading.Reading.{Reading}
 use Rattle.record.specs.Layout.{lined, layoutOf}
 use Rattle.record.specs.Content.{tailsOf, headsOf, Edged}
-use Rattle.record.specs.Checks.{Content, content, edgesOf, size?, looseChecks, laterChecks, firstOf, refusalOf, refusedBy}
+use Rattle.record.specs.Checks.{Content, content, edgesOf, size?, looseChecks, firstOf, refusalOf, refusedBy}
 use Rattle.record.specs.Reading.{contentOf, nothing, refusalIn, recordRefusal, contentIn, said, Held, Reads, Copied, Unread}
 use Rattle.record.proofs.Pairs.{pair-lengths, edged-tails, edged-heads, edged-entries}
 use Rattle.record.proofs.Judging.{passed, edges-accepted, no-strangers}

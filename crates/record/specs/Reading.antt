@@ -4,7 +4,7 @@ use mathlib.Core.Bool.{false}
 use mathlib.Core.List.{List, []}
 use Prim.Native.Nat.{ℕ, _*_}
 use lib.Dec.{eqb}
-use lib.ListN.{length, getD, take, drop, replicate}
+use lib.ListN.{length, getD, take, drop}
 use Rattle.counting.specs.Count.{choose}
 use Rattle.reach.specs.Closure.{Closure}
 use Rattle.record.specs.declared.layout.Fields.{Fields}

@@ -1,0 +1,225 @@
+-- A record is accepted exactly when it is sound. Assumes nothing.
+use mathlib.Core.Path.{_≡_, refl, sym, ap, _∙_, subst}
+use mathlib.Core.Logic.{_↔_, _⊎_, ⊎-elim, _≢_}
+use mathlib.Core.Bool.{Bool, true, false, true≢false, not, _&&_, _||_}
+use mathlib.Core.List.{List, [], _∷_}
+use Prim.Native.Nat.{ℕ, zero, suc, _≤_, _<_}
+use native.Mathlib.Omega.{arith}
+use borrow.Author.Tests.{eq-eqb, ne-eqb, eqb-true, eqb-false, le-ltb, lt-leb, leb-false, ltb-false}
+use lib.Dec.{eqb, leb, ltb}
+use lib.ListN.{length, getD}
+use Rattle.counting.specs.Count.{choose, some}
+use Rattle.counting.proofs.Falsity.{not-true, neither}
+use Rattle.counting.proofs.Truth.{lt-or-le, and-intro, and-elim, or-neither}
+use Rattle.counting.proofs.Somes.{some-found, some-none}
+use Rattle.matching.specs.Lists.{times, linked, every, allLinked}
+use Rattle.matching.proofs.Lists.{within-head, within-tail, times-has}
+use Rattle.reach.specs.Graph.{Edge}
+use Rattle.reach.specs.Refusal.{outsized?, strange?, verdict, refusal}
+use Rattle.reach.specs.Closure.{reachable?}
+use Rattle.reach.proofs.Decide.{reachable-decided}
+use Rattle.reach.proofs.Routes.{begins-below}
+use Rattle.channels.specs.Given.{linesOf, verticesOf, unknown?, broken?}
+use Rattle.channels.proofs.Checks.{unknown-within, repeats-once, once-repeats, lacks-has, has-lacks, broken-linked}
+use Rattle.record.specs.Checks.{Content, edgesOf, alike?, duplicate?, size?, stranger?, double?, ring?, repeated?, lacking?, unled?, looseChecks, laterChecks, firstOf, refusalOf}
+use Rattle.record.specs.declared.layout.Layout.{Layout}
+use Rattle.record.specs.declared.layout.Layout.the-variants.{Good, Bad}
+use Rattle.record.specs.declared.reading.Reading.{Reading}
+use Rattle.record.specs.Layout.{layoutOf}
+use Rattle.record.specs.Reading.{contentOf, refusalIn, recordRefusal, Reads}
+use Rattle.record.specs.Sound.{Sound, SoundRecord}
+
+-- ---- none of a list of tests fails
+
+-- what a test guards passes where the test does not hold
+guarded : (t : Bool) (k rest : ℕ) → k ≢ 0 → choose t (λ _. k) (λ _. rest) ≡ 0 → (t ≡ false) × (rest ≡ 0)
+guarded true k rest ne e = absurd (ne e)
+guarded false k rest ne e = (refl, e)
+
+none-found : (n : ℕ) (f : ℕ → Bool) → some n f ≡ false → (i : ℕ) → i < n → f i ≡ false
+none-found n f e i l = not-true (f i) (λ t. true≢false (sym (some-found n f i l t) ∙ e))
+
+given-passes : (g t : Bool) → (g && t) ≡ false → g ≡ true → t ≡ false
+given-passes true t e p = e
+given-passes false t e p = absurd (true≢false (sym p))
+
+passes-given : (g t : Bool) → (g ≡ true → t ≡ false) → (g && t) ≡ false
+passes-given true t h = h refl
+passes-given false t h = refl
+
+-- every test of document 01's list
+record Passes (c : Content) : Type 0 where
+  size : size? c ≡ false
+  stranger : stranger? c ≡ false
+  double : double? c ≡ false
+  ring : ring? c ≡ false
+  repeated : repeated? c ≡ false
+  lacking : lacking? c ≡ false
+  unled : unled? c ≡ false
+
+accepted-passes : (c : Content) → refusalOf c ≡ 0 → Passes c
+unfolding refusalOf firstOf looseChecks laterChecks
+accepted-passes c e =
+    let a = guarded (size? c) 2 _ (λ z. omega arith) e in
+    let b = guarded (stranger? c) 3 _ (λ z. omega arith) (a .1) in
+    let d = guarded (double? c) 4 _ (λ z. omega arith) (b .1) in
+    let r = guarded (ring? c) 5 _ (λ z. omega arith) (d .1) in
+    let p = guarded (repeated? c) 6 _ (λ z. omega arith) (r .1) in
+    let q = guarded (lacking? c) 6 _ (λ z. omega arith) (p .1) in
+    let u = guarded (unled? c) 7 _ (λ z. omega arith) (q .1) in
+    record { size = a .0; stranger = b .0; double = d .0; ring = r .0; repeated = p .0; lacking = q .0; unled = u .0 }
+
+passes-accepted : (c : Content) → Passes c → refusalOf c ≡ 0
+unfolding refusalOf firstOf looseChecks laterChecks
+passes-accepted c p = rw (p .size, p .stranger, p .double, p .ring, p .repeated, p .lacking, p .unled) refl
+
+-- ---- what each test says
+
+module _ (n m : ℕ) where
+  sized : outsized? n m ≡ false → (0 < n) × (n ≤ 128) × (m ≤ 4096)
+  unfolding outsized?
+  sized e =
+      let p = or-neither (eqb n 0 || ltb 128 n) (ltb 4096 m) e in
+      let q = or-neither (eqb n 0) (ltb 128 n) (p .0) in
+      let z = eqb-false n 0 (q .0) in
+      (⊎-elim (λ h. h) (λ h. absurd (z (omega arith))) (lt-or-le 0 n), ltb-false 128 n (q .1), ltb-false 4096 m (p .1))
+
+  of-size : (0 < n) × (n ≤ 128) × (m ≤ 4096) → outsized? n m ≡ false
+  unfolding outsized?
+  of-size h = neither _ _ (neither _ _ (ne-eqb n 0 (λ z. let l = h .0 in omega arith)) (le-ltb 128 n (h .1))) (le-ltb 4096 m (h .2))
+
+within-unknown : (n : ℕ) (l : List ℕ) → ((v : ℕ) → n ≤ v → times v l ≡ 0) → unknown? n l ≡ false
+unfolding unknown?
+within-unknown n [] h = refl
+within-unknown n (x ∷ l) h = neither _ _ (lt-leb n x (within-head n x l h)) (within-unknown n l (within-tail n x l h))
+
+module _ (n m : ℕ) (tails heads : List ℕ) where
+  ends-known : some m (strange? n tails heads) ≡ false → (i : ℕ) → i < m → (getD tails i 0 < n) × (getD heads i 0 < n)
+  unfolding strange?
+  ends-known e i l =
+      let p = or-neither (leb n (getD tails i 0)) (leb n (getD heads i 0)) (none-found m (strange? n tails heads) e i l) in
+      (leb-false n _ (p .0), leb-false n _ (p .1))
+
+  known-ends : ((i : ℕ) → i < m → (getD tails i 0 < n) × (getD heads i 0 < n)) → some m (strange? n tails heads) ≡ false
+  unfolding strange?
+  known-ends h = some-none m (strange? n tails heads) (λ i l. neither _ _ (lt-leb n _ (h i l .0)) (lt-leb n _ (h i l .1)))
+
+module _ (m : ℕ) (tails heads : List ℕ) where
+  abbrev Distinct : Type 0
+  Distinct = (i j : ℕ) → i < m → j < m → getD tails i 0 ≡ getD tails j 0 → getD heads i 0 ≡ getD heads j 0 → i ≡ j
+
+  none-before : duplicate? m tails heads ≡ false → (i j : ℕ) → i < m → j < i → getD tails j 0 ≡ getD tails i 0 → getD heads j 0 ≡ getD heads i 0 → ⊥
+  unfolding duplicate? alike?
+  none-before e i j l k p q =
+      true≢false (sym (and-intro _ _ (eq-eqb _ _ p) (eq-eqb _ _ q)) ∙ none-found i (alike? tails heads i) (none-found m (λ i. some i (alike? tails heads i)) e i l) j k)
+
+  no-double : duplicate? m tails heads ≡ false → Distinct
+  no-double e i j l k p q =
+      ⊎-elim
+      (λ h. absurd (none-before e j i k h p q))
+      (λ h. ⊎-elim (λ o. absurd (none-before e i j l o (sym p) (sym q))) (λ o. omega arith) (lt-or-le j i))
+      (lt-or-le i j)
+
+  distinct-no-double : Distinct → duplicate? m tails heads ≡ false
+  unfolding duplicate? alike?
+  distinct-no-double d =
+      some-none m (λ i. some i (alike? tails heads i)) (λ i l. some-none i (alike? tails heads i) (λ j k. not-true (alike? tails heads i j) (λ t.
+      let p = and-elim (eqb (getD tails j 0) (getD tails i 0)) (eqb (getD heads j 0) (getD heads i 0)) t in
+      let z = d j i (omega arith) l (eqb-true _ _ (p .0)) (eqb-true _ _ (p .1)) in
+      omega arith)))
+
+-- ---- each vertex of a line is reached from the one before
+
+module _ (f : ℕ → ℕ → Bool) where
+  linked-led : (l : List ℕ) → linked f l ≡ true → (j : ℕ) → suc j < length l → f (getD l j 0) (getD l (suc j) 0) ≡ true
+  unfolding linked
+  linked-led [] e j h = absurd (omega arith)
+  linked-led (x ∷ []) e j h = absurd (omega arith)
+  linked-led (x ∷ y ∷ l) e zero h = and-elim (f x y) (linked f (y ∷ l)) e .0
+  linked-led (x ∷ y ∷ l) e (suc j) h = linked-led (y ∷ l) (and-elim (f x y) (linked f (y ∷ l)) e .1) j (omega arith)
+
+  led-linked : (l : List ℕ) → ((j : ℕ) → suc j < length l → f (getD l j 0) (getD l (suc j) 0) ≡ true) → linked f l ≡ true
+  unfolding linked
+  led-linked [] h = refl
+  led-linked (x ∷ []) h = refl
+  led-linked (x ∷ y ∷ l) h = and-intro (f x y) (linked f (y ∷ l)) (h 0 (omega arith)) (led-linked (y ∷ l) (λ j k. h (suc j) (omega arith)))
+
+  all-led : (ls : List (List ℕ)) → allLinked f ls ≡ true → (k j : ℕ) → suc j < length (getD ls k []) → f (getD (getD ls k []) j 0) (getD (getD ls k []) (suc j) 0) ≡ true
+  unfolding every
+  all-led [] e k j h = absurd (omega arith)
+  all-led (l ∷ ls) e zero j h = linked-led l (and-elim (linked f l) (every (linked f) ls) e .0) j h
+  all-led (l ∷ ls) e (suc k) j h = all-led ls (and-elim (linked f l) (every (linked f) ls) e .1) k j h
+
+  led-all : (ls : List (List ℕ)) → ((k j : ℕ) → suc j < length (getD ls k []) → f (getD (getD ls k []) j 0) (getD (getD ls k []) (suc j) 0) ≡ true) → allLinked f ls ≡ true
+  unfolding every
+  led-all [] h = refl
+  led-all (l ∷ ls) h = and-intro (linked f l) (every (linked f) ls) (led-linked l (h 0)) (led-all ls (λ k. h (suc k)))
+
+-- ---- the two together
+
+module _ (c : Content) where
+  abbrev n : ℕ
+  n = c .vertices
+
+  abbrev m : ℕ
+  m = edgesOf c
+
+  -- size and known ends are all that the reachability layer asks
+  graph-accepted : outsized? n m ≡ false → some m (strange? n (c .tails) (c .heads)) ≡ false → refusal n (c .tails) (c .heads) ≡ 0
+  unfolding refusal verdict
+  graph-accepted o s = rw (o, s) refl
+
+  tails-known : some m (strange? n (c .tails) (c .heads)) ≡ false → (u v : ℕ) → Edge (c .tails) (c .heads) u v → u < n
+  unfolding Edge
+  tails-known s u v e = subst (λ x. x < n) (e .2) (ends-known n m (c .tails) (c .heads) s (e .0) (e .1) .0)
+
+  pub accepted-sound : refusalOf c ≡ 0 → Sound c
+  unfolding size? stranger? double? ring? repeated? lacking? unled?
+  accepted-sound e =
+      let p = accepted-passes c e in
+      let s = or-neither (some m (strange? n (c .tails) (c .heads))) (c .given && unknown? n (verticesOf (c .field))) (p .stranger) in
+      let z = sized n m (p .size) in
+      let small : n ≤ 128 = z .1 in
+      let accepted = graph-accepted (p .size) (s .0) in record {
+        size = z;
+        ends = ends-known n m (c .tails) (c .heads) (s .0);
+        named = λ g. unknown-within n (verticesOf (c .field)) (given-passes (c .given) _ (s .1) g);
+        distinct = no-double m (c .tails) (c .heads) (p .double);
+        acyclic = λ u r.
+            let below : u < n = begins-below (tails-known (s .0)) r in
+            true≢false (sym (reachable-decided n (c .tails) (c .heads) u u .0 (accepted, r)) ∙ none-found 128 (λ u. reachable? n (c .tails) (c .heads) u u) (p .ring) u (omega arith));
+        once = λ g v l. omega (arith, repeats-once (verticesOf (c .field)) (given-passes (c .given) _ (p .repeated) g) v, lacks-has n (verticesOf (c .field)) (given-passes (c .given) _ (p .lacking) g) v l);
+        led = λ g k j h. reachable-decided n (c .tails) (c .heads) _ _ .1 (all-led (reachable? n (c .tails) (c .heads)) (linesOf (c .field)) (broken-linked (reachable? n (c .tails) (c .heads)) (linesOf (c .field)) (given-passes (c .given) _ (p .unled) g)) k j h) .1;
+      }
+
+  pub sound-accepted : Sound c → refusalOf c ≡ 0
+  unfolding size? stranger? double? ring? repeated? lacking? unled? broken?
+  sound-accepted s =
+      let o = of-size n m (s .size) in
+      let t = known-ends n m (c .tails) (c .heads) (s .ends) in
+      let accepted = graph-accepted o t in
+      passes-accepted c (record {
+        size = o;
+        stranger = neither _ _ t (passes-given (c .given) _ (λ g. within-unknown n (verticesOf (c .field)) (s .named g)));
+        double = distinct-no-double m (c .tails) (c .heads) (s .distinct);
+        ring = some-none 128 (λ u. reachable? n (c .tails) (c .heads) u u) (λ u l. not-true _ (λ e. s .acyclic u (reachable-decided n (c .tails) (c .heads) u u .1 e .1)));
+        repeated = passes-given (c .given) _ (λ g. once-repeats (verticesOf (c .field)) (λ v. ⊎-elim (λ l. omega (arith, s .once g v l)) (λ l. omega (arith, s .named g v l)) (lt-or-le v n)));
+        lacking = passes-given (c .given) _ (λ g. has-lacks n (verticesOf (c .field)) (λ v l. times-has v (verticesOf (c .field)) (omega (arith, s .once g v l))));
+        unled = passes-given (c .given) _ (λ g. ap not (led-all (reachable? n (c .tails) (c .heads)) (linesOf (c .field)) (λ k j h. reachable-decided n (c .tails) (c .heads) _ _ .0 (accepted, s .led g k j h))));
+      })
+
+-- ---- of records
+
+module _ (b : List ℕ) where
+  in-layout : (l : Layout) → layoutOf b ≡ l → refusalIn b l ≡ 0 → SoundRecord b
+  in-layout Bad p e = absurd (let z : _≡_ {A = ℕ} 1 0 = e in omega arith)
+  in-layout (Good f) p e = (f, p, accepted-sound (contentOf b f) e)
+
+  -- the number that a record gets is 0 exactly when the record is sound
+  pub record-sound : (recordRefusal b ≡ 0) ↔ SoundRecord b
+  unfolding recordRefusal
+  record-sound = (in-layout (layoutOf b) refl, λ s. ap (refusalIn b) (s .1) ∙ sound-accepted (contentOf b (s .0)) (s .2))
+
+  -- READ: a record is accepted exactly when it is sound
+  pub read-sound : (r : Reading) → Reads b r → (r .refusal ≡ 0) ↔ SoundRecord b
+  read-sound r a = ((λ e. record-sound .0 (sym (a .answer) ∙ e)), λ s. a .answer ∙ record-sound .1 s)
