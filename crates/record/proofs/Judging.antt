@@ -110,7 +110,7 @@ module _ (n : ℕ) (tails heads : List ℕ) (given : Bool) (field : List ℕ) wh
   as-later = refl
 
   -- cycles, and then the given channels
-  pub refusal-later : looseRefusal c ≡ 0 → refusalOf c ≡ choose (some 128 (λ u. reachable? n tails heads u u)) (λ _. 5) (λ _. linesRefusal (reachable? n tails heads) n given field)
+  refusal-later : looseRefusal c ≡ 0 → refusalOf c ≡ choose (some 128 (λ u. reachable? n tails heads u u)) (λ _. 5) (λ _. linesRefusal (reachable? n tails heads) n given field)
   refusal-later h = loosely-passed h .0 ∙ as-later
 
   pub no-strangers : looseRefusal c ≡ 0 → strangers ≡ false
@@ -164,16 +164,23 @@ module _ (n : ℕ) (f g : ℕ → ℕ → Bool) (same : (u v : ℕ) → u < n �
       let p = unknown-append n l (flatten ls) e in
       ap₂ (λ (a b : Bool). a && b) (linked-same l (p .0)) (all-linked-same ls (p .1))
 
-  pub lines-same : (given : Bool) (field : List ℕ) → (given && unknown? n (verticesOf field)) ≡ false → linesRefusal f n given field ≡ linesRefusal g n given field
+  lines-same : (given : Bool) (field : List ℕ) → (given && unknown? n (verticesOf field)) ≡ false → linesRefusal f n given field ≡ linesRefusal g n given field
   unfolding linesRefusal broken?
   lines-same false field e = refl
   lines-same true field e =
       ap (λ (b : Bool). choose (repeats? (verticesOf field)) (λ _. 6) (λ _. choose (lacks? n (verticesOf field)) (λ _. 6) (λ _. choose (not b) (λ _. 7) (λ _. 0)))) (all-linked-same (linesOf field) e)
 
 -- what the table of a graph says is what the graph says
-pub table-same : (n : ℕ) (tails heads : List ℕ) (r : Reachability) → Closure n tails heads r → refusal n tails heads ≡ 0
+table-same : (n : ℕ) (tails heads : List ℕ) (r : Reachability) → Closure n tails heads r → refusal n tails heads ≡ 0
     → (u v : ℕ) → u < n → v < n → leadsIn (r .table) u v ≡ reachable? n tails heads u v
 unfolding leadsIn
 table-same n tails heads r c accepted u v hu hv =
     let small = accepted-within n tails heads accepted .1 in
     same-test n tails heads (r .table) (c .bits) u v (omega arith) (omega arith)
+
+-- the checks after 2 to 4, by the graph's reachability
+pub later-same : (n : ℕ) (tails heads : List ℕ) (given : Bool) (field : List ℕ) (r : Reachability) → looseRefusal (content n tails heads given field) ≡ 0 → Closure n tails heads r
+    → refusalOf (content n tails heads given field) ≡ choose (r .cyclic) (λ _. 5) (λ _. linesRefusal (leadsIn (r .table)) n given field)
+later-same n tails heads given field r passes closure =
+    let same = lines-same n (leadsIn (r .table)) (reachable? n tails heads) (table-same n tails heads r closure (edges-accepted n tails heads given field passes)) given field (no-strangers n tails heads given field passes) in
+    refusal-later n tails heads given field passes ∙ ap₂ (λ (t : Bool) (k : ℕ). choose t (λ _. 5) (λ _. k)) (sym (closure .cycles)) (sym same)

@@ -6,4 +6,5 @@ pub mod Judging
 pub mod Copying
 pub mod Standing
 pub mod Readings
+pub mod Loosely
 pub mod Soundness

@@ -9,7 +9,7 @@ use borrow.Author.Tests.{eq-eqb, ne-eqb, lt-ltb}
 use lib.Dec.{eqb, ltb}
 use lib.ListN.{length, take, drop, length-take, length-drop}
 use Rattle.counting.specs.Count.{choose}
-use Rattle.counting.proofs.Truth.{or-right, true-or-false}
+use Rattle.counting.proofs.Truth.{lt-or-le, or-right, true-or-false}
 use Rattle.reach.specs.Refusal.{outsized?}
 use Rattle.reach.specs.Closure.{Closure}
 use Rattle.reach.proofs.Refusing.{accepted-within}
@@ -18,11 +18,11 @@ use Rattle.channels.specs.Given.{verticesOf, unknown?, repeats?}
 use Rattle.channels.proofs.Checks.{unknown-within, repeats-once}
 use Rattle.record.specs.declared.layout.Fields.{Fields}
 use Rattle.record.specs.declared.edges.Edges.{Edges}
-use Rattle.record.specs.declared.layout.Layout.the-variants.{Good, Bad}
+use Rattle.record.specs.declared.layout.Layout.the-variants.{Good}
 use Rattle.record.specs.declared.reading.Reading.{Reading}
 use Rattle.record.specs.Layout.{lined, layoutOf}
 use Rattle.record.specs.Content.{tailsOf, headsOf, Edged}
-use Rattle.record.specs.Checks.{Content, content, edgesOf, size?, looseChecks, firstOf, refusalOf, refusedBy}
+use Rattle.record.specs.Checks.{Content, content, edgesOf, size?, looseChecks, firstOf, looseRefusal, refusalOf, refusedBy}
 use Rattle.record.specs.Reading.{contentOf, nothing, refusalIn, recordRefusal, contentIn, said, Held, Reads, Copied, Unread}
 use Rattle.record.proofs.Pairs.{pair-lengths, edged-tails, edged-heads, edged-entries}
 use Rattle.record.proofs.Judging.{passed, edges-accepted, no-strangers}
@@ -44,14 +44,9 @@ unread-reads b k r e ne u =
       none = λ h. u .reach ∙ ap (λ (x : ℕ). refusedBy x .reach) (sym e);
     }
 
--- the number that a record gets, by where its fields stand
-pub bad-refusal : (b : List ℕ) → layoutOf b ≡ Bad → recordRefusal b ≡ 1
-unfolding recordRefusal
-bad-refusal b e = ap (refusalIn b) e
-
 pub good-refusal : (b : List ℕ) (f : Fields) → layoutOf b ≡ Good f → recordRefusal b ≡ refusalOf (contentOf b f)
 unfolding recordRefusal
-good-refusal b f e = ap (refusalIn b) e
+good-refusal b f e = ap (refusalIn refusalOf b) e
 
 accepted-says : (b : List ℕ) (f : Fields) → layoutOf b ≡ Good f → recordRefusal b ≡ 0 → said b ≡ contentOf b f
 unfolding said
@@ -86,12 +81,15 @@ module _ (b : List ℕ) (f : Fields) (laid : LaidOut b f) where
   edges-counted = let p = pair-lengths b (f .edges) (f .count) (laid .edges) in let x = p .0 in let y = p .1 in omega arith
 
   -- too many edges
-  pub many-edges : 4096 < f .count → refusalOf (contentOf b f) ≡ 2
-  unfolding refusalOf firstOf looseChecks size? outsized?
+  pub many-edges : 4096 < f .count → looseRefusal (contentOf b f) ≡ 2
+  unfolding looseRefusal firstOf looseChecks size? outsized?
   many-edges h =
       let many : size? (contentOf b f) ≡ true =
       or-right (eqb (contentOf b f .vertices) 0 || ltb 128 (contentOf b f .vertices)) (ltb 4096 (edgesOf (contentOf b f))) (ap (ltb 4096) edges-counted ∙ lt-ltb 4096 (f .count) h) in
       simp many
+
+  pub few-edges : looseRefusal (contentOf b f) ≡ 0 → f .count ≤ 4096
+  few-edges e = ⊎-elim (λ h. absurd (let z : _≡_ {A = ℕ} 2 0 = sym (many-edges h) ∙ e in omega arith)) (λ h. h) (lt-or-le 4096 (f .count))
 
   field-long : length (take (f .size) (drop (f .lines) b)) ≡ f .size
   field-long = simp (length-take, length-drop) (let l = laid .lines in omega arith)

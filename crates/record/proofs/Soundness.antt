@@ -211,14 +211,14 @@ module _ (c : Content) where
 -- ---- of records
 
 module _ (b : List ℕ) where
-  in-layout : (l : Layout) → layoutOf b ≡ l → refusalIn b l ≡ 0 → SoundRecord b
+  in-layout : (l : Layout) → layoutOf b ≡ l → refusalIn refusalOf b l ≡ 0 → SoundRecord b
   in-layout Bad p e = absurd (let z : _≡_ {A = ℕ} 1 0 = e in omega arith)
   in-layout (Good f) p e = (f, p, accepted-sound (contentOf b f) e)
 
   -- the number that a record gets is 0 exactly when the record is sound
   pub record-sound : (recordRefusal b ≡ 0) ↔ SoundRecord b
   unfolding recordRefusal
-  record-sound = (in-layout (layoutOf b) refl, λ s. ap (refusalIn b) (s .1) ∙ sound-accepted (contentOf b (s .0)) (s .2))
+  record-sound = (in-layout (layoutOf b) refl, λ s. ap (refusalIn refusalOf b) (s .1) ∙ sound-accepted (contentOf b (s .0)) (s .2))
 
   -- READ: a record is accepted exactly when it is sound
   pub read-sound : (r : Reading) → Reads b r → (r .refusal ≡ 0) ↔ SoundRecord b

@@ -12,9 +12,10 @@ use Rattle.record.specs.declared.layout.Layout.{Layout}
 use Rattle.record.specs.declared.layout.Layout.the-variants.{Good, Bad}
 use Rattle.record.specs.declared.reading.Graph.{Graph}
 use Rattle.record.specs.declared.reading.Reading.{Reading}
+use Rattle.record.specs.declared.reading.Loose.{Loose}
 use Rattle.record.specs.Layout.{layoutOf}
-use Rattle.record.specs.Content.{tailsOf, headsOf}
-use Rattle.record.specs.Checks.{Content, content, edgesOf, refusalOf, refusedBy}
+use Rattle.record.specs.Content.{tailsOf, headsOf, Edged}
+use Rattle.record.specs.Checks.{Content, content, edgesOf, looseRefusal, refusalOf, refusedBy}
 
 -- the vertices, edges and given channels of a record whose fields stand as they must
 unfoldable pub contentOf : List ℕ → Fields → Content
@@ -25,13 +26,17 @@ contentOf b f =
 abbrev pub nothing : Content
 nothing = content 0 [] [] false []
 
--- the number that a record gets: 1 'layout' before everything, then the checks of its content
-abbrev pub refusalIn : List ℕ → Layout → ℕ
-refusalIn b Bad = 1
-refusalIn b (Good f) = refusalOf (contentOf b f)
+-- the number that a record gets by some of the checks: 1 'layout' before everything, then the first of them that its content fails
+abbrev pub refusalIn : (Content → ℕ) → List ℕ → Layout → ℕ
+refusalIn refuse b Bad = 1
+refusalIn refuse b (Good f) = refuse (contentOf b f)
 
 unfoldable pub recordRefusal : List ℕ → ℕ
-recordRefusal b = refusalIn b (layoutOf b)
+recordRefusal b = refusalIn refusalOf b (layoutOf b)
+
+-- .. of the checks 1 to 4 alone
+unfoldable pub looseRecordRefusal : List ℕ → ℕ
+looseRecordRefusal b = refusalIn looseRefusal b (layoutOf b)
 
 abbrev pub contentIn : List ℕ → Layout → Content
 contentIn b Bad = nothing
@@ -67,4 +72,32 @@ pub record Copied (b : List ℕ) (start size : ℕ) (r : List ℕ) : Type 0 wher
 pub record Unread (k : ℕ) (r : Reading) : Type 0 where
   pub answer : r .refusal ≡ k
   pub graph : Held nothing (r .graph)
+  pub reach : r .reach ≡ refusedBy k .reach
+
+-- ---- the checks 1 to 4 by themselves
+
+abbrev pub noFields : Fields
+noFields = record { vertices = 0; edges = 0; count = 0; given = false; lines = 0; size = 0 }
+
+abbrev pub fieldsIn : Layout → Fields
+fieldsIn Bad = noFields
+fieldsIn (Good f) = f
+
+-- where the fields of a record stand that passes 1 to 4; a refused one has none
+unfoldable pub looseFields : List ℕ → Fields
+looseFields b = choose (eqb (looseRecordRefusal b) 0) (λ _. fieldsIn (layoutOf b)) (λ _. noFields)
+
+pub record ReadsLoosely (b : List ℕ) (r : Loose) : Type 0 where
+  pub answer : r .refusal ≡ looseRecordRefusal b
+  pub fields : r .fields ≡ looseFields b
+  pub edges : Edged b (looseFields b .edges) (looseFields b .count) (r .edges)
+  pub reach : looseRecordRefusal b ≡ 0
+      → Closure (contentOf b (looseFields b) .vertices) (contentOf b (looseFields b) .tails) (contentOf b (looseFields b) .heads) (r .reach)
+  pub none : (looseRecordRefusal b ≡ 0 → ⊥) → r .reach ≡ refusedBy (looseRecordRefusal b) .reach
+
+-- a refusal with no edge
+pub record UnreadLoosely (k : ℕ) (r : Loose) : Type 0 where
+  pub answer : r .refusal ≡ k
+  pub fields : r .fields ≡ noFields
+  pub edges : (b : List ℕ) → Edged b 0 0 (r .edges)
   pub reach : r .reach ≡ refusedBy k .reach

@@ -1,6 +1,7 @@
 // The checks of a graph with given channels, in document 01's order.
 ghost use mathlib.Core.Path.{_≡_};
 ghost use mathlib.Core.Bool.{_&&_};
+ghost use Rattle.counting.specs.Count.{choose};
 ghost use Rattle.channels.specs.Given.{verticesOf, unknown?};
 ghost use Rattle.channels.specs.Table.{leadsIn};
 ghost use Rattle.record.specs.Checks.{refusedBy, content, linesRefusal, looseRefusal, refusalOf, Judged};
@@ -56,6 +57,22 @@ fn lines_refusal(n: usize, table: [u64; 256], given: bool, field: &[u8]) -> u8
     0
 }
 
+// Why a graph that passes 2 to 4 is refused, or 0: by its cycles, then by the given channels.
+pub(crate) fn later_refusal(
+    n: usize,
+    table: [u64; 256],
+    cyclic: bool,
+    given: bool,
+    field: &[u8],
+) -> u8
+    ensures { λ r. ⌜ r ≡ choose cyclic (λ _. 5) (λ _. linesRefusal (leadsIn table) n given (now (field .entry))) ⌝ }
+{
+    if cyclic {
+        return 5;
+    }
+    lines_refusal(n, table, given, field)
+}
+
 // The checks 2 to 4 of n vertices, the edges tails[i] -> heads[i], as many as both lists have, and the given channels in the bytes of
 // their field, if there are any: the first that fails refuses.
 pub fn check_loose<'a>(
@@ -95,11 +112,8 @@ pub fn check<'a>(
         return v;
     }
     let reach = v.reach;
-    if reach.cyclic {
-        return refused(5);
-    }
     let table = reach.table;
-    let k = lines_refusal(n, table, given, field);
+    let k = later_refusal(n, table, reach.cyclic, given, field);
     if k != 0 {
         return refused(k);
     }

@@ -1,5 +1,5 @@
 use mathlib.Core.Path.{_≡_, subst}
-use Prim.Native.Nat.{ℕ, _+_, _-_, _*_, _≤_, zero-le}
+use Prim.Native.Nat.{ℕ, _-_, _≤_, zero-le}
 use native.Mathlib.Omega.{arith}
 use Rattle.record.specs.Content.{Edged}
 use Rattle.record.proofs.Pairs.{edged-none, edged-more}

@@ -1,11 +1,9 @@
-use mathlib.Core.Path.{_≡_, sym, ap, _∙_, subst}
-use Prim.Native.Nat.{ℕ, _+_, _-_, _≤_}
+use mathlib.Core.Path.{_≡_, sym, ap, _∙_}
+use Prim.Native.Nat.{_-_}
 use native.Mathlib.Omega.{arith}
-use borrow.Author.Tests.{eq-eqb, ne-eqb, le-leb, lt-leb}
-use lib.ListN.{length, getD, take, drop}
-use Rattle.record.specs.declared.layout.Field.the-variants.{Found, Missing}
-use Rattle.record.specs.declared.layout.Layout.{Layout}
-use Rattle.record.specs.declared.layout.Layout.the-variants.{Good, Bad}
+use borrow.Author.Tests.{eq-eqb, ne-eqb}
+use Rattle.record.specs.declared.layout.Field.the-variants.{Found}
+use Rattle.record.specs.declared.layout.Layout.the-variants.{Bad}
 use Rattle.record.specs.Layout.{fieldAt, withEdges}
 use Rattle.record.proofs.Placing.{Inside, found-inside}
 use borrow.Author.Needs.{needs}

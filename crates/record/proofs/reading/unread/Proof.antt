@@ -1,6 +1,5 @@
 use mathlib.Core.Path.{refl}
 use Rattle.counting.proofs.Zeros.{zeros}
-use borrow.Author.Needs.{needs}
 use Rattle.record.proofs.reading.unread.Statement.{statement}
 use Rattle.record.proofs.reading.unread.Tie as tie
 
