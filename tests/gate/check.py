@@ -3,6 +3,7 @@
 
     check.py listed [ROOT]      every folder under crates/ is in crates.txt
     check.py promises [ROOT]    every public call keeps the rules of a promise
+    check.py named [ROOT]       docs/PROMISES.md names files, must-fail edits and names that are there, and every edit
 
 The rules: a public call (`pub fn`, exported ones and methods too; not `pub(crate)`) has no `requires`, has a result, has an `ensures`
 that speaks of the result, and for each `&mut` parameter an `ensures` that speaks of it at exit. Exit status 1 where something is wrong.
@@ -90,8 +91,32 @@ def check_listed(root):
     return not wrong
 
 
+def check_named(root):
+    """The page that readers check us by: `crate/specs/File`, `crate/edit`, `a_name`, `Record.field` and `crate::call` in backquotes."""
+    page = (root / 'docs' / 'PROMISES.md').read_text()
+    quoted = set(re.findall(r'`([^`\n]+)`', page))
+    crates = {folder.name: folder for folder in (root / 'crates').iterdir()}
+    sources = [path for crate in crates.values() for path in crate.rglob('*') if path.suffix in ('.rt', '.antt')]
+    known = set(re.split(r'[\s(){};,.:]+', ' '.join(path.read_text() for path in sources)))
+    edits = {f'{name}/{edit.stem}' for name, crate in crates.items() for edit in crate.glob('must-fail/*.edit')}
+    wrong = [f'names no edit {edit}' for edit in sorted(edits - quoted)]
+    for text in sorted(quoted):
+        if re.fullmatch(r'\w+/(specs|proofs)/\w+', text):
+            if not (root / 'crates' / f'{text}.antt').exists():
+                wrong.append(f'names {text}, which is not there')
+        elif re.fullmatch(r'\w+/\w+', text) and text.split('/')[0] in crates:
+            if text not in edits and not (root / 'crates' / text).is_dir():
+                wrong.append(f'names {text}, which is not there')
+        elif re.fullmatch(r"[A-Za-z][\w?'-]*(?:(?:\.|::)[A-Za-z][\w?'-]*)*", text):
+            wrong += [f'names {part} in {text}, which is not there' for part in re.split(r'\.|::', text) if part not in known and part not in crates]
+    for fault in wrong:
+        print(f'docs/PROMISES.md {fault}')
+    print(f'{len(quoted)} names, {len(wrong)} faults')
+    return not wrong
+
+
 def main():
-    checks = {'listed': check_listed, 'promises': check_promises}
+    checks = {'listed': check_listed, 'promises': check_promises, 'named': check_named}
     if len(sys.argv) not in (2, 3) or sys.argv[1] not in checks:
         sys.exit(__doc__)
     root = Path(sys.argv[2]) if len(sys.argv) == 3 else Path(__file__).resolve().parents[2]

@@ -9,7 +9,7 @@ CHECK = Path(__file__).with_name('check.py')
 
 KEEPS = 'pub fn f(a: &mut [u8]) -> u8\n    ensures { λ r. ⌜ (r ≡ 0) × (now (a .exit) ≡ now (a .entry)) ⌝ }\n{ 0 }\n'
 
-# a name, the check, crates.txt, the source of the crate `one`, and what must be said; nothing where the check must pass
+# a name, the check, crates.txt, the source of the crate `one` or the page to check, and what must be said; nothing where the check must pass
 CASES = [
     ('a call that keeps the rules', 'promises', 'one:\n', KEEPS, None),
     ('a private call may require', 'promises', 'one:\n', 'fn f(n: u8)\n    requires { ⌜ n < 9 ⌝ }\n{}\n', None),
@@ -26,15 +26,22 @@ CASES = [
     ('a listed crate', 'listed', 'one: # with a comment\n', KEEPS, None),
     ('an unlisted crate', 'listed', '# one:\n', KEEPS, 'crates/one is not in crates.txt'),
     ('a listed crate without a folder', 'listed', 'one:\ntwo: one\n', KEEPS, 'crates/ lacks'),
+    ('a page that names what is there', 'named', 'one:\n', '`one/wrong`, `one::f`', None),
+    ('an edit that the page leaves out', 'named', 'one:\n', '`one::f`', 'names no edit one/wrong'),
+    ('an edit that is not there', 'named', 'one:\n', '`one/wrong`, `one/other`', 'names one/other, which is not there'),
+    ('a file that is not there', 'named', 'one:\n', '`one/wrong`, `one/specs/No`', 'names one/specs/No, which is not there'),
+    ('a call that is not there', 'named', 'one:\n', '`one/wrong`, `one::g`', 'names g in one::g'),
 ]
 
 
 def run(check, crates, source):
     with tempfile.TemporaryDirectory() as folder:
-        src = Path(folder, 'crates', 'one', 'src')
-        src.mkdir(parents=True)
+        for part in ('crates/one/src', 'crates/one/must-fail', 'docs'):
+            Path(folder, part).mkdir(parents=True)
         Path(folder, 'crates.txt').write_text(crates)
-        Path(src, 'lib.rt').write_text(source)
+        Path(folder, 'crates/one/must-fail/wrong.edit').write_text('')
+        Path(folder, 'docs/PROMISES.md').write_text(source)
+        Path(folder, 'crates/one/src/lib.rt').write_text(KEEPS if check == 'named' else source)
         done = subprocess.run([sys.executable, CHECK, check, folder], capture_output=True, text=True)
         return done.returncode, done.stdout
 

@@ -19,8 +19,8 @@ abbrev pub Leads : Content → ℕ → ℕ → Type 0
 Leads c = Reaches (Edge (c .tails) (c .heads))
 
 -- given channel k, as a list of vertices
-abbrev pub given-line : Content → ℕ → List ℕ
-given-line c k = getD (linesOf (c .field)) k []
+abbrev pub givenLine : Content → ℕ → List ℕ
+givenLine c k = getD (linesOf (c .field)) k []
 
 pub record Sound (c : Content) : Type 0 where
   -- not 2: 1 to 128 vertices, at most 4,096 edges
@@ -35,7 +35,7 @@ pub record Sound (c : Content) : Type 0 where
   -- not 6: each vertex stands in the given channels once
   pub once : c .given ≡ true → (v : ℕ) → v < c .vertices → times v (verticesOf (c .field)) ≡ 1
   -- not 7: each vertex of a given channel is reached from the one before
-  pub led : c .given ≡ true → (k j : ℕ) → suc j < length (given-line c k) → Leads c (getD (given-line c k) j 0) (getD (given-line c k) (suc j) 0)
+  pub led : c .given ≡ true → (k j : ℕ) → suc j < length (givenLine c k) → Leads c (getD (givenLine c k) j 0) (getD (givenLine c k) (suc j) 0)
 
 -- a record is sound: its fields stand as they must, and what they say is sound
 abbrev pub SoundRecord : List ℕ → Type 0
