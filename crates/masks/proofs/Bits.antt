@@ -1,6 +1,7 @@
 -- Laws of `bit`: of `|`, `&` and `!`, of a shift, of one bit, of the trailing zeros and of the count of ones. Assumes nothing.
 use mathlib.Core.Path.{_≡_, refl, sym, ap, ap₂, _∙_, subst}
-use mathlib.Core.Logic.{_≢_}
+use mathlib.Core.Logic.{_≢_, _⊎_, inl, inr}
+use mathlib.Core.Bool.{not, _&&_}
 use Prim.Native.Nat.{ℕ, zero, suc, _+_, _-_, _*_, _/_, _%_, _^_, _≤_, _<_, suc-le-suc, max, min}
 use native.Mathlib.Nat.{mod-lt, zero-lt-suc, zero-div, one-mul, le-of-suc-le-suc, not-suc-le-zero, div-one, lt-irrefl, div-eq-of-lt, lt-of-lt-of-le, pow-suc}
 use native.Mathlib.Numerals.{add-one, one-add}
@@ -9,8 +10,10 @@ use lib.Arith.{digits-mod, digits-div, lt-one, le-zero}
 use lib.Pow.{pow-mono, shr-shr, shl-exact, shr-lt}
 use lib.Bits.{bitOr, bitAnd, or-shr, or-step, and-shr, and-step, shifted-half, shifted-even}
 use lib.Count.{ones, ones-step, ones-le, trailingZeros, under}
+use lib.Dec.{eqb}
 use Rattle.counting.specs.Count.{sum}
 use Rattle.counting.proofs.Sums.{sum-ext, sum-front}
+use Rattle.counting.proofs.Truth.{two-cases}
 use Rattle.masks.specs.Bits.{bit}
 
 pub bit-lt : (x k : ℕ) → bit x k < 2
@@ -128,6 +131,23 @@ bit-not (suc n) x k hx l = ap (λ (z : ℕ). bit z k) whole ∙ go (λ j h. bit-
     go : ((j : ℕ) → j < n → bit r j ≡ 1 - bit (x / 2) j) → (k : ℕ) → k < suc n → bit (r * 2 + (1 - x % 2)) k ≡ 1 - bit x k
     go rec zero h = bit-cons-zero r (1 - x % 2) odd ∙ ap (λ (b : ℕ). 1 - b) (sym (bit-zero x))
     go rec (suc j) h = bit-cons-suc r (1 - x % 2) j odd ∙ rec j (le-of-suc-le-suc h) ∙ ap (λ (b : ℕ). 1 - b) (sym (bit-suc x j))
+
+-- ---- `&` with `!`
+
+-- the bits of a mask a that b lacks
+abbrev pub without : ℕ → ℕ → ℕ
+without a b = bitAnd a ((2 ^ 64 - 1) - b)
+
+pub bit-without : (a b k : ℕ) → b < 2 ^ 64 → k < 64 → eqb (bit (without a b) k) 1 ≡ (eqb (bit a k) 1 && not (eqb (bit b k) 1))
+bit-without a b k h l =
+    ap (λ x. eqb x 1) (bit-and a ((2 ^ 64 - 1) - b) k ∙ ap (λ x. min (bit a k) x) (bit-not 64 b k h l))
+    ∙ each (bit a k) (bit b k) (two-cases (bit a k) (bit-lt a k)) (two-cases (bit b k) (bit-lt b k))
+  where
+    each : (x y : ℕ) → (x ≡ 0) ⊎ (x ≡ 1) → (y ≡ 0) ⊎ (y ≡ 1) → eqb (min x (1 - y)) 1 ≡ (eqb x 1 && not (eqb y 1))
+    each x y (inl p) (inl q) = rw (p, q)
+    each x y (inl p) (inr q) = rw (p, q)
+    each x y (inr p) (inl q) = rw (p, q)
+    each x y (inr p) (inr q) = rw (p, q)
 
 -- ---- the trailing zeros
 

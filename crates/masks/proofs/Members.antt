@@ -1,20 +1,19 @@
--- Laws of a set with a vertex put in, and of the vertices of one set that another lacks. Assumes nothing.
+-- Laws of a set with a vertex put in, and of the empty set. Assumes nothing.
 use mathlib.Core.Path.{_≡_, ap, _∙_}
-use mathlib.Core.Logic.{_≢_, _⊎_, inl, inr}
-use mathlib.Core.Bool.{true, false, not, _&&_}
+use mathlib.Core.Logic.{_≢_}
+use mathlib.Core.Bool.{true, false}
 use mathlib.Core.List.{List}
-use Prim.Native.Nat.{ℕ, _+_, _-_, _/_, _%_, _^_, _<_, min}
+use Prim.Native.Nat.{ℕ, _+_, _/_, _%_, _^_, _<_}
 use native.Mathlib.Decide.{ℕ-discrete, decLt}
 use native.Mathlib.Omega.{arith}
-use lib.Bits.{bitOr, bitAnd}
+use lib.Bits.{bitOr}
 use lib.Dec.{eqb}
 use lib.ListN.{length, getD, set, replicate, length-set}
 use lib.Seq.{getD-set-same, getD-set-other, set-out}
 use borrow.Author.Tests.{eq-eqb}
-use Rattle.counting.proofs.Truth.{two-cases}
 use Rattle.masks.specs.Bits.{bit}
 use Rattle.masks.specs.Sets.{maskOf, member, member?, at, inserted}
-use Rattle.masks.proofs.Bits.{bit-lt, bit-and, bit-not, with-here, with-other}
+use Rattle.masks.proofs.Bits.{with-here, with-other}
 use Rattle.masks.proofs.Tables.{at-zeros}
 
 pub length-inserted : (s : List ℕ) (first v : ℕ) → length (inserted s first v) ≡ length s
@@ -50,16 +49,3 @@ inserted-other s first v u d = ap (λ x. eqb x 1) (go (ℕ-discrete (u / 64) (v 
 pub member-zeros : (k v : ℕ) → member? (replicate k 0) 0 v ≡ false
 unfolding at
 member-zeros k v = ap (λ x. eqb x 1) (at-zeros 0 k 0 v)
-
--- ---- what one set has and another lacks, mask by mask
-
-pub bit-without : (a b k : ℕ) → b < 2 ^ 64 → k < 64 → eqb (bit (bitAnd a ((2 ^ 64 - 1) - b)) k) 1 ≡ (eqb (bit a k) 1 && not (eqb (bit b k) 1))
-bit-without a b k h l =
-    ap (λ x. eqb x 1) (bit-and a ((2 ^ 64 - 1) - b) k ∙ ap (λ x. min (bit a k) x) (bit-not 64 b k h l))
-    ∙ each (bit a k) (bit b k) (two-cases (bit a k) (bit-lt a k)) (two-cases (bit b k) (bit-lt b k))
-  where
-    each : (x y : ℕ) → (x ≡ 0) ⊎ (x ≡ 1) → (y ≡ 0) ⊎ (y ≡ 1) → eqb (min x (1 - y)) 1 ≡ (eqb x 1 && not (eqb y 1))
-    each x y (inl p) (inl q) = rw (p, q)
-    each x y (inl p) (inr q) = rw (p, q)
-    each x y (inr p) (inl q) = rw (p, q)
-    each x y (inr p) (inr q) = rw (p, q)

@@ -1,6 +1,7 @@
--- Laws of a set of masks: its members, the count, the next member, and the union, mask by mask. Assumes nothing.
+-- Laws of a set of masks: its members, the count, the next member, and the union, intersection and difference, mask by mask. Assumes nothing.
 use mathlib.Core.Path.{_≡_, refl, sym, ap, ap₂, _∙_}
 use mathlib.Core.Logic.{_≢_, ⊎-elim}
+use mathlib.Core.Bool.{not, _&&_}
 use mathlib.Core.List.{List}
 use Prim.Native.Nat.{ℕ, zero, suc, _+_, _-_, _*_, _/_, _%_, _^_, _≤_, _<_, max, min}
 use native.Mathlib.Nat.{lt-of-le-of-lt, not-suc-le-zero}
@@ -8,6 +9,7 @@ use native.Mathlib.Omega.{arith}
 use borrow.Author.Count.{below-more}
 use lib.Bits.{bitOr, bitAnd, and-mask}
 use lib.Count.{ones, trailingZeros}
+use lib.Dec.{eqb}
 use lib.ListN.{length, getD, set, length-set}
 use lib.Pow.{shr-le}
 use lib.Seq.{getD-set-same, getD-set-other}
@@ -15,8 +17,8 @@ use Rattle.counting.specs.Count.{sum}
 use Rattle.counting.proofs.Truth.{lt-or-le}
 use Rattle.counting.proofs.Sums.{sum-ext, sum-split}
 use Rattle.masks.specs.Bits.{bit}
-use Rattle.masks.specs.Sets.{maskOf, member, inserted, United, Next}
-use Rattle.masks.proofs.Bits.{bit-lt, bit-shr, bit-of-zero, bit-high, bit-or, bit-and, trailing-below, trailing-at, trailing-lt, ones-sum}
+use Rattle.masks.specs.Sets.{maskOf, member, member?, inserted, United, Next}
+use Rattle.masks.proofs.Bits.{bit-lt, bit-shr, bit-of-zero, bit-high, bit-or, bit-and, without, bit-without, trailing-below, trailing-at, trailing-lt, ones-sum}
 
 pub member-lt : (s : List ℕ) (first v : ℕ) → member s first v < 2
 unfolding member
@@ -127,6 +129,18 @@ unfolding member
 intersected-member w a b r same v h =
     let i : ℕ = 0 + v / 64 in
     ap (λ (x : ℕ). bit x (v % 64)) (same i (omega arith)) ∙ bit-and (getD a i 0) (getD b i 0) (v % 64)
+
+-- of w masks: a member of one set that another lacks
+pub without-member : (w : ℕ) (t : List ℕ) (from : ℕ) (s : List ℕ) (first : ℕ) (r : List ℕ) → ((i : ℕ) → i < w → getD s (first + i) 0 < 2 ^ 64)
+    → ((i : ℕ) → i < w → getD r i 0 ≡ without (getD t (from + i) 0) (getD s (first + i) 0)) → (v : ℕ) → v < w * 64
+    → member? r 0 v ≡ (member? t from v && not (member? s first v))
+unfolding member
+without-member w t from s first r fit same v h =
+    let i : ℕ = v / 64 in
+    let l : i < w = omega arith in
+    ap (λ (j : ℕ). eqb (bit (getD r j 0) (v % 64)) 1) (let e : 0 + i ≡ i = omega arith in e)
+    ∙ ap (λ (x : ℕ). eqb (bit x (v % 64)) 1) (same i l)
+    ∙ bit-without (getD t (from + i) 0) (getD s (first + i) 0) (v % 64) (fit i l) (omega arith)
 
 -- as many masks as before
 pub inserted-length : (s : List ℕ) (first v : ℕ) → length (inserted s first v) ≡ length s
