@@ -8,3 +8,4 @@ pub mod Checks
 pub mod Reading
 pub mod Theorems
 pub mod Acyclic
+pub mod Graphs

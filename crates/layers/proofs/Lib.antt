@@ -4,3 +4,4 @@ pub mod Growing
 pub mod Answers
 pub mod Compaction
 pub mod Graphs
+pub mod Same

@@ -9,3 +9,4 @@ pub mod Lists
 pub mod Chains
 pub mod Ordered
 pub mod Planned
+pub mod Same

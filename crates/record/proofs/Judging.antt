@@ -14,11 +14,11 @@ use Rattle.reach.specs.Graph.{edgeCount}
 use Rattle.reach.specs.Refusal.{outsized?, strange?, verdict, refusal}
 use Rattle.reach.specs.Closure.{Closure, reachable?}
 use Rattle.reach.specs.declared.Reachability.{Reachability}
-use Rattle.reach.proofs.Closures.{same-test}
 use Rattle.reach.proofs.Refusing.{accepted-within}
 use Rattle.matching.specs.Lists.{linked, every, allLinked}
 use Rattle.channels.specs.Given.{linesOf, verticesOf, unknown?, repeats?, lacks?, broken?}
 use Rattle.channels.specs.Table.{leadsIn}
+use Rattle.channels.proofs.Graphs.{table-same}
 use Rattle.record.specs.Checks.{Content, content, duplicate?, size?, stranger?, double?, ring?, repeated?, lacking?, unled?, linesRefusal, looseChecks, laterChecks, firstOf, looseRefusal, refusalOf, refusedBy, Judged}
 
 zero-or-not : (k : ℕ) → (k ≡ 0) ⊎ (k ≡ 0 → ⊥)
@@ -157,7 +157,7 @@ module _ (n : ℕ) (f g : ℕ → ℕ → Bool) (same : (u v : ℕ) → u < n �
       let q = or-neither (leb n y) (unknown? n l) (p .1) in
       ap₂ (λ (a b : Bool). a && b) (same x y (leb-false n x (p .0)) (leb-false n y (q .0))) (linked-same (y ∷ l) (p .1))
 
-  all-linked-same : (ls : List (List ℕ)) → unknown? n (flatten ls) ≡ false → allLinked f ls ≡ allLinked g ls
+  pub all-linked-same : (ls : List (List ℕ)) → unknown? n (flatten ls) ≡ false → allLinked f ls ≡ allLinked g ls
   unfolding every flatten
   all-linked-same [] e = refl
   all-linked-same (l ∷ ls) e =
@@ -170,17 +170,9 @@ module _ (n : ℕ) (f g : ℕ → ℕ → Bool) (same : (u v : ℕ) → u < n �
   lines-same true field e =
       ap (λ (b : Bool). choose (repeats? (verticesOf field)) (λ _. 6) (λ _. choose (lacks? n (verticesOf field)) (λ _. 6) (λ _. choose (not b) (λ _. 7) (λ _. 0)))) (all-linked-same (linesOf field) e)
 
--- what the table of a graph says is what the graph says
-table-same : (n : ℕ) (tails heads : List ℕ) (r : Reachability) → Closure n tails heads r → refusal n tails heads ≡ 0
-    → (u v : ℕ) → u < n → v < n → leadsIn (r .table) u v ≡ reachable? n tails heads u v
-unfolding leadsIn
-table-same n tails heads r c accepted u v hu hv =
-    let small = accepted-within n tails heads accepted .1 in
-    same-test n tails heads (r .table) (c .bits) u v (omega arith) (omega arith)
-
 -- the checks after 2 to 4, by the graph's reachability
 pub later-same : (n : ℕ) (tails heads : List ℕ) (given : Bool) (field : List ℕ) (r : Reachability) → looseRefusal (content n tails heads given field) ≡ 0 → Closure n tails heads r
     → refusalOf (content n tails heads given field) ≡ choose (r .cyclic) (λ _. 5) (λ _. linesRefusal (leadsIn (r .table)) n given field)
 later-same n tails heads given field r passes closure =
-    let same = lines-same n (leadsIn (r .table)) (reachable? n tails heads) (table-same n tails heads r closure (edges-accepted n tails heads given field passes)) given field (no-strangers n tails heads given field passes) in
+    let same = lines-same n (leadsIn (r .table)) (reachable? n tails heads) (table-same n tails heads r closure (closure .answer ∙ edges-accepted n tails heads given field passes)) given field (no-strangers n tails heads given field passes) in
     refusal-later n tails heads given field passes ∙ ap₂ (λ (t : Bool) (k : ℕ). choose t (λ _. 5) (λ _. k)) (sym (closure .cycles)) (sym same)

@@ -8,3 +8,4 @@ pub mod Standing
 pub mod Readings
 pub mod Loosely
 pub mod Soundness
+pub mod Accepted

@@ -29,7 +29,7 @@ use Rattle.record.proofs.Judging.{passed, edges-accepted, no-strangers}
 use Rattle.record.proofs.Copying.{field-short}
 use Rattle.record.proofs.Standing.{LaidOut}
 
-refused-says : (b : List ℕ) → (recordRefusal b ≡ 0 → ⊥) → said b ≡ nothing
+pub refused-says : (b : List ℕ) → (recordRefusal b ≡ 0 → ⊥) → said b ≡ nothing
 unfolding said
 refused-says b h = ap (λ (t : Bool). choose t (λ _. contentIn b (layoutOf b)) (λ _. nothing)) (ne-eqb (recordRefusal b) 0 h)
 
@@ -48,7 +48,7 @@ pub good-refusal : (b : List ℕ) (f : Fields) → layoutOf b ≡ Good f → rec
 unfolding recordRefusal
 good-refusal b f e = ap (refusalIn refusalOf b) e
 
-accepted-says : (b : List ℕ) (f : Fields) → layoutOf b ≡ Good f → recordRefusal b ≡ 0 → said b ≡ contentOf b f
+pub accepted-says : (b : List ℕ) (f : Fields) → layoutOf b ≡ Good f → recordRefusal b ≡ 0 → said b ≡ contentOf b f
 unfolding said
 accepted-says b f e z = ap (λ (t : Bool). choose t (λ _. contentIn b (layoutOf b)) (λ _. nothing)) (eq-eqb (recordRefusal b) 0 z) ∙ ap (contentIn b) e
 
@@ -76,7 +76,7 @@ given-few n field true small g u r e =
     omega arith
 
 module _ (b : List ℕ) (f : Fields) (laid : LaidOut b f) where
-  edges-counted : edgesOf (contentOf b f) ≡ f .count
+  pub edges-counted : edgesOf (contentOf b f) ≡ f .count
   unfolding contentOf
   edges-counted = let p = pair-lengths b (f .edges) (f .count) (laid .edges) in let x = p .0 in let y = p .1 in omega arith
 
@@ -91,7 +91,7 @@ module _ (b : List ℕ) (f : Fields) (laid : LaidOut b f) where
   pub few-edges : looseRefusal (contentOf b f) ≡ 0 → f .count ≤ 4096
   few-edges e = ⊎-elim (λ h. absurd (let z : _≡_ {A = ℕ} 2 0 = sym (many-edges h) ∙ e in omega arith)) (λ h. h) (lt-or-le 4096 (f .count))
 
-  field-long : length (take (f .size) (drop (f .lines) b)) ≡ f .size
+  pub field-long : length (take (f .size) (drop (f .lines) b)) ≡ f .size
   field-long = simp (length-take, length-drop) (let l = laid .lines in omega arith)
 
   -- the given channels of an accepted record have at most 256 bytes

@@ -39,7 +39,7 @@ guarded false k rest ne e = (refl, e)
 none-found : (n : ℕ) (f : ℕ → Bool) → some n f ≡ false → (i : ℕ) → i < n → f i ≡ false
 none-found n f e i l = not-true (f i) (λ t. true≢false (sym (some-found n f i l t) ∙ e))
 
-given-passes : (g t : Bool) → (g && t) ≡ false → g ≡ true → t ≡ false
+pub given-passes : (g t : Bool) → (g && t) ≡ false → g ≡ true → t ≡ false
 given-passes true t e p = e
 given-passes false t e p = absurd (true≢false (sym p))
 
@@ -48,16 +48,16 @@ passes-given true t h = h refl
 passes-given false t h = refl
 
 -- every test of document 01's list
-record Passes (c : Content) : Type 0 where
-  size : size? c ≡ false
-  stranger : stranger? c ≡ false
-  double : double? c ≡ false
-  ring : ring? c ≡ false
-  repeated : repeated? c ≡ false
-  lacking : lacking? c ≡ false
-  unled : unled? c ≡ false
+pub record Passes (c : Content) : Type 0 where
+  pub size : size? c ≡ false
+  pub stranger : stranger? c ≡ false
+  pub double : double? c ≡ false
+  pub ring : ring? c ≡ false
+  pub repeated : repeated? c ≡ false
+  pub lacking : lacking? c ≡ false
+  pub unled : unled? c ≡ false
 
-accepted-passes : (c : Content) → refusalOf c ≡ 0 → Passes c
+pub accepted-passes : (c : Content) → refusalOf c ≡ 0 → Passes c
 unfolding refusalOf firstOf looseChecks laterChecks
 accepted-passes c e =
     let a = guarded (size? c) 2 _ (λ z. omega arith) e in

@@ -1,0 +1,215 @@
+-- Laws of the choice: no vertex goes before the best, and how a scan finds it. Assumes nothing.
+use mathlib.Core.Path.{_≡_, refl, sym, ap, _∙_, subst}
+use mathlib.Core.Logic.{_⊎_, inl, inr, ⊎-elim}
+use mathlib.Core.Bool.{Bool, true, false, true≢false, _&&_, _||_}
+use mathlib.Core.List.{List}
+use Prim.Native.Nat.{ℕ, zero, suc, _+_, _≤_, _<_}
+use native.Mathlib.Nat.{not-suc-le-zero}
+use native.Mathlib.Numerals.{add-one}
+use native.Mathlib.Omega.{arith}
+use borrow.Author.Tests.{eq-eqb, ne-eqb, eqb-true, ltb-true, ltb-false}
+use lib.Dec.{eqb, ltb}
+use lib.ListN.{getD}
+use Rattle.counting.specs.Count.{choose}
+use Rattle.counting.proofs.Truth.{true-or-false, lt-or-le, and-intro, and-elim, or-elim, or-neither}
+use Rattle.bundles.specs.Bundles.{before, best, better}
+use Rattle.bundles.specs.Steps.{endOf, loadAt, Finds, Picks}
+use Rattle.bundles.specs.declared.End.{End}
+use Rattle.bundles.proofs.Choose.{choose-yes, choose-no}
+
+-- x edges at position p, and y at position q
+ahead-yes : (x p y q : ℕ) → (ltb y x || (eqb y x && ltb p q)) ≡ true → (y < x) ⊎ ((y ≡ x) × (p < q))
+ahead-yes x p y q e =
+    ⊎-elim (λ a. inl (ltb-true y x a)) (λ a. let b = and-elim (eqb y x) (ltb p q) a in inr (eqb-true y x (b .0), ltb-true p q (b .1))) (or-elim (ltb y x) (eqb y x && ltb p q) e)
+
+ahead-no : (x p y q : ℕ) → (ltb y x || (eqb y x && ltb p q)) ≡ false → (x ≤ y) × (x ≡ y → q ≤ p)
+ahead-no x p y q e =
+    let o = or-neither (ltb y x) (eqb y x && ltb p q) e in
+    (ltb-false y x (o .0), λ z. ltb-false p q (⊎-elim (λ t. absurd (true≢false (sym (and-intro (eqb y x) (ltb p q) (eq-eqb y x (sym z)) t) ∙ o .1))) (λ t. t) (true-or-false (ltb p q))))
+
+module _ (position f : ℕ → ℕ) where
+  before-yes : (v w : ℕ) → before position f v w ≡ true → (f w < f v) ⊎ ((f w ≡ f v) × (position v < position w))
+  unfolding before
+  before-yes v w e = ahead-yes (f v) (position v) (f w) (position w) e
+
+  before-no : (v w : ℕ) → before position f v w ≡ false → (f v ≤ f w) × (f v ≡ f w → position w ≤ position v)
+  unfolding before
+  before-no v w e = ahead-no (f v) (position v) (f w) (position w) e
+
+  -- one vertex more
+  best-cases : (j : ℕ) → ((before position f j (best position j f) ≡ true) × (best position (suc j) f ≡ j)) ⊎ ((before position f j (best position j f) ≡ false) × (best position (suc j) f ≡ best position j f))
+  unfolding best
+  best-cases j =
+      ⊎-elim
+      (λ t. inl (t, choose-yes (before position f j (best position j f)) (λ _. j) (λ _. best position j f) t))
+      (λ t. inr (t, choose-no (before position f j (best position j f)) (λ _. j) (λ _. best position j f) t))
+      (true-or-false (before position f j (best position j f)))
+
+  best-first : best position 1 f ≡ 0
+  unfolding best
+  best-first = ⊎-elim (λ p. p .1) (λ p. p .1) (best-cases 0)
+
+  pub best-below : (n : ℕ) → 0 < n → best position n f < n
+  best-below zero l = absurd (not-suc-le-zero l)
+  best-below (suc zero) l = subst (λ (x : ℕ). x < 1) (sym best-first) (omega arith)
+  best-below (suc (suc j)) l =
+      ⊎-elim (λ p. let e = p .1 in omega arith) (λ p. let e = p .1 in let i = best-below (suc j) (omega arith) in omega arith) (best-cases (suc j))
+
+  -- NO VERTEX HAS MORE, and of equals none has a lower position
+  pub best-most : (n u : ℕ) → u < n → (f u ≤ f (best position n f)) × (f u ≡ f (best position n f) → position (best position n f) ≤ position u)
+  best-most zero u l = absurd (not-suc-le-zero l)
+  best-most (suc j) u l =
+      ⊎-elim
+      (λ p. let b = before-yes j (best position j f) (p .0) in
+      let fe = ap f (p .1) in let pe = ap position (p .1) in
+      ⊎-elim
+      (λ h. let i = best-most j u h in
+      ⊎-elim (λ z. (omega arith, λ y. omega arith)) (λ z. (omega arith, λ y. let k = i .1 (omega arith) in omega arith)) b)
+      (λ h. let q : u ≡ j = omega arith in let fu = ap f q in let pu = ap position q in (omega arith, λ y. omega arith))
+      (lt-or-le u j))
+      (λ p. let b = before-no j (best position j f) (p .0) in
+      let fe = ap f (p .1) in let pe = ap position (p .1) in
+      ⊎-elim
+      (λ h. let i = best-most j u h in (omega arith, λ y. let k = i .1 (omega arith) in omega arith))
+      (λ h. let q : u ≡ j = omega arith in let fu = ap f q in let pu = ap position q in (omega arith, λ y. let k = b .1 (omega arith) in omega arith))
+      (lt-or-le u j))
+      (best-cases j)
+
+-- the same loads and positions below n
+pub best-ext : (p q f g : ℕ → ℕ) (n : ℕ) → ((v : ℕ) → v < n → p v ≡ q v) → ((v : ℕ) → v < n → f v ≡ g v) → best p n f ≡ best q n g
+unfolding best before
+best-ext p q f g zero a b = refl
+best-ext p q f g (suc zero) a b = best-first p f ∙ sym (best-first q g)
+best-ext p q f g (suc (suc j)) a b =
+    let ih : best p (suc j) f ≡ best q (suc j) g = best-ext p q f g (suc j) (λ v l. a v (omega arith)) (λ v l. b v (omega arith)) in
+    let low = best-below q g (suc j) (omega arith) in
+    let at : (v w : ℕ) → v < suc (suc j) → w < suc (suc j) → before p f v w ≡ before q g v w = λ v w l m. simp (a v l, a w m, b v l, b w m) in
+    ap (λ (x : ℕ). better p f x (suc j)) ih ∙ ap (λ (t : Bool). choose t (λ _. suc j) (λ _. best q (suc j) g)) (at (suc j) (best q (suc j) g) (omega arith) (omega arith))
+
+-- ---- the scan
+
+module _ (position : ℕ → ℕ) (f : ℕ → ℕ) where
+  pub finds-none : Finds position 0 f 0 0
+  finds-none = record { none = λ e. refl; most = λ l. absurd (not-suc-le-zero l); which = λ l. absurd (not-suc-le-zero l) }
+
+  module _ (v a m : ℕ) (o : Finds position v f a m) where
+    -- how the best of v vertices stands to what is found
+    known : ((v ≡ 0) × (m ≡ 0)) ⊎ ((0 < v) × (m ≡ f (best position v f)))
+    known = ⊎-elim (λ l. inr (l, o .most l)) (λ l. let z : v ≡ 0 = omega arith in inl (z, o .none z)) (lt-or-le 0 v)
+
+    first-is : v ≡ 0 → best position (suc v) f ≡ v
+    first-is z = ap (λ (k : ℕ). best position (suc k) f) z ∙ best-first position f ∙ sym z
+
+    -- nothing waits at v
+    pub finds-skip : f v ≡ 0 → Finds position (suc v) f a m
+    finds-skip z = record {
+      none = λ e. absurd (omega arith);
+      most = λ l. ⊎-elim
+          (λ k. let e = ap f (first-is (k .0)) in let h = k .1 in omega arith)
+          (λ k. let h = k .1 in ⊎-elim
+          (λ p. let e = ap f (p .1) in ⊎-elim (λ x. absurd (omega arith)) (λ x. let y = x .0 in omega arith) (before-yes position f v (best position v f) (p .0)))
+          (λ p. h ∙ ap f (sym (p .1)))
+          (best-cases position f v))
+          known;
+      which = λ l. ⊎-elim
+          (λ k. absurd (let h = k .1 in omega arith))
+          (λ k. let h = k .1 in ⊎-elim
+          (λ p. absurd (⊎-elim (λ x. omega arith) (λ x. let y = x .0 in omega arith) (before-yes position f v (best position v f) (p .0))))
+          (λ p. o .which l ∙ sym (p .1))
+          (best-cases position f v))
+          known;
+    }
+
+    -- v goes before what was found
+    pub finds-take : (ltb m (f v) || (eqb m (f v) && ltb (position v) (position a))) ≡ true → Finds position (suc v) f v (f v)
+    finds-take t = record {
+      none = λ e. absurd (omega arith);
+      most = λ l. ⊎-elim
+          (λ k. ap f (sym (first-is (k .0))))
+          (λ k. let h = k .1 in ⊎-elim
+          (λ p. ap f (sym (p .1)))
+          (λ p. let e = ap f (p .1) in let n = before-no position f v (best position v f) (p .0) in ⊎-elim (λ x. omega arith) (λ x. let y = x .0 in omega arith) ahead)
+          (best-cases position f v))
+          known;
+      which = λ l. ⊎-elim
+          (λ k. sym (first-is (k .0)))
+          (λ k. let h = k .1 in ⊎-elim
+          (λ p. sym (p .1))
+          (λ p. let n = before-no position f v (best position v f) (p .0) in absurd (⊎-elim
+          (λ x. omega arith)
+          (λ x. let y = x .0 in let lower = x .1 in let q = ap position (o .which (omega arith)) in let r = n .1 (omega arith) in omega arith)
+          ahead))
+          (best-cases position f v))
+          known;
+    }
+      where
+        ahead : (m < f v) ⊎ ((m ≡ f v) × (position v < position a))
+        ahead = ahead-yes (f v) (position v) m (position a) t
+
+    -- it does not
+    pub finds-pass : (ltb m (f v) || (eqb m (f v) && ltb (position v) (position a))) ≡ false → Finds position (suc v) f a m
+    finds-pass t = record {
+      none = λ e. absurd (omega arith);
+      most = λ l. ⊎-elim
+          (λ k. let e = ap f (first-is (k .0)) in let h = k .1 in let b = behind .0 in omega arith)
+          (λ k. let h = k .1 in ⊎-elim
+          (λ p. let e = ap f (p .1) in let b = behind .0 in ⊎-elim (λ x. absurd (omega arith)) (λ x. let y = x .0 in omega arith) (before-yes position f v (best position v f) (p .0)))
+          (λ p. h ∙ ap f (sym (p .1)))
+          (best-cases position f v))
+          known;
+      which = λ l. ⊎-elim
+          (λ k. absurd (let h = k .1 in omega arith))
+          (λ k. let h = k .1 in ⊎-elim
+          (λ p. let b = behind .0 in absurd (⊎-elim
+          (λ x. omega arith)
+          (λ x. let y = x .0 in let lower = x .1 in let q = ap position (o .which l) in let r = behind .1 (omega arith) in omega arith)
+          (before-yes position f v (best position v f) (p .0))))
+          (λ p. o .which l ∙ sym (p .1))
+          (best-cases position f v))
+          known;
+    }
+      where
+        behind : (f v ≤ m) × (f v ≡ m → position a ≤ position v)
+        behind = ahead-no (f v) (position v) m (position a) t
+
+-- ---- the same as the code's loop takes it: x edges wait at v, and t is the answer of the test
+
+module _ (position f : ℕ → ℕ) (v a m : ℕ) where
+  pub finds-skip′ : f v ≡ 0 → Finds position v f a m → Finds position (v + 1) f a m
+  finds-skip′ z o = subst (λ (k : ℕ). Finds position k f a m) (sym (add-one v)) (finds-skip position f v a m o z)
+
+  module _ (x : ℕ) {t : Bool} (load : f v ≡ x) (test : t ≡ (ltb m x || (eqb m x && ltb (position v) (position a)))) where
+    as-load : t ≡ (ltb m (f v) || (eqb m (f v) && ltb (position v) (position a)))
+    as-load = test ∙ ap (λ (y : ℕ). ltb m y || (eqb m y && ltb (position v) (position a))) (sym load)
+
+    pub finds-take′ : t ≡ true → Finds position v f a m → Finds position (v + 1) f v x
+    finds-take′ e o = subst (λ (k : ℕ). Finds position k f v x) (sym (add-one v)) (subst (Finds position (suc v) f v) load (finds-take position f v a m o (sym as-load ∙ e)))
+
+    pub finds-pass′ : t ≡ false → Finds position v f a m → Finds position (v + 1) f a m
+    finds-pass′ e o = subst (λ (k : ℕ). Finds position k f a m) (sym (add-one v)) (finds-pass position f v a m o (sym as-load ∙ e))
+
+-- a vertex of the channel has its load, and another none
+module _ (channel load : List ℕ) (c : ℕ) (d : Bool) (v : ℕ) where
+  pub own : (e : ℕ) → getD channel v 0 ≡ c → e ≡ endOf d v → loadAt c channel load d v ≡ getD load e 0
+  own e h q = choose-yes (eqb (getD channel v 0) c) (λ _. getD load (endOf d v) 0) (λ _. 0) (eq-eqb (getD channel v 0) c h) ∙ ap (λ (x : ℕ). getD load x 0) (sym q)
+
+  pub other : (getD channel v 0 ≡ c → ⊥) → loadAt c channel load d v ≡ 0
+  other h = choose-no (eqb (getD channel v 0) c) (λ _. getD load (endOf d v) 0) (λ _. 0) (ne-eqb (getD channel v 0) c h)
+
+-- ---- of both directions
+
+module _ (position : ℕ → ℕ) (n : ℕ) (f : Bool → ℕ → ℕ) (i o : End) (into : i .into ≡ true) (out : o .into ≡ false)
+    (a : Finds position n (f true) (i .vertex) (i .load)) (b : Finds position n (f false) (o .vertex) (o .load)) where
+  pub picks-out : i .load < o .load → Picks position n f o
+  picks-out l = record {
+    found = subst (λ (d : Bool). Finds position n (f d) (o .vertex) (o .load)) (sym out) b;
+    into = λ e. absurd (true≢false (sym e ∙ out));
+    out-of = λ e h. let m = a .most h in omega arith;
+  }
+
+  pub picks-into : o .load ≤ i .load → Picks position n f i
+  picks-into l = record {
+    found = subst (λ (d : Bool). Finds position n (f d) (i .vertex) (i .load)) (sym into) a;
+    into = λ e h. let m = b .most h in omega arith;
+    out-of = λ e. absurd (true≢false (sym into ∙ e));
+  }

@@ -1,0 +1,13 @@
+pub mod Choose
+pub mod Numbers
+pub mod Extremes
+pub mod Choices
+pub mod Waiting
+pub mod Rounds
+pub mod Extension
+pub mod Standing
+pub mod Filling
+pub mod Marks
+pub mod Going
+pub mod Answers
+pub mod Covering

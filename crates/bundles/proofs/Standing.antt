@@ -1,0 +1,277 @@
+-- The state stands for the bundles made so far: at the start, after a bundle, and at the end. Assumes nothing.
+use mathlib.Core.Path.{_≡_, refl, sym, ap, ap₂, _∙_, subst}
+use mathlib.Core.Logic.{_≢_, _⊎_, inl, inr, ⊎-elim}
+use mathlib.Core.Bool.{Bool, true, false, not, _&&_}
+use mathlib.Core.List.{List, [], _∷_, _++_}
+use Prim.Native.Nat.{ℕ, zero, suc, _+_, _*_, _≤_, _<_, min, max}
+use native.Mathlib.Decide.{ℕ-discrete}
+use native.Mathlib.Omega.{arith}
+use borrow.Author.Tests.{eq-eqb, ne-eqb, lt-ltb, ltb-true}
+use lib.Dec.{eqb, ltb}
+use lib.ListN.{length, getD, set, replicate, length-set, length-append, List·getD-append, List·getD-eq-default}
+use lib.Seq.{getD-set-same, getD-set-other, getD-append-seam}
+use Rattle.counting.specs.Count.{indicator, count}
+use Rattle.counting.proofs.Truth.{true-or-false, lt-or-le, and-elim, two-cases}
+use Rattle.counting.proofs.Falsity.{not-true}
+use Rattle.counting.proofs.Sums.{sum-ext, sum-less}
+use Rattle.counting.proofs.Classes.{sum-term}
+use Rattle.counting.proofs.Zeros.{zeros}
+use Rattle.masks.specs.Sets.{member, member?}
+use Rattle.masks.proofs.Sets.{member-lt}
+use Rattle.bundles.specs.Bundles.{Bundle, gathers, taken, along, waits, waitsAt, lowest, highest, made}
+use Rattle.bundles.specs.Promise.{empty, numberFrom, Listed}
+use Rattle.bundles.specs.Steps.{endOf, Sets, sideIn, Filled, loadIn, openAt, Room, Added, Column, Holds, Stands}
+use Rattle.bundles.specs.declared.State.{State}
+use Rattle.bundles.proofs.Choose.{choose-yes, choose-no}
+use Rattle.bundles.proofs.Numbers.{gathered, number-none, number-kept, number-last, open-end}
+use Rattle.bundles.proofs.Extremes.{joined-ext, lowest-with, lowest-cut, highest-with, highest-cut}
+use Rattle.bundles.proofs.Waiting.{and-yes, Of, of-here, of-there, waits-ends, turned, waiting-open, wait-gone, wait-kept, wait-fewer}
+
+-- ---- the edges in the masks
+
+module _ (n : ℕ) (small : n ≤ 128) (sets : List ℕ) where
+  -- an edge of the masks is between two of n vertices
+  pub side-inside : (u v : ℕ) → sideIn n sets u v ≡ true → (u < n) × (v < n)
+  unfolding sideIn
+  side-inside u v e =
+      let a = and-elim (ltb u n && ltb v n) (member? sets (2 * endOf false u) v) e in
+      let b = and-elim (ltb u n) (ltb v n) (a .0) in
+      (ltb-true u n (b .0), ltb-true v n (b .1))
+
+  module _ (side : ℕ → ℕ → Bool) (inside : (u v : ℕ) → side u v ≡ true → (u < n) × (v < n)) (s : Sets side sets) where
+    pub side-same : (u v : ℕ) → u < 128 → v < 128 → sideIn n sets u v ≡ side u v
+    unfolding sideIn
+    side-same u v l m = ap (λ t. (ltb u n && ltb v n) && t) (s .has false u v l m) ∙ go (side u v) refl
+      where
+        no : (a : Bool) → (a && false) ≡ false
+        no true = refl
+        no false = refl
+
+        go : (t : Bool) → side u v ≡ t → ((ltb u n && ltb v n) && side u v) ≡ side u v
+        go true e = let i = inside u v e in ap₂ (λ a b. (a && b) && side u v) (lt-ltb u n (i .0)) (lt-ltb v n (i .1))
+        go false e = ap (λ t. (ltb u n && ltb v n) && t) e ∙ no (ltb u n && ltb v n) ∙ sym e
+
+    pub sets-own : Sets (sideIn n sets) sets
+    sets-own = record { size = s .size; has = has }
+      where
+        has : (d : Bool) (v w : ℕ) → v < 128 → w < 128 → member? sets (2 * endOf d v) w ≡ along d (sideIn n sets) v w
+        has true v w l m = s .has true v w l m ∙ sym (side-same w v m l)
+        has false v w l m = s .has false v w l m ∙ sym (side-same v w l m)
+
+-- ---- at the start
+
+indicator-member : (x : ℕ) → x < 2 → x ≡ indicator (eqb x 1)
+indicator-member x l = ⊎-elim (λ e. rw e) (λ e. rw e) (two-cases x l)
+
+module _ (n : ℕ) (small : n ≤ 128) (side : ℕ → ℕ → Bool) (inside : (u v : ℕ) → side u v ≡ true → (u < n) × (v < n)) where
+  along-inside : (d : Bool) (v w : ℕ) → n ≤ w → along d side v w ≡ false
+  along-inside true v w l = not-true (side w v) (λ e. let i = inside w v e in omega arith)
+  along-inside false v w l = not-true (side v w) (λ e. let i = inside v w e in omega arith)
+
+  nothing-taken : (d : Bool) (v w : ℕ) → along d side v w ≡ waitsAt side [] d v w
+  unfolding waitsAt waits taken
+  nothing-taken true v w = sym (and-yes (side w v))
+  nothing-taken false v w = sym (and-yes (side v w))
+
+  pub stands-none : (sets load : List ℕ) → Sets side sets → Filled 256 (loadIn sets) 256 load
+      → Stands n side [] (record { count = 0; channel = replicate 256 0; first = replicate 256 0; last = replicate 256 0; number = replicate 256 256; load = load })
+  unfolding numberFrom count
+  stands-none sets load s l = record {
+    holds = record {
+      sized = record { channel = refl; first = refl; last = refl; number = refl; load = l .size };
+      counted = refl;
+      channel = record { value = zeros 256 };
+      first = record { value = zeros 256 };
+      last = record { value = zeros 256 };
+      number = λ d v h. all 256 (endOf d v) (end-below d v h);
+    };
+    load = λ d v h. l .value (endOf d v) (end-below d v h)
+        ∙ sum-ext 128 (member sets (2 * endOf d v)) (λ w. indicator (along d side v w)) (λ w m. indicator-member (member sets (2 * endOf d v) w) (member-lt sets (2 * endOf d v) w) ∙ ap indicator (s .has d v w h m))
+        ∙ sum-less n 128 (λ w. indicator (along d side v w)) small (λ w a b. ap indicator (along-inside d v w a))
+        ∙ sum-ext n (λ w. indicator (along d side v w)) (λ w. indicator (waitsAt side [] d v w)) (λ w m. ap indicator (nothing-taken d v w));
+  }
+    where
+      end-below : (d : Bool) (v : ℕ) → v < 128 → endOf d v < 256
+      end-below true v h = omega arith
+      end-below false v h = omega arith
+
+      all : (k i : ℕ) → i < k → _≡_ {A = ℕ} (getD (replicate k 256) i 0) 256
+      all zero i h = absurd (omega arith)
+      all (suc k) zero h = refl
+      all (suc k) (suc i) h = all k i (omega arith)
+
+-- ---- after a bundle
+
+pub column-more : (f : Bundle → ℕ) → f empty ≡ 0 → (bs : List Bundle) (values : List ℕ) (b : Bundle) → length bs < length values → Column f bs values → Column f (bs ++ (b ∷ [])) (set values (length bs) (f b))
+column-more f z bs values b h c = record { value = value }
+  where
+    value : (i : ℕ) → getD (set values (length bs) (f b)) i 0 ≡ f (getD (bs ++ (b ∷ [])) i empty)
+    value i =
+        ⊎-elim
+        (λ l. getD-set-other values (length bs) i (f b) 0 (λ e. omega arith) ∙ c .value i ∙ ap f (sym (List·getD-append bs (b ∷ []) empty i l)))
+        (λ l. past (ℕ-discrete i (length bs)) l)
+        (lt-or-le i (length bs))
+      where
+        past : Dec (i ≡ length bs) → length bs ≤ i → getD (set values (length bs) (f b)) i 0 ≡ f (getD (bs ++ (b ∷ [])) i empty)
+        past (yes q) l = rw q (getD-set-same values (length bs) (f b) 0 h ∙ ap f (sym (getD-append-seam bs b [] empty)))
+        past (no q) l =
+            getD-set-other values (length bs) i (f b) 0 q ∙ c .value i
+            ∙ ap f (List·getD-eq-default bs empty l ∙ sym (List·getD-eq-default (bs ++ (b ∷ [])) empty (let e = length-append bs (b ∷ []) in omega arith)))
+
+-- an end that the new bundle is not of keeps its number
+number-same : (bs : List Bundle) (b : Bundle) (d : Bool) (v : ℕ) → gathers b d v ≡ false → numberFrom 0 (bs ++ (b ∷ [])) d v ≡ numberFrom 0 bs d v
+number-same bs b d v e =
+    ⊎-elim
+    (λ t. number-kept 0 bs (b ∷ []) d v t)
+    (λ t. number-last 0 bs b d v t ∙ choose-no (gathers b d v) (λ _. 0 + length bs) (λ _. 256) e ∙ sym (number-none 0 bs d v t))
+    (true-or-false (gathered bs d v))
+
+same-or-not : (d t : Bool) → (t ≡ d) ⊎ (t ≡ not d)
+same-or-not true true = inl refl
+same-or-not true false = inr refl
+same-or-not false true = inr refl
+same-or-not false false = inl refl
+
+-- different ends have different numbers
+end-here : (d : Bool) (u v : ℕ) → endOf d u ≡ endOf d v → u ≡ v
+end-here true u v e = e
+end-here false u v e = omega arith
+
+end-there : (d : Bool) (u v : ℕ) → u < 128 → v < 128 → endOf (not d) u ≡ endOf d v → ⊥
+end-there true u v a b e = omega arith
+end-there false u v a b e = omega arith
+
+module _ (n : ℕ) (small : n ≤ 128) (side : ℕ → ℕ → Bool) (inside : (u v : ℕ) → side u v ≡ true → (u < n) × (v < n)) (sets rows : List ℕ) (s : Sets side sets)
+    (bs : List Bundle) (st : State) (o : Stands n side bs st) (d : Bool) (v : ℕ) (below : v < n) (few : length bs < 256) (some : 0 < count n (waitsAt side bs d v)) where
+  -- the code's test of an edge is the rule's
+  open-waits : (w : ℕ) → w < 128 → openAt sets (st .number) d v w ≡ waitsAt side bs d v w
+  unfolding openAt
+  open-waits w l =
+      ap₂ (λ a b. a && b) (s .has d v w (omega arith) l) (ap (λ (x : ℕ). eqb x 256) (o .holds .number (not d) w l) ∙ open-end bs (not d) w (omega arith))
+      ∙ ap (λ t. along d side v w && (t && not (gathered bs (not d) w))) (sym (ap not (waiting-open side bs d v n some)))
+      ∙ sym (waits-ends side bs d v w)
+
+  pub stands-room : length rows ≡ 128 → Room sets rows d v st
+  unfolding count
+  stands-room h = record {
+    sized = o .holds .sized;
+    count = (let e = o .holds .counted in omega arith);
+    vertex = omega arith;
+    long = h;
+    counted = λ w l t. let e = o .load (not d) w l in
+        let i = ap indicator (sym (turned side bs d w v) ∙ sym (open-waits w l) ∙ t) in
+        let p = sum-term n (λ x. indicator (waitsAt side bs (not d) w x)) v below in
+        omega arith;
+  }
+
+  waits-inside : (w : ℕ) → n ≤ w → waitsAt side bs d v w ≡ false
+  waits-inside w l = waits-ends side bs d v w ∙ ap (λ t. t && (not (gathered bs d v) && not (gathered bs (not d) w))) (along-inside n small side inside d v w l)
+
+  module _ (channel position : ℕ → ℕ) (c : ℕ) (r : State) (a : Added sets rows c d v st r) where
+    row : ℕ → ℕ
+    row w = getD rows w 0
+
+    abbrev b : Bundle
+    b = made n side channel position (λ w. getD rows w 0) c bs d v
+
+    of : Of b d v
+    unfolding made
+    of = record { direction = refl; vertex = refl }
+
+    first-is : min (lowest 128 (openAt sets (st .number) d v) (λ w. getD rows w 0)) (getD rows v 0) ≡ b .first
+    unfolding made
+    first-is =
+        ap (λ (x : ℕ). min x (getD rows v 0))
+        (joined-ext min 255 128 (openAt sets (st .number) d v) (waitsAt side bs d v) (λ w. getD rows w 0) (λ w. getD rows w 0) open-waits (λ w l. refl)
+        ∙ lowest-cut n 128 (waitsAt side bs d v) (λ w. getD rows w 0) small (λ w l m. waits-inside w l))
+        ∙ sym (lowest-with n (waitsAt side bs d v) (λ w. getD rows w 0) v below)
+
+    last-is : max (highest 128 (openAt sets (st .number) d v) (λ w. getD rows w 0)) (getD rows v 0) ≡ b .last
+    unfolding made
+    last-is =
+        ap (λ (x : ℕ). max x (getD rows v 0))
+        (joined-ext max 0 128 (openAt sets (st .number) d v) (waitsAt side bs d v) (λ w. getD rows w 0) (λ w. getD rows w 0) open-waits (λ w l. refl)
+        ∙ highest-cut n 128 (waitsAt side bs d v) (λ w. getD rows w 0) small (λ w l m. waits-inside w l))
+        ∙ sym (highest-with n (waitsAt side bs d v) (λ w. getD rows w 0) v below)
+
+    channel-is : b .channel ≡ c
+    unfolding made
+    channel-is = refl
+
+    -- a column with the value of the new bundle
+    column : (f : Bundle → ℕ) → f empty ≡ 0 → (values is : List ℕ) (x : ℕ) → length values ≡ 256 → Column f bs values → x ≡ f b → is ≡ set values (st .count) x → Column f (bs ++ (b ∷ [])) is
+    column f z values is x l k e q =
+        subst (Column f (bs ++ (b ∷ []))) (sym (q ∙ ap₂ (set values) (o .holds .counted) e)) (column-more f z bs values b (omega arith) k)
+
+    number : (t : Bool) (u : ℕ) → u < 128 → getD (r .number) (endOf t u) 0 ≡ numberFrom 0 (bs ++ (b ∷ [])) t u
+    number t u l = ap (λ (x : List ℕ). getD x (endOf t u) 0) (a .number) ∙ ⊎-elim (λ q. same t q (ℕ-discrete u v)) (λ q. other t q) (same-or-not d t)
+      where
+        kept : (t : Bool) → gathers b t u ≡ false → endOf t u ≢ endOf d v → getD (set (st .number) (endOf d v) (st .count)) (endOf t u) 0 ≡ numberFrom 0 (bs ++ (b ∷ [])) t u
+        kept t g ne = getD-set-other (st .number) (endOf d v) (endOf t u) (st .count) 0 ne ∙ o .holds .number t u l ∙ sym (number-same bs b t u g)
+
+        same : (t : Bool) → t ≡ d → Dec (u ≡ v) → getD (set (st .number) (endOf d v) (st .count)) (endOf t u) 0 ≡ numberFrom 0 (bs ++ (b ∷ [])) t u
+        same t q (yes e) =
+            rw (q, e)
+            (getD-set-same (st .number) (endOf d v) (st .count) 0 (end-inside d)
+            ∙ o .holds .counted
+            ∙ sym (number-last 0 bs b d v (waiting-open side bs d v n some) ∙ choose-yes (gathers b d v) (λ _. 0 + length bs) (λ _. 256) (of-here b d v v of ∙ eq-eqb v v refl) ∙ (let z : 0 + length bs ≡ length bs = omega arith in z)))
+          where
+            end-inside : (d : Bool) → endOf d v < length (st .number)
+            end-inside true = let e = o .holds .sized .number in omega arith
+            end-inside false = let e = o .holds .sized .number in omega arith
+        same t q (no e) = rw q (kept d (of-here b d v u of ∙ ne-eqb v u (λ z. e (sym z))) (λ z. e (end-here d u v z)))
+
+        other : (t : Bool) → t ≡ not d → getD (set (st .number) (endOf d v) (st .count)) (endOf t u) 0 ≡ numberFrom 0 (bs ++ (b ∷ [])) t u
+        other t q = rw q (kept (not d) (of-there b d v u of) (end-there d u v l (omega arith)))
+
+    load : (t : Bool) (u : ℕ) → u < 128 → getD (r .load) (endOf t u) 0 ≡ count n (waitsAt side (bs ++ (b ∷ [])) t u)
+    load t u l = ⊎-elim (λ q. same t q (ℕ-discrete u v)) (λ q. other t q) (same-or-not d t)
+      where
+        same : (t : Bool) → t ≡ d → Dec (u ≡ v) → getD (r .load) (endOf t u) 0 ≡ count n (waitsAt side (bs ++ (b ∷ [])) t u)
+        same t q (yes e) = rw (q, e) (a .gone ∙ sym (wait-gone side bs b d v of n))
+        same t q (no e) = rw q (a .kept u l e ∙ o .load d u l ∙ sym (wait-kept side bs b d v of n u e))
+
+        other : (t : Bool) → t ≡ not d → getD (r .load) (endOf t u) 0 ≡ count n (waitsAt side (bs ++ (b ∷ [])) t u)
+        other t q =
+            rw q
+            (let x = a .fewer u l in
+            let y = o .load (not d) u l in
+            let z = wait-fewer side bs b d v of n u below in
+            let i = ap indicator (open-waits u l) in
+            omega arith)
+
+    pub stands-more : Stands n side (bs ++ (b ∷ [])) r
+    stands-more =
+        let h = o .holds in
+        record {
+          holds = record {
+            sized = record {
+              channel = ap length (a .channel) ∙ length-set (st .channel) (st .count) _ ∙ h .sized .channel;
+              first = ap length (a .first) ∙ length-set (st .first) (st .count) _ ∙ h .sized .first;
+              last = ap length (a .last) ∙ length-set (st .last) (st .count) _ ∙ h .sized .last;
+              number = ap length (a .number) ∙ length-set (st .number) (endOf d v) _ ∙ h .sized .number;
+              load = a .size ∙ h .sized .load;
+            };
+            counted = (let e = length-append bs (b ∷ []) in let p = a .count in let q = h .counted in omega arith);
+            channel = column (λ x. x .channel) refl (st .channel) (r .channel) c (h .sized .channel) (h .channel) (sym channel-is) (a .channel);
+            first = column (λ x. x .first) refl (st .first) (r .first) _ (h .sized .first) (h .first) first-is (a .first);
+            last = column (λ x. x .last) refl (st .last) (r .last) _ (h .sized .last) (h .last) last-is (a .last);
+            number = number;
+          };
+          load = load;
+        }
+
+-- ---- at the end
+
+pub holds-listed : (n : ℕ) (bs : List Bundle) (s : State) (into out : List ℕ) → length bs ≤ 2 * n → Holds bs s → Filled 128 (λ v. getD (s .number) (endOf true v) 0) 128 into → Filled 128 (λ v. getD (s .number) (endOf false v) 0) 128 out
+    → Listed n bs (record { count = s .count; channel = s .channel; first = s .first; last = s .last; into = into; «out_of» = out })
+holds-listed n bs s into out few h i o = record {
+  counted = h .counted;
+  few = few;
+  channel = h .channel .value;
+  first = h .first .value;
+  last = h .last .value;
+  into = λ v l. i .value v l ∙ h .number true v l;
+  out-of = λ v l. o .value v l ∙ h .number false v l;
+  sizes = (h .sized .channel, h .sized .first, h .sized .last, i .size, o .size);
+}

@@ -1,0 +1,10 @@
+pub mod Tabling
+pub mod Owning
+pub mod Marking
+pub mod Coding
+pub mod Nothing
+pub mod Coursing
+pub mod Assembling
+pub mod Charting
+pub mod Laying
+pub mod Answering

@@ -1,0 +1,32 @@
+-- Tables that are filled entry by entry. Assumes nothing.
+use mathlib.Core.Path.{_≡_, refl, sym, ap, _∙_, subst}
+use mathlib.Core.Logic.{⊎-elim}
+use mathlib.Core.List.{List}
+use Prim.Native.Nat.{ℕ, _+_, _≤_, _<_}
+use native.Mathlib.Nat.{not-suc-le-zero}
+use native.Mathlib.Omega.{arith}
+use borrow.Author.Count.{below-more}
+use lib.ListN.{length, getD, set, replicate, length-set, length-replicate}
+use lib.Seq.{getD-set-same, getD-set-other}
+use Rattle.counting.proofs.Zeros.{zeros}
+use Rattle.drawing.specs.Parts.{Tabled}
+
+pub tabled-none : (size : ℕ) (f : ℕ → ℕ) → Tabled size f 0 (replicate size 0)
+tabled-none size f = record { long = length-replicate {A = ℕ} size 0; made = λ i l. absurd (not-suc-le-zero l); past = λ i l. zeros size i }
+
+pub tabled-more : {size : ℕ} {f : ℕ → ℕ} {j : ℕ} {t : List ℕ} (x : ℕ) → j < size → Tabled size f j t → x ≡ f j → Tabled size f (j + 1) (set t j x)
+tabled-more {size} {f} {j} {t} x h s e = record {
+  long = length-set t j x ∙ s .long;
+  made = below-more (λ (i : ℕ). getD (set t j x) i 0 ≡ f i) j
+      (λ i l. getD-set-other t j i x 0 (λ q. omega arith) ∙ s .made i l)
+      (getD-set-same t j x 0 (let l = s .long in omega arith) ∙ e);
+  past = λ i l. getD-set-other t j i x 0 (λ q. omega arith) ∙ s .past i (omega arith);
+}
+
+-- an entry of 0 stands there already
+pub tabled-zero : {size : ℕ} {f : ℕ → ℕ} {j : ℕ} {t : List ℕ} → Tabled size f j t → f j ≡ 0 → Tabled size f (j + 1) t
+tabled-zero {size} {f} {j} {t} s e = record {
+  long = s .long;
+  made = below-more (λ (i : ℕ). getD t i 0 ≡ f i) j (λ i l. s .made i l) (s .past j (omega arith) ∙ sym e);
+  past = λ i l. s .past i (omega arith);
+}

@@ -1,0 +1,90 @@
+use mathlib.Core.Path.{_≡_, subst}
+use Prim.Native.Nat.{ℕ, _+_, _-_, _≤_, _<_, zero-le}
+use native.Mathlib.Omega.{arith}
+use lib.ListN.{getD}
+use Rattle.geometry.specs.Placement.{Widths, evenGaps, blockStart}
+use Rattle.drawing.specs.Parts.{Owns}
+use Rattle.drawing.proofs.Owning.{owns-none, owns-more, block-within}
+use borrow.Author.Needs.{needs}
+use Rattle.drawing.proofs.columns.own_columns.Statement.{statement}
+use Rattle.drawing.proofs.columns.own_columns.Tie as tie
+use Rattle.drawing.proofs.columns.own_columns.Reads as reads
+use Rattle.drawing.proofs.columns.own_columns.Lts as lts
+
+abbrev Inv-loop : tie.InvT-loop
+Inv-loop channels tracks own₀ start₀ l₀ own start l = (l ≤ channels) × Owns (evenGaps (λ k. getD tracks k 0)) l own start
+
+abbrev μ-loop : tie.MeasureT-loop
+μ-loop channels tracks own₀ start₀ l₀ own start l = channels - l
+
+loop-holds : tie.Need-loop-holds Inv-loop μ-loop
+loop-holds c = (zero-le, owns-none (evenGaps (λ k. getD (c .args .tracks .now) k 0)))
+
+mul-x : tie.Need-mul-x Inv-loop μ-loop
+mul-x c = search needs
+
+shared-slice-read-x : tie.Need-shared-slice-read-x Inv-loop μ-loop
+shared-slice-read-x c = search needs
+
+-- the block that is next ends within the width
+fits : (c : tie.In-loop Inv-loop μ-loop) → c .before .loop .start + getD (c .before .before .args .tracks .now) (c .before .loop .l) 0 + 1 + 1 + 1 ≤ 640
+fits c =
+    let a = c .before .before .args in
+    let l = c .before .loop in
+    omega (arith, block-within (λ k. getD (a .tracks .now) k 0) (l .l) (a .channels) (c .loop-test .taken), l .inv .1 .end, c .before .before .pre .2)
+
+add-x : tie.Need-add-x Inv-loop μ-loop
+add-x c = record { fits = omega (arith, fits (c .before)) }
+
+add-x-2 : tie.Need-add-x-2 Inv-loop μ-loop
+add-x-2 c = record { fits = omega (arith, fits (c .before)) }
+
+mul-own : tie.Need-mul-own Inv-loop μ-loop
+mul-own c = search needs
+
+array-write-own : tie.Need-array-write-own Inv-loop μ-loop
+array-write-own c = search needs
+
+add-start : tie.Need-add-start Inv-loop μ-loop
+add-start c = record { fits = omega (arith, fits (c .before)) }
+
+add-start-2 : tie.Need-add-start-2 Inv-loop μ-loop
+add-start-2 c = record { fits = omega (arith, fits (c .before)) }
+
+add-l : tie.Need-add-l Inv-loop μ-loop
+add-l c = search needs
+
+loop-less : tie.Need-loop-less Inv-loop μ-loop
+loop-less c = search needs
+
+loop-again : tie.Need-loop-again Inv-loop μ-loop
+loop-again c =
+    let a = c .before .before .before .args in
+    let l = c .before .before .loop in
+    (omega arith, owns-more (λ k. getD (a .tracks .now) k 0) (l .l) (let g = c .before .before .before .pre in omega arith) (l .inv .1))
+
+returns : tie.Need-returns Inv-loop μ-loop
+returns c =
+    let a = c .before .before .args in
+    let l = c .before .loop in
+    subst (λ (j : ℕ). Owns (evenGaps (λ k. getD (a .tracks .now) k 0)) j (l .own) (l .start)) (let e : l .l ≡ a .channels = omega arith in e) (l .inv .1)
+
+pub own-columns-spec : {M : Type 1} → statement M
+own-columns-spec =
+    tie.close
+    (tie.spec
+    Inv-loop
+    μ-loop
+    loop-holds
+    mul-x
+    shared-slice-read-x
+    add-x
+    add-x-2
+    mul-own
+    array-write-own
+    add-start
+    add-start-2
+    add-l
+    loop-less
+    loop-again
+    returns)

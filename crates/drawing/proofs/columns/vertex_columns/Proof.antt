@@ -1,0 +1,79 @@
+use mathlib.Core.Path.{_≡_, refl, ap, subst}
+use Prim.Native.Nat.{ℕ, _-_, _≤_, _<_, zero-le}
+use native.Mathlib.Omega.{arith}
+use lib.ListN.{getD}
+use Rattle.drawing.specs.Parts.{Tabled}
+use Rattle.drawing.proofs.Tabling.{tabled-none, tabled-more}
+use borrow.Author.Needs.{needs}
+use Rattle.drawing.proofs.columns.vertex_columns.Statement.{statement}
+use Rattle.drawing.proofs.columns.vertex_columns.Tie as tie
+use Rattle.drawing.proofs.columns.vertex_columns.Reads as reads
+use Rattle.drawing.proofs.columns.vertex_columns.Lts as lts
+use Rattle.drawing.proofs.wide.Reads as wide-reads
+
+abbrev Inv-loop : tie.InvT-loop
+Inv-loop n channel own columns₀ v₀ columns v = (v ≤ n) × Tabled 128 (λ x. getD own (getD channel x 0) 0) v columns
+
+abbrev μ-loop : tie.MeasureT-loop
+μ-loop n channel own columns₀ v₀ columns v = n - v
+
+loop-holds : tie.Need-loop-holds Inv-loop μ-loop
+loop-holds c = let a = c .before .before .args in (zero-le, tabled-none 128 (λ x. getD (a .own .now) (getD (a .channel .now) x 0) 0))
+
+shared-slice-read-wide : tie.Need-shared-slice-read-wide Inv-loop μ-loop
+shared-slice-read-wide c = search needs
+
+wide-requires : tie.Need-wide-requires Inv-loop μ-loop
+wide-requires c κs = search needs
+
+-- the channel of a vertex has an own column
+known : (c : tie.In-loop Inv-loop μ-loop) → getD (c .before .before .before .before .args .channel .now) (c .before .loop .v) 0 < 128
+known c = c .before .before .before .before .pre .3 (c .before .loop .v) (c .loop-test .taken)
+
+mul-columns : tie.Need-mul-columns Inv-loop μ-loop
+mul-columns c = search needs
+
+shared-slice-read-columns : tie.Need-shared-slice-read-columns Inv-loop μ-loop
+shared-slice-read-columns c = let g = c .before .before .before .before .before .before .before .pre in omega (arith, known (c .before .before .before), c .before .wide .ensures .0)
+
+mul-columns-2 : tie.Need-mul-columns-2 Inv-loop μ-loop
+mul-columns-2 c = search needs
+
+array-write-columns : tie.Need-array-write-columns Inv-loop μ-loop
+array-write-columns c = search needs
+
+add-v : tie.Need-add-v Inv-loop μ-loop
+add-v c = search needs
+
+loop-less : tie.Need-loop-less Inv-loop μ-loop
+loop-less c = search needs
+
+loop-again : tie.Need-loop-again Inv-loop μ-loop
+loop-again c =
+    let a = c .before .before .before .before .before .before .before .args in
+    let l = c .before .before .before .before .loop in
+    (omega arith, tabled-more _ (let g = c .before .before .before .before .before .before .before .pre in omega arith) (l .inv .1) (ap (λ (x : ℕ). getD (a .own .now) x 0) (c .before .wide .ensures .0)))
+
+returns : tie.Need-returns Inv-loop μ-loop
+returns c =
+    let a = c .before .before .before .before .args in
+    let l = c .before .loop in
+    subst (λ (j : ℕ). Tabled 128 (λ x. getD (a .own .now) (getD (a .channel .now) x 0) 0) j (l .columns)) (let e : l .v ≡ a .n = omega arith in e) (l .inv .1)
+
+pub vertex-columns-spec : {M : Type 1} → statement M
+vertex-columns-spec =
+    tie.close
+    (tie.spec
+    Inv-loop
+    μ-loop
+    loop-holds
+    shared-slice-read-wide
+    wide-requires
+    mul-columns
+    shared-slice-read-columns
+    mul-columns-2
+    array-write-columns
+    add-v
+    loop-less
+    loop-again
+    returns)

@@ -1,0 +1,25 @@
+use mathlib.Core.Path.{_≡_, sym, ap, _∙_}
+use Rattle.outline.specs.Chart.{crossing}
+use Rattle.drawing.specs.Parts.{codeOf}
+use borrow.Author.Needs.{needs}
+use Rattle.drawing.proofs.edges.crossed.Statement.{statement}
+use Rattle.drawing.proofs.edges.crossed.Tie as tie
+use Rattle.drawing.proofs.edges.crossed.Reads as reads
+use Rattle.drawing.proofs.edges.crossed.Lts as lts
+
+enum-told : tie.Need-enum-told
+enum-told c = search needs
+
+enum-known-c : tie.Need-enum-known-c
+enum-known-c c = search needs
+
+returns : tie.Need-returns
+unfolding codeOf
+returns c = ap (λ x. codeOf (crossing x)) (sym (c .enum-told .given .1))
+
+returns-2 : tie.Need-returns-2
+unfolding codeOf
+returns-2 c = ap (λ x. codeOf (crossing x)) (sym (c .before .c .given .1))
+
+pub crossed-spec : {M : Type 1} → statement M
+crossed-spec = tie.close (tie.spec enum-told enum-known-c returns returns-2)

@@ -1,0 +1,30 @@
+use mathlib.Core.Path.{_≡_, sym, subst}
+use mathlib.Core.Bool.{Bool}
+use Rattle.counting.specs.Count.{choose}
+use Rattle.channels.specs.Promise.{Plans, Gives}
+use borrow.Author.Needs.{needs}
+use Rattle.drawing.proofs.planning.channels_of.Statement.{statement}
+use Rattle.drawing.proofs.planning.channels_of.Tie as tie
+use Rattle.drawing.proofs.planning.channels_of.Reads as reads
+use Rattle.drawing.proofs.planning.channels_of.Lts as lts
+use Rattle.channels.proofs.given.Reads as given-reads
+use Rattle.channels.proofs.plan.Reads as plan-reads
+
+given-requires : tie.Need-given-requires
+given-requires c κs = search needs
+
+returns : tie.Need-returns
+returns c =
+    let a = c .before .before .before .args in
+    subst (λ (t : Bool). choose t (λ _. Gives (a .n) (a .table) (a .field .now) (c .given .result)) (λ _. Plans (a .n) (a .table) (c .given .result))) (sym (c .before .if1 .taken)) (c .given .ensures)
+
+plan-requires : tie.Need-plan-requires
+plan-requires c κs = search needs
+
+returns-2 : tie.Need-returns-2
+returns-2 c =
+    let a = c .before .before .before .args in
+    subst (λ (t : Bool). choose t (λ _. Gives (a .n) (a .table) (a .field .now) (c .plan .result)) (λ _. Plans (a .n) (a .table) (c .plan .result))) (sym (c .before .if1 .left)) (c .plan .ensures)
+
+pub channels-of-spec : {M : Type 1} → statement M
+channels-of-spec = tie.close (tie.spec given-requires returns plan-requires returns-2)

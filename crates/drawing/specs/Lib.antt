@@ -1,0 +1,3 @@
+pub mod Promise
+pub mod Parts
+pub mod Laid

@@ -1,0 +1,155 @@
+-- The bundles and tracks of a sound graph: every path-transitive edge is in a bundle of its channel, and how many of both there are.
+-- Assumes nothing.
+use mathlib.Core.Path.{_≡_, refl, ap}
+use mathlib.Core.Bool.{Bool, true, false, not}
+use mathlib.Core.List.{List}
+use Prim.Native.Nat.{ℕ, _*_, _≤_, _<_, min}
+use native.Mathlib.Omega.{arith}
+use lib.Dec.{eqb}
+use lib.ListN.{length}
+use borrow.Author.Tests.{eq-eqb, eqb-true, lt-ltb}
+use Rattle.counting.specs.Count.{count}
+use Rattle.counting.proofs.Truth.{and-intro}
+use Rattle.counting.proofs.Classes.{count-le}
+use Rattle.reach.specs.Graph.{edge?}
+use Rattle.matching.specs.Lists.{channelOf, positionOf}
+use Rattle.record.specs.Checks.{Content}
+use Rattle.record.specs.Sound.{Sound}
+use Rattle.bundles.specs.Bundles.{Bundle, taken, bundleOf}
+use Rattle.bundles.specs.Sides.{adjacent?, apart?, side?}
+use Rattle.bundles.specs.Promise.{bundlesOf, numberFrom}
+use Rattle.bundles.proofs.Marks.{side-within}
+use Rattle.bundles.proofs.Numbers.{number-of}
+use Rattle.bundles.proofs.Rounds.{few-in-channel, all-taken}
+use Rattle.bundles.proofs.Rounds as rounds
+use Rattle.tracks.specs.Tracks.{differentIn}
+use Rattle.tracks.specs.Order.{Intervals, Packed}
+use Rattle.tracks.proofs.Different.{top-each, top-least, different-count}
+use Rattle.tracks.proofs.Least.{tracks-packed}
+use Rattle.outline.specs.Chart.{rowOf, rowCount, Plan, channelsOf, tracked, bundled, planOf, bundleIn, trackIn, tracksIn}
+use Rattle.outline.proofs.Rows.{row-128, row-counted, rows-few}
+use Rattle.outline.proofs.Gathering.{Sits, bundle-sits, bundle-own}
+use Rattle.outline.proofs.Channels.{sizeOf, vertices-small, channel-below}
+
+-- path-transitive edges (document 01: side arrows), by the chart's channels
+abbrev pub sideEdge? : Content → ℕ → ℕ → Bool
+sideEdge? c = side? (c .vertices) (c .tails) (c .heads) (channelOf (channelsOf c)) (positionOf (channelsOf c))
+
+module _ (c : Content) (s : Sound c) where
+  abbrev n : ℕ
+  n = c .vertices
+
+  abbrev ls : List (List ℕ)
+  ls = channelsOf c
+
+  abbrev p : Plan
+  p = planOf c
+
+  abbrev bs : List Bundle
+  bs = p .bundles
+
+  -- the channels of the plan
+  pub plan-channels : p .channels ≡ ls
+  unfolding planOf bundled tracked
+  plan-channels = refl
+
+  -- ---- how many bundles
+
+  -- at most two a vertex, of all and of each channel
+  pub bundles-few : length bs ≤ 2 * n
+  unfolding planOf bundled tracked bundlesOf
+  bundles-few = rounds.bundles-few n (sideEdge? c) (channelOf ls) (positionOf ls) (rowOf c) (length ls)
+
+  pub bundles-256 : length bs ≤ 256
+  bundles-256 = omega (arith, bundles-few, vertices-small c s)
+
+  pub few-of-channel : (l : ℕ) → count (length bs) (λ b. eqb (bundleIn p b .channel) l) ≤ 2 * sizeOf c l
+  unfolding planOf bundled tracked bundlesOf
+  few-of-channel l = few-in-channel n (sideEdge? c) (channelOf ls) (positionOf ls) (rowOf c) l (length ls)
+
+  -- ---- each bundle
+
+  row-255 : (v : ℕ) → v < n → rowOf c v ≤ 255
+  row-255 v h = omega (arith, row-128 c s v h)
+
+  -- of one of the channels, with the rows from that of one vertex to that of another
+  pub bundle-stands : (b : ℕ) → b < length bs → Sits n (channelOf ls) (rowOf c) (length ls) (bundleIn p b)
+  unfolding planOf bundled tracked bundlesOf
+  bundle-stands = bundle-sits n (sideEdge? c) (channelOf ls) (positionOf ls) (rowOf c) row-255 (length ls)
+
+  pub bundle-channel : (b : ℕ) → b < length bs → bundleIn p b .channel < length ls
+  bundle-channel b l = bundle-stands b l .channel-known
+
+  pub bundle-ordered : (b : ℕ) → b < length bs → bundleIn p b .first ≤ bundleIn p b .last
+  bundle-ordered b l = bundle-stands b l .ordered
+
+  pub bundle-rows : (b : ℕ) → b < length bs → bundleIn p b .last < rowCount c
+  bundle-rows b l = let r = bundle-stands b l .last-row in omega (arith, r .2, row-counted c s (r .0) (r .1))
+
+  -- ---- the edges in them
+
+  -- an edge between vertices of a channel that are not next to each other
+  pub side-edge : (u v : ℕ) → edge? (c .tails) (c .heads) u v ≡ true → u < n → v < n → channelOf ls u ≡ channelOf ls v
+      → adjacent? (positionOf ls u) (positionOf ls v) ≡ false → sideEdge? c u v ≡ true
+  unfolding side? apart?
+  side-edge u v e hu hv h a =
+      and-intro _ _ e (and-intro _ _ (and-intro _ _ (lt-ltb u n hu) (lt-ltb v n hv)) (and-intro _ _ (eq-eqb _ _ h) (ap not a)))
+
+  side-ends : (u v : ℕ) → sideEdge? c u v ≡ true → (u < n) × (v < n) × (channelOf ls u ≡ channelOf ls v)
+  side-ends = side-within n (channelOf ls) (positionOf ls) (c .tails) (c .heads)
+
+  -- it is in a bundle, one of its channel
+  side-taken : (u v : ℕ) → sideEdge? c u v ≡ true → taken bs u v ≡ true
+  unfolding planOf bundled tracked bundlesOf
+  side-taken u v e =
+      all-taken n (sideEdge? c) (channelOf ls) (positionOf ls) (rowOf c) side-ends (length ls) u v (channel-below c s u (side-ends u v e .0)) e
+
+  pub side-bundle : (u v : ℕ) → sideEdge? c u v ≡ true → (bundleOf bs u v < length bs) × (bundleIn p (bundleOf bs u v) .channel ≡ channelOf ls u)
+  unfolding planOf bundled tracked bundlesOf
+  side-bundle u v e =
+      let t = side-taken u v e in
+      let l = number-of bs u v t bundles-256 .1 in
+      (l, bundle-own n (sideEdge? c) (channelOf ls) (positionOf ls) (rowOf c) row-255 (length ls) u v (side-ends u v e .2) t l)
+
+  -- the lower of the numbers that its ends have is its bundle's
+  pub side-number : (u v : ℕ) → sideEdge? c u v ≡ true → min (numberFrom 0 bs true v) (numberFrom 0 bs false u) ≡ bundleOf bs u v
+  side-number u v e = number-of bs u v (side-taken u v e) bundles-256 .0
+
+  -- ---- tracks
+
+  pub bundle-intervals : Intervals (length bs) (λ b. bundleIn p b .first) (λ b. bundleIn p b .last)
+  bundle-intervals = record { ordered = bundle-ordered; below = λ b l. omega (arith, bundle-ordered b l, bundle-rows b l, rows-few c s, vertices-small c s) }
+
+  -- tracks are lawful, and no lawful ones are fewer
+  pub plan-packed : Packed (length bs) (λ b. bundleIn p b .channel) (λ b. bundleIn p b .first) (λ b. bundleIn p b .last) (trackIn p)
+  unfolding planOf bundled tracked
+  plan-packed = tracks-packed (length bs) (λ b. bundleIn p b .channel) (λ b. bundleIn p b .first) (λ b. bundleIn p b .last) bundles-256 bundle-intervals
+
+  pub track-below : (b : ℕ) → b < length bs → trackIn p b < tracksIn p (bundleIn p b .channel)
+  unfolding tracksIn
+  track-below b l = top-each (length bs) (λ x. eqb (bundleIn p x .channel) (bundleIn p b .channel)) (trackIn p) b l (eq-eqb (bundleIn p b .channel) (bundleIn p b .channel) refl)
+
+  -- 1 + the highest track of a channel is the number of different ones
+  pub tracks-different : (l : ℕ) → differentIn (length bs) (λ b. eqb (bundleIn p b .channel) l) (trackIn p) ≡ tracksIn p l
+  unfolding tracksIn
+  tracks-different l = plan-packed .counted l
+
+  -- a channel has at most two a vertex
+  pub tracks-few : (l : ℕ) → tracksIn p l ≤ 2 * sizeOf c l
+  tracks-few l = omega (arith, tracks-different l, different-count (length bs) (λ b. eqb (bundleIn p b .channel) l) (trackIn p), few-of-channel l)
+
+  -- and none past the last channel
+  pub tracks-past : (l : ℕ) → length ls ≤ l → tracksIn p l ≡ 0
+  unfolding tracksIn
+  tracks-past l h =
+      omega (arith, top-least (length bs) (λ b. eqb (bundleIn p b .channel) l) (trackIn p) 0 (λ b k e. absurd (omega (arith, bundle-channel b k, eqb-true (bundleIn p b .channel) l e))))
+
+  pub tracks-256 : (l : ℕ) → tracksIn p l ≤ 256
+  tracks-256 l = omega (arith, tracks-few l, count-le n (λ v. eqb (channelOf ls v) l), vertices-small c s)
+
+  pub track-256 : (b : ℕ) → b < length bs → trackIn p b < 256
+  track-256 b l = omega (arith, track-below b l, tracks-256 (bundleIn p b .channel))
+
+  -- the track of an edge's bundle is one of its channel
+  pub side-track : (u v : ℕ) → sideEdge? c u v ≡ true → trackIn p (bundleOf bs u v) < tracksIn p (channelOf ls u)
+  side-track u v e = let b = side-bundle u v e in rw (← b .1) (track-below (bundleOf bs u v) (b .0))

@@ -1,0 +1,47 @@
+-- The columns of a sound graph stand on document 01's page. Assumes nothing.
+use mathlib.Core.Path.{_≡_, refl}
+use mathlib.Core.List.{List}
+use Prim.Native.Nat.{ℕ, _+_, _≤_, _<_}
+use native.Mathlib.Omega.{arith}
+use lib.ListN.{length}
+use Rattle.matching.specs.Lists.{channelOf}
+use Rattle.record.specs.Checks.{Content}
+use Rattle.record.specs.Sound.{Sound}
+use Rattle.geometry.specs.Placement.{ownColumn, gapWidth}
+use Rattle.geometry.proofs.Blocks.{column-640, width-bound}
+use Rattle.outline.specs.Chart.{Plan, channelsOf, tracked, bundled, planOf, tracksIn, widths, columnIn, widthOf}
+use Rattle.outline.proofs.Channels.{sizeOf, sizes-sum, size-positive, channels-few, channel-below, vertices-small}
+use Rattle.outline.proofs.Bundling.{tracks-few}
+
+module _ (c : Content) (s : Sound c) where
+  abbrev n : ℕ
+  n = c .vertices
+
+  abbrev ls : List (List ℕ)
+  ls = channelsOf c
+
+  abbrev p : Plan
+  p = planOf c
+
+  -- a channel's own column, and the gap after it
+  pub own-640 : (l : ℕ) → l < length ls → ownColumn (widths p) l + gapWidth < 640
+  own-640 =
+      column-640 (tracksIn p) (sizeOf c) (length ls) (λ l h. tracks-few c s l) (size-positive c s) (omega (arith, sizes-sum c s, vertices-small c s))
+
+  pub column-own : (v : ℕ) → columnIn p v ≡ ownColumn (widths p) (channelOf ls v)
+  unfolding planOf bundled tracked columnIn
+  column-own v = refl
+
+  pub column-below : (v : ℕ) → v < n → columnIn p v + gapWidth < 640
+  column-below v h = omega (arith, column-own v, own-640 (channelOf ls v) (channel-below c s v h))
+
+  pub width-640 : widthOf p ≤ 640
+  unfolding planOf bundled tracked widthOf
+  width-640 =
+      omega (
+        arith,
+        width-bound (widths p) (length ls) 3 (sizeOf c) (λ l h. tracks-few c s l) (λ l h. omega arith),
+        sizes-sum c s,
+        channels-few c s,
+        vertices-small c s,
+      )

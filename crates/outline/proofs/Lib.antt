@@ -1,0 +1,11 @@
+pub mod Leading
+pub mod Channels
+pub mod Positions
+pub mod Rows
+pub mod Gathering
+pub mod Bundling
+pub mod Columns
+pub mod EdgeKinds
+pub mod Clearing
+pub mod Paging
+pub mod Marks

@@ -1,0 +1,4 @@
+pub mod Pairs
+pub mod Transitive
+pub mod Links
+pub mod Graphs

@@ -1,0 +1,5 @@
+pub mod Tracks
+pub mod Order
+pub mod Steps
+pub mod Promise
+pub mod Examples
