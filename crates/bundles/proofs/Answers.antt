@@ -2,24 +2,18 @@
 use mathlib.Core.Path.{_≡_, refl, sym, ap, _∙_, subst}
 use mathlib.Core.Bool.{true}
 use mathlib.Core.List.{List}
-use Prim.Native.Nat.{ℕ, suc, _+_, _*_, _≤_, _<_}
+use Prim.Native.Nat.{ℕ, suc, _+_, _≤_, _<_}
 use native.Mathlib.Numerals.{add-one}
 use native.Mathlib.Omega.{arith}
-use lib.ListN.{length, getD, replicate}
+use lib.ListN.{getD, replicate}
 use Rattle.bundles.specs.Bundles.{Bundle, bundles}
 use Rattle.bundles.specs.Sides.{side?}
 use Rattle.bundles.specs.Promise.{bundlesOf}
 use Rattle.bundles.specs.Steps.{Sets, sideIn, Filled, loadIn, Holds, Stands}
 use Rattle.bundles.specs.declared.State.{State}
-use Rattle.bundles.proofs.Rounds.{bundles-few}
 use Rattle.bundles.proofs.Extension.{bundles-ext}
 use Rattle.bundles.proofs.Marks.{side-within}
 use Rattle.bundles.proofs.Standing.{side-inside, side-same, sets-own, stands-none}
-
--- AT MOST TWO BUNDLES A VERTEX, of any edges
-pub bundlesOf-few : (n : ℕ) (tails heads : List ℕ) (channels : ℕ) (channel position row : ℕ → ℕ) → length (bundlesOf n tails heads channels channel position row) ≤ 2 * n
-unfolding bundlesOf
-bundlesOf-few n tails heads channels channel position row = bundles-few n (side? n tails heads channel position) channel position row channels
 
 -- the state after c channels, by the edges in the masks
 pub record Planned (n : ℕ) (tails heads channel position rows sets : List ℕ) (c : ℕ) (s : State) : Type 0 where

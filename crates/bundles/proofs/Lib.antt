@@ -1,3 +1,4 @@
+pub mod Booleans
 pub mod Choose
 pub mod Numbers
 pub mod Extremes
@@ -5,9 +6,11 @@ pub mod Choices
 pub mod Waiting
 pub mod Rounds
 pub mod Extension
-pub mod Standing
-pub mod Filling
+pub mod Covering
 pub mod Marks
+pub mod Theorems
+pub mod Ends
+pub mod Filling
+pub mod Standing
 pub mod Going
 pub mod Answers
-pub mod Covering

@@ -22,6 +22,7 @@ use Rattle.reach.proofs.Decide.{edge-decided}
 use Rattle.bundles.specs.Bundles.{along}
 use Rattle.bundles.specs.Sides.{adjacent?, apart?, side?}
 use Rattle.bundles.specs.Steps.{endOf, Sets}
+use Rattle.bundles.proofs.Booleans.{and-no}
 
 module _ (n : ℕ) (channel position : ℕ → ℕ) where
   pub apart-inside : (u v : ℕ) → apart? n channel position u v ≡ true → (u < n) × (v < n) × (channel u ≡ channel v)
@@ -84,15 +85,11 @@ module _ (n : ℕ) (tails heads : List ℕ) (channel position : ℕ → ℕ) whe
         same : (a b : ℕ) → sidesTo i a b ≡ sidesTo (suc i) a b
         same a b = go (edgeAt a b i) refl
           where
-            no : (x y : Bool) → y ≡ false → (x && y) ≡ false
-            no true y e = e
-            no false y e = refl
-
             go : (t : Bool) → edgeAt a b i ≡ t → (some i (edgeAt a b) && apart? n channel position a b) ≡ ((some i (edgeAt a b) || edgeAt a b i) && apart? n channel position a b)
             go true e =
                 let q = at-edge a b e in
                 let z : apart? n channel position a b ≡ false = ap₂ (apart? n channel position) (q .0) (q .1) ∙ f in
-                no (some i (edgeAt a b)) (apart? n channel position a b) z ∙ sym (no (some i (edgeAt a b) || edgeAt a b i) (apart? n channel position a b) z)
+                ap (λ t. some i (edgeAt a b) && t) z ∙ and-no (some i (edgeAt a b)) ∙ sym (ap (λ t. (some i (edgeAt a b) || edgeAt a b i) && t) z ∙ and-no (some i (edgeAt a b) || edgeAt a b i))
             go false e = sym (ap (λ t. (some i (edgeAt a b) || t) && apart? n channel position a b) e ∙ ap (λ t. t && apart? n channel position a b) (or-false (some i (edgeAt a b))))
 
     -- one that is goes into the sets of both its ends

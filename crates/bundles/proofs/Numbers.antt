@@ -1,7 +1,7 @@
 -- Laws of a list of bundles: which edges they take, and by which number. Assumes nothing.
 use mathlib.Core.Path.{_≡_, refl, sym, ap, _∙_}
 use mathlib.Core.Logic.{_⊎_, ⊎-elim}
-use mathlib.Core.Bool.{Bool, true, false, true≢false, false≢true, not, _||_}
+use mathlib.Core.Bool.{Bool, true, false, false≢true, not, _||_}
 use mathlib.Core.List.{List, [], _∷_, _++_}
 use Prim.Native.Nat.{ℕ, suc, _+_, _≤_, _<_, min}
 use native.Mathlib.Omega.{arith}
@@ -13,28 +13,13 @@ use Rattle.counting.proofs.Truth.{true-or-false, or-neither}
 use Rattle.counting.proofs.Falsity.{or-false}
 use Rattle.bundles.specs.Bundles.{Bundle, gathers, takes, taken, bundleOf}
 use Rattle.bundles.specs.Promise.{numberFrom}
+use Rattle.bundles.proofs.Booleans.{or-swap, or-assoc, rest-of}
 use Rattle.bundles.proofs.Choose.{choose-yes, choose-no}
 
 -- one of the bundles is of the edges into v, or out of v
 unfoldable pub gathered : List Bundle → Bool → ℕ → Bool
 gathered [] into v = false
 gathered (b ∷ bs) into v = gathers b into v || gathered bs into v
-
-or-swap : (a b c d : Bool) → ((a || b) || (c || d)) ≡ ((a || c) || (b || d))
-or-swap true b c d = refl
-or-swap false true true d = refl
-or-swap false true false d = refl
-or-swap false false true d = refl
-or-swap false false false d = refl
-
-or-assoc : (a b c : Bool) → ((a || b) || c) ≡ (a || (b || c))
-or-assoc true b c = refl
-or-assoc false b c = refl
-
--- the second of two of which one holds
-rest-of : (a b : Bool) → a ≡ false → (a || b) ≡ true → b ≡ true
-rest-of true b p e = absurd (true≢false p)
-rest-of false b p e = e
 
 -- an edge is taken at its head or at its tail
 pub taken-ends : (bs : List Bundle) (u v : ℕ) → taken bs u v ≡ (gathered bs true v || gathered bs false u)

@@ -23,6 +23,20 @@ use Rattle.bundles.proofs.Numbers.{taken-more}
 use Rattle.bundles.proofs.Choices.{best-below, best-most}
 use Rattle.bundles.proofs.Waiting.{Of, live, live-le, live-none, live-mono, live-less}
 
+-- how many bundles of channel c there are
+abbrev pub inChannel : ℕ → List Bundle → ℕ
+inChannel c bs = count (length bs) (λ i. eqb (getD bs i empty .channel) c)
+
+in-channel-more : (c : ℕ) (bs : List Bundle) (b : Bundle) → inChannel c (bs ++ (b ∷ [])) ≡ inChannel c bs + indicator (eqb (b .channel) c)
+unfolding count
+in-channel-more c bs b =
+    let f : ℕ → ℕ = λ i. indicator (eqb (getD (bs ++ (b ∷ [])) i empty .channel) c) in
+    ap (λ (m : ℕ). sum m f) (length-append bs (b ∷ []))
+    ∙ sum-more (length bs) f
+    ∙ ap₂ (λ (x y : ℕ). x + y)
+    (sum-ext (length bs) f (λ i. indicator (eqb (getD bs i empty .channel) c)) (λ i l. ap (λ (x : Bundle). indicator (eqb (x .channel) c)) (List·getD-append bs (b ∷ []) empty i l)))
+    (ap (λ (x : Bundle). indicator (eqb (x .channel) c)) (getD-append-seam bs b [] empty))
+
 module _ (n : ℕ) (side : ℕ → ℕ → Bool) (channel position row : ℕ → ℕ) where
   -- ---- loads
 
@@ -176,20 +190,6 @@ module _ (n : ℕ) (side : ℕ → ℕ → Bool) (channel position row : ℕ →
   -- AT MOST TWO BUNDLES A VERTEX
   pub bundles-few : (L : ℕ) → length (bundles n side channel position row L) ≤ 2 * n
   bundles-few L = let r = bundles-room L in omega arith
-
-  -- how many bundles of channel c there are
-  abbrev pub inChannel : ℕ → List Bundle → ℕ
-  inChannel c bs = count (length bs) (λ i. eqb (getD bs i empty .channel) c)
-
-  in-channel-more : (c : ℕ) (bs : List Bundle) (b : Bundle) → inChannel c (bs ++ (b ∷ [])) ≡ inChannel c bs + indicator (eqb (b .channel) c)
-  unfolding count
-  in-channel-more c bs b =
-      let f : ℕ → ℕ = λ i. indicator (eqb (getD (bs ++ (b ∷ [])) i empty .channel) c) in
-      ap (λ (m : ℕ). sum m f) (length-append bs (b ∷ []))
-      ∙ sum-more (length bs) f
-      ∙ ap₂ (λ (x y : ℕ). x + y)
-      (sum-ext (length bs) f (λ i. indicator (eqb (getD bs i empty .channel) c)) (λ i l. ap (λ (x : Bundle). indicator (eqb (x .channel) c)) (List·getD-append bs (b ∷ []) empty i l)))
-      (ap (λ (x : Bundle). indicator (eqb (x .channel) c)) (getD-append-seam bs b [] empty))
 
   -- AT MOST TWO A VERTEX OF THE CHANNEL
   pub few-in-channel : (c L : ℕ) → inChannel c (bundles n side channel position row L) ≤ 2 * count n (λ v. eqb (channel v) c)

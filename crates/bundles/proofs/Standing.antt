@@ -22,10 +22,12 @@ use Rattle.bundles.specs.Bundles.{Bundle, gathers, taken, along, waits, 
 use Rattle.bundles.specs.Promise.{empty, numberFrom, Listed}
 use Rattle.bundles.specs.Steps.{endOf, Sets, sideIn, Filled, loadIn, openAt, Room, Added, Column, Holds, Stands}
 use Rattle.bundles.specs.declared.State.{State}
+use Rattle.bundles.proofs.Booleans.{and-no, and-yes}
+use Rattle.bundles.proofs.Ends.{end-below, same-end, other-end}
 use Rattle.bundles.proofs.Choose.{choose-yes, choose-no}
 use Rattle.bundles.proofs.Numbers.{gathered, number-none, number-kept, number-last, open-end}
 use Rattle.bundles.proofs.Extremes.{joined-ext, lowest-with, lowest-cut, highest-with, highest-cut}
-use Rattle.bundles.proofs.Waiting.{and-yes, Of, of-here, of-there, waits-ends, turned, waiting-open, wait-gone, wait-kept, wait-fewer}
+use Rattle.bundles.proofs.Waiting.{Of, of-here, of-there, waits-ends, turned, waiting-open, wait-gone, wait-kept, wait-fewer}
 
 -- ---- the edges in the masks
 
@@ -43,13 +45,9 @@ module _ (n : ℕ) (small : n ≤ 128) (sets : List ℕ) where
     unfolding sideIn
     side-same u v l m = ap (λ t. (ltb u n && ltb v n) && t) (s .has false u v l m) ∙ go (side u v) refl
       where
-        no : (a : Bool) → (a && false) ≡ false
-        no true = refl
-        no false = refl
-
         go : (t : Bool) → side u v ≡ t → ((ltb u n && ltb v n) && side u v) ≡ side u v
         go true e = let i = inside u v e in ap₂ (λ a b. (a && b) && side u v) (lt-ltb u n (i .0)) (lt-ltb v n (i .1))
-        go false e = ap (λ t. (ltb u n && ltb v n) && t) e ∙ no (ltb u n && ltb v n) ∙ sym e
+        go false e = ap (λ t. (ltb u n && ltb v n) && t) e ∙ and-no (ltb u n && ltb v n) ∙ sym e
 
     pub sets-own : Sets (sideIn n sets) sets
     sets-own = record { size = s .size; has = has }
@@ -91,10 +89,6 @@ module _ (n : ℕ) (small : n ≤ 128) (side : ℕ → ℕ → Bool) (inside : (
         ∙ sum-ext n (λ w. indicator (along d side v w)) (λ w. indicator (waitsAt side [] d v w)) (λ w m. ap indicator (nothing-taken d v w));
   }
     where
-      end-below : (d : Bool) (v : ℕ) → v < 128 → endOf d v < 256
-      end-below true v h = omega arith
-      end-below false v h = omega arith
-
       all : (k i : ℕ) → i < k → _≡_ {A = ℕ} (getD (replicate k 256) i 0) 256
       all zero i h = absurd (omega arith)
       all (suc k) zero h = refl
@@ -132,15 +126,6 @@ same-or-not true false = inr refl
 same-or-not false true = inr refl
 same-or-not false false = inl refl
 
--- different ends have different numbers
-end-here : (d : Bool) (u v : ℕ) → endOf d u ≡ endOf d v → u ≡ v
-end-here true u v e = e
-end-here false u v e = omega arith
-
-end-there : (d : Bool) (u v : ℕ) → u < 128 → v < 128 → endOf (not d) u ≡ endOf d v → ⊥
-end-there true u v a b e = omega arith
-end-there false u v a b e = omega arith
-
 module _ (n : ℕ) (small : n ≤ 128) (side : ℕ → ℕ → Bool) (inside : (u v : ℕ) → side u v ≡ true → (u < n) × (v < n)) (sets rows : List ℕ) (s : Sets side sets)
     (bs : List Bundle) (st : State) (o : Stands n side bs st) (d : Bool) (v : ℕ) (below : v < n) (few : length bs < 256) (some : 0 < count n (waitsAt side bs d v)) where
   -- the code's test of an edge is the rule's
@@ -168,9 +153,6 @@ module _ (n : ℕ) (small : n ≤ 128) (side : ℕ → ℕ → Bool) (inside : (
   waits-inside w l = waits-ends side bs d v w ∙ ap (λ t. t && (not (gathered bs d v) && not (gathered bs (not d) w))) (along-inside n small side inside d v w l)
 
   module _ (channel position : ℕ → ℕ) (c : ℕ) (r : State) (a : Added sets rows c d v st r) where
-    row : ℕ → ℕ
-    row w = getD rows w 0
-
     abbrev b : Bundle
     b = made n side channel position (λ w. getD rows w 0) c bs d v
 
@@ -212,17 +194,13 @@ module _ (n : ℕ) (small : n ≤ 128) (side : ℕ → ℕ → Bool) (inside : (
         same : (t : Bool) → t ≡ d → Dec (u ≡ v) → getD (set (st .number) (endOf d v) (st .count)) (endOf t u) 0 ≡ numberFrom 0 (bs ++ (b ∷ [])) t u
         same t q (yes e) =
             rw (q, e)
-            (getD-set-same (st .number) (endOf d v) (st .count) 0 (end-inside d)
+            (getD-set-same (st .number) (endOf d v) (st .count) 0 (let e = o .holds .sized .number in let q = end-below d v (omega arith) in omega arith)
             ∙ o .holds .counted
             ∙ sym (number-last 0 bs b d v (waiting-open side bs d v n some) ∙ choose-yes (gathers b d v) (λ _. 0 + length bs) (λ _. 256) (of-here b d v v of ∙ eq-eqb v v refl) ∙ (let z : 0 + length bs ≡ length bs = omega arith in z)))
-          where
-            end-inside : (d : Bool) → endOf d v < length (st .number)
-            end-inside true = let e = o .holds .sized .number in omega arith
-            end-inside false = let e = o .holds .sized .number in omega arith
-        same t q (no e) = rw q (kept d (of-here b d v u of ∙ ne-eqb v u (λ z. e (sym z))) (λ z. e (end-here d u v z)))
+        same t q (no e) = rw q (kept d (of-here b d v u of ∙ ne-eqb v u (λ z. e (sym z))) (λ z. e (same-end d u v z)))
 
         other : (t : Bool) → t ≡ not d → getD (set (st .number) (endOf d v) (st .count)) (endOf t u) 0 ≡ numberFrom 0 (bs ++ (b ∷ [])) t u
-        other t q = rw q (kept (not d) (of-there b d v u of) (end-there d u v l (omega arith)))
+        other t q = rw q (kept (not d) (of-there b d v u of) (λ z. other-end d v u (omega arith) l (sym z)))
 
     load : (t : Bool) (u : ℕ) → u < 128 → getD (r .load) (endOf t u) 0 ≡ count n (waitsAt side (bs ++ (b ∷ [])) t u)
     load t u l = ⊎-elim (λ q. same t q (ℕ-discrete u v)) (λ q. other t q) (same-or-not d t)

@@ -8,47 +8,13 @@ use native.Mathlib.Omega.{arith}
 use borrow.Author.Tests.{eq-eqb, ne-eqb, lt-ltb, le-ltb, ltb-true}
 use lib.Dec.{eqb, ltb}
 use Rattle.counting.specs.Count.{indicator, sum, count}
-use Rattle.counting.proofs.Truth.{lt-or-le, and-elim, indicator-le}
+use Rattle.counting.proofs.Truth.{lt-or-le, and-elim}
 use Rattle.counting.proofs.Falsity.{not-true}
 use Rattle.counting.proofs.Sums.{sum-mono, sum-zero, sum-smaller, count-ext}
 use Rattle.counting.proofs.Classes.{indicator-mono, sum-change, sum-term, count-positive}
 use Rattle.bundles.specs.Bundles.{Bundle, alike, gathers, takes, taken, along, waits, waitsAt}
+use Rattle.bundles.proofs.Booleans.{and-not, and-neither, and-turn, and-no, and-yes, or-no, and-left}
 use Rattle.bundles.proofs.Numbers.{gathered, taken-ends, taken-more}
-
--- ---- Booleans
-
-and-not : (s t y : Bool) → (s && not (t || y)) ≡ ((s && not t) && not y)
-and-not true true y = refl
-and-not true false y = refl
-and-not false t y = refl
-
-and-neither : (s a b : Bool) → (s && not (a || b)) ≡ (s && (not a && not b))
-and-neither true true b = refl
-and-neither true false b = refl
-and-neither false a b = refl
-
-and-turn : (s a b : Bool) → (s && not (a || b)) ≡ (s && (not b && not a))
-and-turn true true true = refl
-and-turn true true false = refl
-and-turn true false true = refl
-and-turn true false false = refl
-and-turn false a b = refl
-
-pub and-no : (a : Bool) → (a && false) ≡ false
-and-no true = refl
-and-no false = refl
-
-pub and-yes : (a : Bool) → (a && true) ≡ a
-and-yes true = refl
-and-yes false = refl
-
-or-no : (a b : Bool) → b ≡ false → (a || b) ≡ a
-or-no true b e = refl
-or-no false b e = e
-
-and-left : (a b : Bool) → indicator (a && b) ≤ indicator a
-and-left true b = indicator-le b
-and-left false b = omega arith
 
 -- ---- what a bundle of an end takes
 

@@ -141,8 +141,12 @@ module _ (g : Graph) (p : Plan) (l : Laid g p) where
     unfolding bundleAt planOf chart.bundled chart.tracked
     bundle-past b h =
         let none : getD (planned .bundles) b empty ≡ empty = List·getD-eq-default (planned .bundles) empty h in
-        rw (l .bundles .channel b ∙ ap (λ (x : Bundle). x .channel) none, l .bundles .first b ∙ ap (λ (x : Bundle). x .first) none, l .bundles .last b ∙ ap (λ (x : Bundle). x .last) none,
-        ap (λ (x : List ℕ). getD x b 0) (l .track) ∙ track-past (length (planned .bundles)) (λ i. getD (planned .bundles) i empty .channel) (λ i. getD (planned .bundles) i empty .first) (λ i. getD (planned .bundles) i empty .last) (bundles-256 c s) b h) refl
+        rw (
+          l .bundles .channel b ∙ ap (λ (x : Bundle). x .channel) none,
+          l .bundles .first b ∙ ap (λ (x : Bundle). x .first) none,
+          l .bundles .last b ∙ ap (λ (x : Bundle). x .last) none,
+          ap (λ (x : List ℕ). getD x b 0) (l .track) ∙ track-past (length (planned .bundles)) (λ i. getD (planned .bundles) i empty .channel) (λ i. getD (planned .bundles) i empty .first) (λ i. getD (planned .bundles) i empty .last) (bundles-256 c s) b h,
+        ) refl
 
     -- THE TABLES: what is put together is the chart
     pub tables-drawn : Tables c planned d

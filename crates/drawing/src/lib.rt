@@ -8,6 +8,7 @@ mod columns;
 mod edges;
 mod planning;
 mod tables;
+
 use planning::bounded;
 use planning::planned;
 use record::reading::Graph;

@@ -48,14 +48,7 @@ fn with_bundles(d: Drawing, bundles: Bundles, tracks: Tracks) -> Drawing
 }
 
 // The tables from their parts, those of the bundles empty.
-fn bare(
-    g: Graph,
-    p: Plan,
-    width: u16,
-    column: [u16; 128],
-    marked: Marked,
-    kinds: Kinds,
-) -> Drawing
+fn bare(g: Graph, p: Plan, width: u16, column: [u16; 128], marked: Marked, kinds: Kinds) -> Drawing
     ensures { λ r. ⌜ r ≡ bareWith g p width column marked kinds ⌝ }
 {
     let lines = p.channels;

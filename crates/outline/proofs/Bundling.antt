@@ -19,16 +19,14 @@ use Rattle.bundles.specs.Bundles.{Bundle, taken, bundleOf}
 use Rattle.bundles.specs.Sides.{adjacent?, apart?, side?}
 use Rattle.bundles.specs.Promise.{bundlesOf, numberFrom}
 use Rattle.bundles.proofs.Marks.{side-within}
-use Rattle.bundles.proofs.Numbers.{number-of}
-use Rattle.bundles.proofs.Rounds.{few-in-channel, all-taken}
-use Rattle.bundles.proofs.Rounds as rounds
+use Rattle.bundles.proofs.Covering as covering
+use Rattle.bundles.proofs.Theorems as theorems
 use Rattle.tracks.specs.Tracks.{differentIn}
 use Rattle.tracks.specs.Order.{Intervals, Packed}
 use Rattle.tracks.proofs.Different.{top-each, top-least, different-count}
 use Rattle.tracks.proofs.Least.{tracks-packed}
 use Rattle.outline.specs.Chart.{rowOf, rowCount, Plan, channelsOf, tracked, bundled, planOf, bundleIn, trackIn, tracksIn}
 use Rattle.outline.proofs.Rows.{row-128, row-counted, rows-few}
-use Rattle.outline.proofs.Gathering.{Sits, bundle-sits, bundle-own}
 use Rattle.outline.proofs.Channels.{sizeOf, vertices-small, channel-below}
 
 -- path-transitive edges (document 01: side arrows), by the chart's channels
@@ -57,34 +55,31 @@ module _ (c : Content) (s : Sound c) where
 
   -- at most two a vertex, of all and of each channel
   pub bundles-few : length bs ≤ 2 * n
-  unfolding planOf bundled tracked bundlesOf
-  bundles-few = rounds.bundles-few n (sideEdge? c) (channelOf ls) (positionOf ls) (rowOf c) (length ls)
+  unfolding planOf bundled tracked
+  bundles-few = theorems.few n (c .tails) (c .heads) (length ls) (channelOf ls) (positionOf ls) (rowOf c)
 
   pub bundles-256 : length bs ≤ 256
   bundles-256 = omega (arith, bundles-few, vertices-small c s)
 
   pub few-of-channel : (l : ℕ) → count (length bs) (λ b. eqb (bundleIn p b .channel) l) ≤ 2 * sizeOf c l
-  unfolding planOf bundled tracked bundlesOf
-  few-of-channel l = few-in-channel n (sideEdge? c) (channelOf ls) (positionOf ls) (rowOf c) l (length ls)
+  unfolding planOf bundled tracked
+  few-of-channel = theorems.few-in n (c .tails) (c .heads) (length ls) (channelOf ls) (positionOf ls) (rowOf c)
 
   -- ---- each bundle
 
-  row-255 : (v : ℕ) → v < n → rowOf c v ≤ 255
-  row-255 v h = omega (arith, row-128 c s v h)
-
   -- of one of the channels, with the rows from that of one vertex to that of another
-  pub bundle-stands : (b : ℕ) → b < length bs → Sits n (channelOf ls) (rowOf c) (length ls) (bundleIn p b)
-  unfolding planOf bundled tracked bundlesOf
-  bundle-stands = bundle-sits n (sideEdge? c) (channelOf ls) (positionOf ls) (rowOf c) row-255 (length ls)
+  stands : (b : ℕ) → b < length bs → covering.Sound n (length ls) (channelOf ls) (rowOf c) (bundleIn p b)
+  unfolding planOf bundled tracked
+  stands = theorems.sound n (c .tails) (c .heads) (length ls) (channelOf ls) (positionOf ls) (rowOf c)
 
   pub bundle-channel : (b : ℕ) → b < length bs → bundleIn p b .channel < length ls
-  bundle-channel b l = bundle-stands b l .channel-known
+  bundle-channel b l = stands b l .low
 
   pub bundle-ordered : (b : ℕ) → b < length bs → bundleIn p b .first ≤ bundleIn p b .last
-  bundle-ordered b l = bundle-stands b l .ordered
+  bundle-ordered b l = stands b l .ordered
 
   pub bundle-rows : (b : ℕ) → b < length bs → bundleIn p b .last < rowCount c
-  bundle-rows b l = let r = bundle-stands b l .last-row in omega (arith, r .2, row-counted c s (r .0) (r .1))
+  bundle-rows b l = let r = stands b l .last in omega (arith, r .2, row-counted c s (r .0) (r .1))
 
   -- ---- the edges in them
 
@@ -95,25 +90,22 @@ module _ (c : Content) (s : Sound c) where
   side-edge u v e hu hv h a =
       and-intro _ _ e (and-intro _ _ (and-intro _ _ (lt-ltb u n hu) (lt-ltb v n hv)) (and-intro _ _ (eq-eqb _ _ h) (ap not a)))
 
-  side-ends : (u v : ℕ) → sideEdge? c u v ≡ true → (u < n) × (v < n) × (channelOf ls u ≡ channelOf ls v)
-  side-ends = side-within n (channelOf ls) (positionOf ls) (c .tails) (c .heads)
+  module _ (u v : ℕ) (e : sideEdge? c u v ≡ true) where
+    low : channelOf ls u < length ls
+    low = channel-below c s u (side-within n (channelOf ls) (positionOf ls) (c .tails) (c .heads) u v e .0)
 
-  -- it is in a bundle, one of its channel
-  side-taken : (u v : ℕ) → sideEdge? c u v ≡ true → taken bs u v ≡ true
-  unfolding planOf bundled tracked bundlesOf
-  side-taken u v e =
-      all-taken n (sideEdge? c) (channelOf ls) (positionOf ls) (rowOf c) side-ends (length ls) u v (channel-below c s u (side-ends u v e .0)) e
+    -- it is in a bundle, one of its channel
+    pub side-bundle : (bundleOf bs u v < length bs) × (bundleIn p (bundleOf bs u v) .channel ≡ channelOf ls u)
+    unfolding planOf bundled tracked
+    side-bundle = (
+      theorems.numbered n (c .tails) (c .heads) (length ls) (channelOf ls) (positionOf ls) (rowOf c) u v low e (vertices-small c s) .1,
+      theorems.covered n (c .tails) (c .heads) (length ls) (channelOf ls) (positionOf ls) (rowOf c) u v low e .in-channel,
+    )
 
-  pub side-bundle : (u v : ℕ) → sideEdge? c u v ≡ true → (bundleOf bs u v < length bs) × (bundleIn p (bundleOf bs u v) .channel ≡ channelOf ls u)
-  unfolding planOf bundled tracked bundlesOf
-  side-bundle u v e =
-      let t = side-taken u v e in
-      let l = number-of bs u v t bundles-256 .1 in
-      (l, bundle-own n (sideEdge? c) (channelOf ls) (positionOf ls) (rowOf c) row-255 (length ls) u v (side-ends u v e .2) t l)
-
-  -- the lower of the numbers that its ends have is its bundle's
-  pub side-number : (u v : ℕ) → sideEdge? c u v ≡ true → min (numberFrom 0 bs true v) (numberFrom 0 bs false u) ≡ bundleOf bs u v
-  side-number u v e = number-of bs u v (side-taken u v e) bundles-256 .0
+    -- which is the lower of those that its ends have
+    pub side-number : min (numberFrom 0 bs true v) (numberFrom 0 bs false u) ≡ bundleOf bs u v
+    unfolding planOf bundled tracked
+    side-number = theorems.numbered n (c .tails) (c .heads) (length ls) (channelOf ls) (positionOf ls) (rowOf c) u v low e (vertices-small c s) .0
 
   -- ---- tracks
 

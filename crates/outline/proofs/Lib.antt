@@ -2,7 +2,6 @@ pub mod Leading
 pub mod Channels
 pub mod Positions
 pub mod Rows
-pub mod Gathering
 pub mod Bundling
 pub mod Columns
 pub mod EdgeKinds

@@ -67,9 +67,11 @@ loop-again c =
     let a = c .before .before .before .before .before .before .before .before .before .before .before .before .before .before .before .args in
     let g = c .before .before .before .before .before .before .before .before .before .before .before .before .before .before .before .pre in
     let l = c .before .before .before .before .before .before .loop in
-    let K : ℕ → ℕ → Kind = kindIn (a .channel .now) (a .position .now) (a .into .now) (a .out-of .now) (a .columns .now) (a .rows .now) in
-    (omega arith, coded-more (λ i. K (getD (a .tails .now) i 0) (getD (a .heads .now) i 0)) (c .code-of .result) (omega arith)
-    (c .code-of .ensures ∙ ap₂ (λ (x y : ℕ). codeOf (K x y)) (c .before .before .before .wide .ensures .0) (c .before .wide2 .ensures .0)) (l .inv .1))
+    let K : ℕ → ℕ → Kind = kindIn (a .channel .now) (a .position .now) (a .into .now) (a .out-of .now) (a .columns .now) (a .rows .now) in (
+      omega arith,
+      coded-more (λ i. K (getD (a .tails .now) i 0) (getD (a .heads .now) i 0)) (c .code-of .result) (omega arith)
+          (c .code-of .ensures ∙ ap₂ (λ (x y : ℕ). codeOf (K x y)) (c .before .before .before .wide .ensures .0) (c .before .wide2 .ensures .0)) (l .inv .1),
+    )
 
 returns : tie.Need-returns Inv-loop μ-loop
 returns c =

@@ -1,0 +1,160 @@
+-- A record of 128 vertices and 4,096 edges passes every check. Assumes nothing.
+use mathlib.Core.Path.{_≡_, refl, ap, _∙_}
+use mathlib.Core.Bool.{true, false, _&&_}
+use mathlib.Core.List.{List, _∷_}
+use Prim.Native.Nat.{ℕ, zero, suc, _+_, _*_, _/_, _%_, _≤_, _<_}
+use native.Mathlib.Omega.{arith}
+use lib.Dec.{eqb, leb}
+use lib.ListN.{length, getD, take, drop}
+use lib.Seq.{take-length}
+use borrow.Author.Tests.{eqb-true, lt-leb}
+use Rattle.counting.specs.Count.{some}
+use Rattle.counting.proofs.Somes.{some-none}
+use Rattle.counting.proofs.Truth.{and-elim}
+use Rattle.counting.proofs.Falsity.{not-true, neither}
+use Rattle.reach.specs.Graph.{Reaches, one, more, edgeCount, Edge}
+use Rattle.reach.specs.Refusal.{outsized?, strange?}
+use Rattle.reach.specs.Closure.{reachable?}
+use Rattle.reach.proofs.Decide.{reachable-decided}
+use Rattle.record.specs.declared.layout.Fields.{Fields}
+use Rattle.record.specs.declared.layout.Layout.the-variants.{Good}
+use Rattle.record.specs.Layout.{sizeAt, fieldAt, afterEdges, withEdges, withVertices, layoutOf}
+use Rattle.record.specs.Content.{alternate, tailsOf, headsOf}
+use Rattle.record.specs.Checks.{edgesOf, alike?, duplicate?, size?, stranger?, double?, ring?, repeated?, lacking?, unled?, looseChecks, laterChecks, firstOf, refusalOf}
+use Rattle.record.specs.Reading.{contentOf, recordRefusal, said}
+use Rattle.proof_table.specs.Table.{values, pairs, fullTail, fullHead, full, fullRecord}
+
+-- ---- its lists
+
+module _ (f : ℕ → ℕ) where
+  values-long : (n i : ℕ) → length (values f n i) ≡ n
+  unfolding values
+  values-long zero i = refl
+  values-long (suc n) i = ap suc (values-long n (suc i))
+
+  values-at : (n i j : ℕ) → j < n → getD (values f n i) j 0 ≡ f (i + j)
+  unfolding values
+  values-at zero i j h = absurd (omega arith)
+  values-at (suc n) i zero h = let e : i ≡ i + 0 = omega arith in ap f e
+  values-at (suc n) i (suc j) h = let e : suc i + j ≡ i + suc j = omega arith in values-at n (suc i) j (omega arith) ∙ ap f e
+
+  values-from-0 : (n j : ℕ) → j < n → getD (values f n 0) j 0 ≡ f j
+  values-from-0 n j h = let e : 0 + j ≡ j = omega arith in values-at n 0 j h ∙ ap f e
+
+module _ (f g : ℕ → ℕ) where
+  pairs-long : (n i : ℕ) → length (pairs f g n i) ≡ 2 * n
+  unfolding pairs
+  pairs-long zero i = refl
+  pairs-long (suc n) i = omega (arith, pairs-long n (suc i))
+
+  pairs-tails : (n i : ℕ) → alternate (pairs f g n i) ≡ values f n i
+  unfolding pairs values alternate
+  pairs-tails zero i = refl
+  pairs-tails (suc n) i = ap (λ l. f i ∷ l) (pairs-tails n (suc i))
+
+  after-one : (x n i : ℕ) → alternate (x ∷ pairs f g n i) ≡ x ∷ values g n i
+  unfolding pairs values alternate
+  after-one x zero i = refl
+  after-one x (suc n) i = ap (λ l. x ∷ l) (after-one (g i) n (suc i))
+
+  pairs-heads : (n i : ℕ) → alternate (drop 1 (pairs f g n i)) ≡ values g n i
+  unfolding pairs values alternate
+  pairs-heads zero i = refl
+  pairs-heads (suc n) i = after-one (g i) n (suc i)
+
+  pairs-whole : (n i : ℕ) → take (2 * n) (pairs f g n i) ≡ pairs f g n i
+  pairs-whole n i = rw (← pairs-long n i) (take-length (pairs f g n i))
+
+abbrev tails : List ℕ
+tails = values fullTail 4096 0
+
+abbrev heads : List ℕ
+heads = values fullHead 4096 0
+
+edges : edgeCount tails heads ≡ 4096
+edges = rw (values-long fullTail 4096 0, values-long fullHead 4096 0)
+
+tail-at : (i : ℕ) → i < 4096 → getD tails i 0 ≡ i / 64
+tail-at = values-from-0 fullTail 4096
+
+head-at : (i : ℕ) → i < 4096 → getD heads i 0 ≡ 64 + i % 64
+head-at = values-from-0 fullHead 4096
+
+-- ---- the checks
+
+known : (i : ℕ) → i < 4096 → strange? 128 tails heads i ≡ false
+unfolding strange?
+known i h =
+    rw (tail-at i h, head-at i h) (
+    neither (leb 128 (i / 64)) (leb 128 (64 + i % 64)) (lt-leb 128 (i / 64) (omega arith)) (lt-leb 128 (64 + i % 64) (omega arith))
+    )
+
+unlike : (i : ℕ) → i < 4096 → (j : ℕ) → j < i → alike? tails heads i j ≡ false
+unfolding alike?
+unlike i h j l = rw (tail-at i h, head-at i h, tail-at j (omega arith), head-at j (omega arith)) (not-true _ differ)
+  where
+    differ : (eqb (j / 64) (i / 64) && eqb (64 + j % 64) (64 + i % 64)) ≡ true → ⊥
+    differ e =
+        let b = and-elim (eqb (j / 64) (i / 64)) (eqb (64 + j % 64) (64 + i % 64)) e in
+        omega (arith, eqb-true (j / 64) (i / 64) (b .0), eqb-true (64 + j % 64) (64 + i % 64) (b .1))
+
+-- edges go from below 64 to 64 or more, so that no two follow each other
+edge-up : {u v : ℕ} → Edge tails heads u v → (u < 64) × (64 ≤ v)
+unfolding Edge
+edge-up (i, h, t, d) = let l : i < 4096 = rw edges at h in (omega (arith, tail-at i l), omega (arith, head-at i l))
+
+up : {u v : ℕ} → Reaches (Edge tails heads) u v → (u < 64) × (64 ≤ v)
+up (one e) = edge-up e
+up (more e r) = let a = edge-up e in let b = up r in absurd (omega arith)
+
+no-loop : (u : ℕ) → reachable? 128 tails heads u u ≡ false
+no-loop u = not-true (reachable? 128 tails heads u u) (λ e. let a = up (reachable-decided 128 tails heads u u .1 e .1) in omega arith)
+
+size : size? full ≡ false
+unfolding size? outsized? full
+size = rw edges
+
+stranger : stranger? full ≡ false
+unfolding stranger? full
+stranger = rw (edges, some-none 4096 (strange? 128 tails heads) known)
+
+double : double? full ≡ false
+unfolding double? duplicate? full
+double = rw edges (some-none 4096 (λ i. some i (alike? tails heads i)) (λ i h. some-none i (alike? tails heads i) (unlike i h)))
+
+ring : ring? full ≡ false
+unfolding ring? full
+ring = some-none 128 (λ u. reachable? 128 tails heads u u) (λ u h. no-loop u)
+
+accepted : refusalOf full ≡ 0
+unfolding refusalOf firstOf looseChecks laterChecks repeated? lacking? unled? full
+accepted = rw (size, stranger, double, ring)
+
+-- ---- the record
+
+abbrev fields : Fields
+fields = record { vertices = 128; edges = 7; count = 4096; given = false; lines = 0; size = 0 }
+
+laid-out-with : (s : List ℕ) → length s ≡ 8192 → layoutOf (1 ∷ 0 ∷ 1 ∷ 128 ∷ 2 ∷ 32 ∷ 0 ∷ s) ≡ Good fields
+unfolding layoutOf withVertices withEdges afterEdges fieldAt sizeAt
+laid-out-with s h = simp h
+
+laid-out : layoutOf fullRecord ≡ Good fields
+unfolding fullRecord
+laid-out = laid-out-with (pairs fullTail fullHead 4096 0) (pairs-long fullTail fullHead 4096 0)
+
+says : contentOf fullRecord fields ≡ full
+unfolding contentOf tailsOf headsOf fullRecord full
+says = rw (pairs-whole fullTail fullHead 4096 0, pairs-tails fullTail fullHead 4096 0, pairs-heads fullTail fullHead 4096 0)
+
+pub full-edges : edgesOf full ≡ 4096
+unfolding full
+full-edges = edges
+
+pub full-passes : recordRefusal fullRecord ≡ 0
+unfolding recordRefusal
+full-passes = rw (laid-out, says) accepted
+
+pub full-said : said fullRecord ≡ full
+unfolding said
+full-said = rw (full-passes, laid-out) says
