@@ -52,7 +52,7 @@ pub(crate) fn wide(x: u8) -> usize
 }
 
 // A drawing that is refused: no count and no entry.
-pub(crate) fn blank(refusal: u8) -> Drawing
+pub fn blank(refusal: u8) -> Drawing
     ensures { λ r. ⌜ r ≡ blankOf refusal ⌝ }
 {
     Drawing {

@@ -1,0 +1,160 @@
+-- What a call accepts is a sound graph that fits the lists, and what it leaves then is the graph's chart. Assumes nothing.
+use mathlib.Core.Path.{_≡_, refl, sym, ap, _∙_, subst}
+use mathlib.Core.Logic.{_↔_, _⊎_, ⊎-elim}
+use mathlib.Core.Bool.{Bool, true, false, _||_}
+use mathlib.Core.List.{List}
+use Prim.Native.Nat.{ℕ, _≤_}
+use native.Mathlib.Omega.{arith}
+use lib.Dec.{ltb}
+use lib.ListN.{length, getD, List·getD-eq-default}
+use borrow.Author.Tests.{eq-eqb, ltb-false, le-ltb}
+use Rattle.counting.specs.Count.{choose}
+use Rattle.counting.proofs.Truth.{lt-or-le, true-or-false, or-neither}
+use Rattle.reach.specs.Refusal.{mostEdges}
+use Rattle.record.specs.Checks.{Content, edgesOf, refusalOf}
+use Rattle.record.specs.Sound.{Sound, SoundRecord}
+use Rattle.record.specs.Reading.{contentOf, contentIn, recordRefusal, said}
+use Rattle.record.specs.declared.reading.Graph.{Graph}
+use Rattle.record.proofs.Soundness.{accepted-sound, sound-accepted, record-sound}
+use Rattle.outline.specs.Chart.{planOf, tracksIn}
+use Rattle.outline.specs.declared.VertexEntry.{VertexEntry}
+use Rattle.outline.specs.declared.EdgeEntry.{EdgeEntry}
+use Rattle.outline.specs.declared.BundleEntry.{BundleEntry}
+use Rattle.outline.proofs.Channels.{channels-few, vertices-small}
+use Rattle.outline.proofs.Bundling.{plan-channels, tracks-past}
+use Rattle.drawing.specs.Promise.{Drawn, judged, recordDrawn, graphContent, graphRefusal, graphDrawn}
+use Rattle.charts.specs.declared.Chart as answer
+use Rattle.charts.specs.Promise.{short?, Listed, HandedOver}
+use Rattle.charts.proofs.Shortage.{enough, lent-short, lent-whole}
+use Rattle.demands.specs.Demands.{entriesIn, seen, Faithful, Roomy, Smallest, Carried}
+use Rattle.demands.proofs.Agreeing.{Shown, Agrees, seen-agrees}
+use Rattle.demands.proofs.Least.{agreed-smallest, agreed-counted}
+use Rattle.demands.proofs.Showing.{shown-faithful}
+
+-- ---- records
+
+-- a sound record says what its fields say
+pub said-fields : (b : List ℕ) (s : SoundRecord b) → said b ≡ contentOf b (s .0)
+unfolding said
+said-fields b s = rw (eq-eqb _ _ (record-sound b .1 s)) (ap (contentIn b) (s .1))
+
+said-sound : (b : List ℕ) → recordRefusal b ≡ 0 → Sound (said b)
+said-sound b e = let s = record-sound b .0 e in subst Sound (sym (said-fields b s)) (s .2)
+
+-- ---- graphs
+
+module _ (g : Graph) where
+  counted : (t : Bool) (k : ℕ) → choose t (λ _. 2) (λ _. k) ≡ 0 → (t ≡ false) × (k ≡ 0)
+  counted true k e = absurd (let z : _≡_ {A = ℕ} 2 0 = e in omega arith)
+  counted false k e = (refl, e)
+
+  graph-accepted : (graphRefusal g ≡ 0) ↔ ((g .count ≤ mostEdges) × Sound (graphContent g))
+  unfolding graphRefusal
+  graph-accepted = (
+    (λ e. let q = counted (ltb mostEdges (g .count)) (refusalOf (graphContent g)) e in (ltb-false mostEdges (g .count) (q .0), accepted-sound (graphContent g) (q .1))),
+    λ h. rw (le-ltb mostEdges (g .count) (h .0)) (sound-accepted (graphContent g) (h .1)),
+  )
+
+  graph-refusal : graphDrawn g .refusal ≡ graphRefusal g
+  unfolding graphDrawn judged
+  graph-refusal = refl
+
+  graph-drawn : graphRefusal g ≡ 0 → graphDrawn g .graph ≡ graphContent g
+  unfolding graphDrawn judged
+  graph-drawn e = rw (eq-eqb _ _ e) refl
+
+-- ---- calls
+
+module _ (vs vs′ : List VertexEntry) (es es′ : List EdgeEntry) (bs bs′ : List BundleEntry) (r : answer.Chart) where
+  -- no list is short
+  roomy : (d : Drawn) → short? (length vs) (length es) (length bs) d ≡ false → Roomy (d .graph) vs es bs
+  unfolding short?
+  roomy d e =
+      let a = or-neither (ltb (length vs) (d .graph .vertices)) (ltb (length es) (edgesOf (d .graph)) || ltb (length bs) (length (planOf (d .graph) .bundles))) e in
+      let b = or-neither (ltb (length es) (edgesOf (d .graph))) (ltb (length bs) (length (planOf (d .graph) .bundles))) (a .1) in
+      record { vertices = ltb-false _ _ (a .0); edges = ltb-false _ _ (b .0); bundles = ltb-false _ _ (b .1) }
+
+  module _ (d : Drawn) (h : HandedOver d vs es bs r vs′ es′ bs′) where
+    -- where 0 is answered the graph is drawn whole
+    whole : r .refusal ≡ 0 → short? (length vs) (length es) (length bs) d ≡ false
+    whole e = ⊎-elim
+        (λ t. absurd (omega (arith, h .refusal, ap (λ (x : Drawn). x .refusal) (lent-short (length vs) (length es) (length bs) d t))))
+        (λ t. t)
+        (true-or-false (short? (length vs) (length es) (length bs) d))
+
+    call-accepted : (r .refusal ≡ 0) ↔ ((d .refusal ≡ 0) × Roomy (d .graph) vs es bs)
+    call-accepted = (
+      (λ e. let t = whole e in (sym (ap (λ (x : Drawn). x .refusal) (lent-whole (length vs) (length es) (length bs) d t)) ∙ sym (h .refusal) ∙ e, roomy d t)),
+      λ q.
+          let m = q .1 in
+          h .refusal ∙ ap (λ (x : Drawn). x .refusal) (lent-whole (length vs) (length es) (length bs) d (enough (length vs) (length es) (length bs) d (m .vertices) (m .edges) (m .bundles))) ∙ q .0,
+    )
+
+    call-listed : r .refusal ≡ 0 → (c : Content) → d .graph ≡ c → Listed c (planOf c) vs es bs r vs′ es′ bs′
+    call-listed e c i =
+        subst (λ (x : Content). Listed x (planOf x) vs es bs r vs′ es′ bs′) (ap (λ (x : Drawn). x .graph) (lent-whole (length vs) (length es) (length bs) d (whole e)) ∙ i) (h .listed)
+
+  -- ---- what they leave
+
+  module _ (c : Content) (s : Sound c) (l : Listed c (planOf c) vs es bs r vs′ es′ bs′) where
+    list-shown : Shown c (entriesIn vs′ es′ bs′)
+    list-shown = record {
+      vertex = λ v h. l .vertex-list .made v _ h;
+      edge = λ e h. l .edge-list .made e _ h;
+      bundle = λ b h. l .bundle-list .made b _ h;
+    }
+
+    list-agrees : Agrees c (seen c r (entriesIn vs′ es′ bs′))
+    list-agrees = seen-agrees c s r (entriesIn vs′ es′ bs′) list-shown (l .channels) (l .bundles)
+
+    -- past the last line there is no side column
+    tracks-all : (p : ℕ) → tracksIn (planOf c) p ≡ getD (r .tracks) p 0
+    tracks-all p = ⊎-elim
+        (λ h. sym (l .tracks p h))
+        (λ h. tracks-past c s p (omega (arith, channels-few c s, vertices-small c s)) ∙ sym (List·getD-eq-default (r .tracks) 0 (omega (arith, l .long))))
+        (lt-or-le p 128)
+
+    pub listed-smallest : Smallest c (seen c r (entriesIn vs′ es′ bs′)) × Carried c (seen c r (entriesIn vs′ es′ bs′)) r
+    listed-smallest =
+        let k = agreed-counted c s _ list-agrees in (
+          agreed-smallest c s _ list-agrees,
+          record {
+            row-count = k .row-count ∙ sym (l .rows);
+            line-count = k .line-count ∙ sym (l .channels ∙ ap length (plan-channels c s));
+            link-count = k .link-count ∙ sym (l .reduced);
+            bundle-count = k .bundle-count ∙ sym (l .bundles);
+            side-counts = λ p. k .side-counts p ∙ tracks-all p;
+          },
+        )
+
+    pub listed-faithful : Faithful c (entriesIn vs′ es′ bs′)
+    listed-faithful = shown-faithful c s (entriesIn vs′ es′ bs′) list-shown
+
+  -- ---- of a record, and of a graph
+
+  module _ (b : List ℕ) (h : HandedOver (recordDrawn b) vs es bs r vs′ es′ bs′) where
+    pub record-call : (r .refusal ≡ 0) ↔ (SoundRecord b × Roomy (said b) vs es bs)
+    unfolding recordDrawn
+    record-call =
+        let a = call-accepted (recordDrawn b) h in
+        ((λ e. (record-sound b .0 (a .0 e .0), a .0 e .1)), λ q. a .1 (record-sound b .1 (q .0), q .1))
+
+    pub record-left : r .refusal ≡ 0 → Sound (said b) × Listed (said b) (planOf (said b)) vs es bs r vs′ es′ bs′
+    unfolding recordDrawn
+    record-left e = (said-sound b (record-sound b .1 (record-call .0 e .0)), call-listed (recordDrawn b) h e (said b) refl)
+
+  module _ (g : Graph) (h : HandedOver (graphDrawn g) vs es bs r vs′ es′ bs′) where
+    drawn : r .refusal ≡ 0 → graphRefusal g ≡ 0
+    drawn e = sym (graph-refusal g) ∙ call-accepted (graphDrawn g) h .0 e .0
+
+    pub graph-call : (r .refusal ≡ 0) ↔ ((g .count ≤ mostEdges) × Sound (graphContent g) × Roomy (graphContent g) vs es bs)
+    graph-call =
+        let a = call-accepted (graphDrawn g) h in (
+          (λ e. let q = graph-accepted g .0 (drawn e) in (q .0, q .1, subst (λ (c : Content). Roomy c vs es bs) (graph-drawn g (drawn e)) (a .0 e .1))),
+          λ q.
+              let k = graph-accepted g .1 (q .0, q .1) in
+              a .1 (graph-refusal g ∙ k, subst (λ (c : Content). Roomy c vs es bs) (sym (graph-drawn g k)) (q .2)),
+        )
+
+    pub graph-left : r .refusal ≡ 0 → Sound (graphContent g) × Listed (graphContent g) (planOf (graphContent g)) vs es bs r vs′ es′ bs′
+    graph-left e = (graph-accepted g .0 (drawn e) .1, call-listed (graphDrawn g) h e (graphContent g) (graph-drawn g (drawn e)))

@@ -1,0 +1,79 @@
+-- THE DEMANDS, proved of the chart that the definitions give of every sound graph, and of what every call leaves. Of a call nothing is
+-- asked but its promise. The statements are in specs/Demands.antt and specs/Lawful.antt. Assumes nothing.
+use mathlib.Core.Path.{_≡_}
+use mathlib.Core.Logic.{_↔_}
+use mathlib.Core.List.{List}
+use Prim.Native.Nat.{ℕ, _≤_}
+use lib.ListN.{length}
+use Rattle.reach.specs.Refusal.{mostEdges}
+use Rattle.record.specs.Checks.{Content}
+use Rattle.record.specs.Sound.{Sound, SoundRecord}
+use Rattle.record.specs.Reading.{contentOf, said}
+use Rattle.record.specs.declared.reading.Graph.{Graph}
+use Rattle.outline.specs.Chart.{channelsOf, planOf, rowCount, reducedEdges, tracksIn}
+use Rattle.outline.specs.declared.VertexEntry.{VertexEntry}
+use Rattle.outline.specs.declared.EdgeEntry.{EdgeEntry}
+use Rattle.outline.specs.declared.BundleEntry.{BundleEntry}
+use Rattle.drawing.specs.Promise.{recordDrawn, graphContent, graphDrawn}
+use Rattle.charts.specs.declared.Chart as answer
+use Rattle.charts.specs.Promise.{HandedOver}
+use Rattle.charts.proofs.Refusals.{record-sound, graph-sound, Untouched, refused-untouched}
+use Rattle.demands.specs.Demands.{Entries, entriesIn, entriesOf, oursOf, seen, Faithful, Roomy, Smallest, Counted, Carried}
+use Rattle.demands.proofs.Agreeing.{defined-shown, ours-agrees}
+use Rattle.demands.proofs.Least.{agreed-smallest, agreed-counted}
+use Rattle.demands.proofs.Showing.{shown-faithful}
+use Rattle.demands.proofs.Accepting.{said-fields, record-call, record-left, graph-call, graph-left, listed-smallest, listed-faithful}
+
+-- ---- the chart of a sound graph
+
+module _ (c : Content) (s : Sound c) where
+  -- demand 3
+  pub chart-smallest : Smallest c (oursOf c) × Counted c (oursOf c) (rowCount c) (length (channelsOf c)) (reducedEdges c) (length (planOf c .bundles)) (tracksIn (planOf c))
+  chart-smallest = (agreed-smallest c s (oursOf c) (ours-agrees c), agreed-counted c s (oursOf c) (ours-agrees c))
+
+  -- demand 2
+  pub chart-faithful : Faithful c (entriesOf c)
+  chart-faithful = shown-faithful c s (entriesOf c) (defined-shown c)
+
+-- the graph of a sound record is what its fields say
+pub record-says : (b : List ℕ) (s : SoundRecord b) → said b ≡ contentOf b (s .0)
+record-says = said-fields
+
+-- ---- every call: the lists vs, es and bs are lent, r is the answer, and vs′, es′ and bs′ are the lists afterwards
+
+module _ (vs vs′ : List VertexEntry) (es es′ : List EdgeEntry) (bs bs′ : List BundleEntry) (r : answer.Chart) where
+  -- what the caller has then
+  abbrev entries : Entries
+  entries = entriesIn vs′ es′ bs′
+
+  -- of a record b
+  module _ (b : List ℕ) (h : HandedOver (recordDrawn b) vs es bs r vs′ es′ bs′) where
+    -- demand 2, 'a record is accepted exactly when it passes document 01's checks'
+    pub record-accepted-exactly : (r .refusal ≡ 0) ↔ (SoundRecord b × Roomy (said b) vs es bs)
+    record-accepted-exactly = record-call vs vs′ es es′ bs bs′ r b h
+
+    -- demand 1, 'nothing in a lent list changes when a call refuses'; every count is 0 then
+    pub record-refused : (r .refusal ≡ 0 → ⊥) → Untouched vs es bs r vs′ es′ bs′
+    record-refused = refused-untouched (recordDrawn b) (record-sound b) vs vs′ es es′ bs bs′ r h
+
+    -- demand 2, 'in a chart'
+    pub record-faithful : r .refusal ≡ 0 → Faithful (said b) entries
+    record-faithful e = let l = record-left vs vs′ es es′ bs bs′ r b h e in listed-faithful vs vs′ es es′ bs bs′ r (said b) (l .0) (l .1)
+
+    -- demand 3
+    pub record-smallest : r .refusal ≡ 0 → Smallest (said b) (seen (said b) r entries) × Carried (said b) (seen (said b) r entries) r
+    record-smallest e = let l = record-left vs vs′ es es′ bs bs′ r b h e in listed-smallest vs vs′ es es′ bs bs′ r (said b) (l .0) (l .1)
+
+  -- of a graph g
+  module _ (g : Graph) (h : HandedOver (graphDrawn g) vs es bs r vs′ es′ bs′) where
+    pub graph-accepted-exactly : (r .refusal ≡ 0) ↔ ((g .count ≤ mostEdges) × Sound (graphContent g) × Roomy (graphContent g) vs es bs)
+    graph-accepted-exactly = graph-call vs vs′ es es′ bs bs′ r g h
+
+    pub graph-refused : (r .refusal ≡ 0 → ⊥) → Untouched vs es bs r vs′ es′ bs′
+    graph-refused = refused-untouched (graphDrawn g) (graph-sound g) vs vs′ es es′ bs bs′ r h
+
+    pub graph-faithful : r .refusal ≡ 0 → Faithful (graphContent g) entries
+    graph-faithful e = let l = graph-left vs vs′ es es′ bs bs′ r g h e in listed-faithful vs vs′ es es′ bs bs′ r (graphContent g) (l .0) (l .1)
+
+    pub graph-smallest : r .refusal ≡ 0 → Smallest (graphContent g) (seen (graphContent g) r entries) × Carried (graphContent g) (seen (graphContent g) r entries) r
+    graph-smallest e = let l = graph-left vs vs′ es es′ bs bs′ r g h e in listed-smallest vs vs′ es es′ bs bs′ r (graphContent g) (l .0) (l .1)

@@ -1,0 +1,164 @@
+-- What agrees with our chart is lawful, has its counts, and no lawful chart has fewer. Assumes nothing.
+use mathlib.Core.Path.{_≡_, sym, ap, _∙_}
+use mathlib.Core.Logic.{_↔_, _⊎_, inl, inr, ⊎-elim, _≢_}
+use mathlib.Core.Bool.{true}
+use Prim.Native.Nat.{ℕ, _≤_, _<_}
+use native.Mathlib.Omega.{arith}
+use lib.Dec.{eqb}
+use lib.ListN.{length}
+use Rattle.counting.proofs.Sums.{sum-ext, count-ext}
+use Rattle.reach.specs.Graph.{Reaches}
+use Rattle.matching.specs.Division.{Division}
+use Rattle.record.specs.Checks.{Content}
+use Rattle.record.specs.Sound.{Leads, Sound}
+use Rattle.layers.proofs.Above.{above-ext}
+use Rattle.reduction.specs.Reduction.{Linked, linkCount, reducedLink}
+use Rattle.reduction.proofs.Transitive.{reaches-map}
+use Rattle.tracks.specs.Tracks.{differentIn}
+use Rattle.tracks.specs.Order.{Apart, Among}
+use Rattle.tracks.proofs.FirstFit.{row-meet, meet-row, meet-fact}
+use Rattle.tracks.proofs.Different.{different-ext}
+use Rattle.outline.specs.Chart.{leads?, tailOf, headOf, rowOf, rowCount, reducedEdges, Plan, channelsOf, planOf, bundleIn, trackIn, tracksIn}
+use Rattle.outline.proofs.Leading.{leads-decided}
+use Rattle.outline.proofs.Channels.{channels-divide, channel-below, channels-least}
+use Rattle.outline.proofs.Rows.{edge-rises, row-count, rows-fewest}
+use Rattle.outline.proofs.Marks.{chart-links, chart-links-least, chart-links-count}
+use Rattle.outline.proofs.Bundling.{bundle-channel, bundle-ordered, plan-packed, tracks-different}
+use Rattle.demands.specs.Lawful.{Chart, ShareRow, Lawful, rowsOf, linksOf, sideColumns, SameBundles}
+use Rattle.demands.specs.Demands.{Smallest, Counted}
+use Rattle.demands.proofs.Agreeing.{Agrees}
+
+module _ (c : Content) (s : Sound c) where
+  abbrev n : ℕ
+  n = c .vertices
+
+  abbrev p : Plan
+  p = planOf c
+
+  abbrev k : ℕ
+  k = length (p .bundles)
+
+  abbrev line : ℕ → ℕ
+  line b = bundleIn p b .channel
+
+  abbrev first : ℕ → ℕ
+  first b = bundleIn p b .first
+
+  abbrev last : ℕ → ℕ
+  last b = bundleIn p b .last
+
+  -- what leads where, by the table
+  by-table : (u v : ℕ) → Leads c u v ⊎ Leads c v u → (leads? c u v ≡ true) ⊎ (leads? c v u ≡ true)
+  by-table u v = ⊎-elim (λ r. inl (leads-decided c s u v .1 r)) (λ r. inr (leads-decided c s v u .1 r))
+
+  from-table : (u v : ℕ) → (leads? c u v ≡ true) ⊎ (leads? c v u ≡ true) → Leads c u v ⊎ Leads c v u
+  from-table u v = ⊎-elim (λ r. inl (leads-decided c s u v .0 r)) (λ r. inr (leads-decided c s v u .0 r))
+
+  module _ (x : Chart) (a : Agrees c x) where
+    within : (b : ℕ) → b < x .bundles → b < k
+    within b l = omega (arith, a .bundles)
+
+    -- ---- lawful
+
+    abbrev ours : ℕ → ℕ → Type 0
+    ours = Linked n (reducedLink (leads? c) n (c .tails) (c .heads))
+
+    agreed-descent : (u v : ℕ) → Reaches (Linked n (x .link)) u v ↔ Leads c u v
+    agreed-descent u v =
+        let d = chart-links c s .same u v in (
+          (λ r. d .0 (reaches-map (λ i j h. (h .0, h .1, sym (a .link i j) ∙ h .2)) r)),
+          λ r. reaches-map (λ i j (h : ours i j). (h .0, h .1, a .link i j ∙ h .2)) (d .1 r),
+        )
+
+    agreed-apart : (i j : ℕ) → i < x .bundles → j < x .bundles → i ≢ j → x .line i ≡ x .line j → ShareRow x i j → x .side i ≢ x .side j
+    agreed-apart i j li lj ne e (r, fi, il, fj, jl) t =
+        let ki = within i li in
+        let kj = within j lj in
+        plan-packed c s .lawful .apart i j ki kj ne
+        (row-meet line first last i j r (sym (a .line i ki) ∙ e ∙ a .line j kj) (omega (arith, a .first i ki), omega (arith, a .last i ki)) (omega (arith, a .first j kj), omega (arith, a .last j kj)))
+        (sym (a .side i ki) ∙ t ∙ a .side j kj)
+
+    pub agreed-lawful : Lawful c x
+    agreed-lawful = record {
+      rises = λ e l. let b = s .ends e l in omega (arith, a .row (tailOf c e) (b .0), a .row (headOf c e) (b .1), edge-rises c s e l);
+      divided = λ v l. omega (arith, a .part v l, a .parts, channel-below c s v l);
+      related = λ u v hu hv ne e. from-table u v (channels-divide c s .division .related u v hu hv ne (sym (a .part u hu) ∙ e ∙ a .part v hv));
+      descent = agreed-descent;
+      lined = λ b l. omega (arith, a .line b (within b l), a .parts, bundle-channel c s b (within b l));
+      apart = agreed-apart;
+    }
+
+    -- ---- counts
+
+    rows-counted : rowsOf c x ≡ rowCount c
+    unfolding rowsOf
+    rows-counted = above-ext n (λ v. true) (x .row) (rowOf c) (λ v l e. a .row v l) ∙ sym (row-count c s)
+
+    links-counted : linksOf c x ≡ reducedEdges c
+    unfolding linksOf linkCount
+    links-counted = sum-ext n _ _ (λ u hu. count-ext n _ _ (λ v hv. a .link u v)) ∙ chart-links-count c s
+
+    -- by our bundles
+    sides-ours : (l : ℕ) → sideColumns x l ≡ differentIn k (λ b. eqb (line b) l) (trackIn p)
+    unfolding sideColumns
+    sides-ours l =
+        ap (λ (m : ℕ). differentIn m (λ b. eqb (x .line b) l) (x .side)) (a .bundles)
+        ∙ different-ext k _ _ _ _ (λ b h. ap (λ (q : ℕ). eqb q l) (a .line b h)) (λ b h. a .side b h)
+
+    pub agreed-counted : Counted c x (rowCount c) (length (channelsOf c)) (reducedEdges c) k (tracksIn p)
+    agreed-counted = record {
+      row-count = rows-counted;
+      line-count = a .parts;
+      link-count = links-counted;
+      bundle-count = a .bundles;
+      side-counts = λ l. sides-ours l ∙ tracks-different c s l;
+    }
+
+    -- ---- none has fewer
+
+    module _ (y : Chart) (h : Lawful c y) where
+      other-division : Division (leads? c) n (y .parts) (y .part)
+      other-division = record { below = h .divided; related = λ u v hu hv ne e. by-table u v (h .related u v hu hv ne e) }
+
+      module _ (same : SameBundles c x y) where
+        -- bundles of the other begin no higher than they end, since ours do
+        other-ordered : (b : ℕ) → b < y .bundles → y .first b ≤ y .last b
+        other-ordered b l =
+            let i = same .from b in
+            let m = same .from-below b l in
+            let e : same .to i ≡ b = same .to-from b l in
+            let q = within i m in
+            omega (arith, same .firsts i m, same .lasts i m, ap (y .first) e, ap (y .last) e, a .first i q, a .last i q, bundle-ordered c s i q)
+
+        other-apart : Apart (y .bundles) (y .line) (y .first) (y .last) (y .side)
+        other-apart = record {
+          apart = λ i j li lj ne m.
+              let f = meet-fact (y .line) (y .first) (y .last) i j m in
+              h .apart i j li lj ne (f .0) (meet-row (y .line) (y .first) (y .last) i j (other-ordered i li) (other-ordered j lj) m);
+        }
+
+        among : (l q v : ℕ) → v < n → x .part v ≡ l → y .part v ≡ q → Among k line first last l (y .bundles) (y .line) (y .first) (y .last) q
+        among l q v hv e f = record {
+          to = same .to;
+          below = λ b m i. same .to-below b (omega (arith, a .bundles));
+          there = λ b m i. sym (same .held b (omega (arith, a .bundles)) v hv .0 (e ∙ sym i ∙ sym (a .line b m))) ∙ f;
+          one = λ i j li lj ei ej t. sym (same .from-to i (omega (arith, a .bundles))) ∙ ap (same .from) t ∙ same .from-to j (omega (arith, a .bundles));
+          firsts = λ b m i. sym (same .firsts b (omega (arith, a .bundles))) ∙ a .first b m;
+          lasts = λ b m i. sym (same .lasts b (omega (arith, a .bundles))) ∙ a .last b m;
+        }
+
+        fewest-sides : (l q v : ℕ) → v < n → x .part v ≡ l → y .part v ≡ q → sideColumns x l ≤ sideColumns y q
+        unfolding sideColumns
+        fewest-sides l q v hv e f =
+            rw (sides-ours l) (plan-packed c s .least l (y .bundles) (y .line) (y .first) (y .last) q (y .side) (among l q v hv e f) other-apart)
+
+    pub agreed-smallest : Smallest c x
+    unfolding rowsOf linksOf
+    agreed-smallest = record {
+      lawful = agreed-lawful;
+      filled = λ l h. let u = channels-divide c s .used l (omega (arith, a .parts)) in (u .0, u .1, a .part (u .0) (u .1) ∙ u .2);
+      rows = λ y h. omega (arith, rows-counted, rows-fewest c s (y .row) (h .rises));
+      lines = λ g y h. omega (arith, a .parts, channels-least c s g (y .parts) (y .part) (other-division y h));
+      links = λ y h. omega (arith, links-counted, chart-links-least c s (y .link) (h .descent));
+      sides = λ y h lines rows same i j v hv e f. omega (arith, fewest-sides y h same i j v hv e f);
+    }

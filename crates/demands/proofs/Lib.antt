@@ -1,0 +1,5 @@
+pub mod Agreeing
+pub mod Least
+pub mod Showing
+pub mod Accepting
+pub mod Demands

@@ -1,0 +1,106 @@
+-- Entries that are the definitions' lead where the graph does, and their polylines are clear and on the page. Assumes nothing.
+use mathlib.Core.Path.{_≡_, refl, ap, subst}
+use mathlib.Core.Logic.{_↔_, _≢_, ⊎-elim}
+use mathlib.Core.Bool.{true}
+use mathlib.Core.List.{List}
+use Prim.Native.Nat.{ℕ, _<_}
+use lib.Dec.{eqb}
+use lib.ListN.{length}
+use borrow.Author.Tests.{eqb-true, eqb-false}
+use Rattle.counting.proofs.Truth.{true-or-false}
+use Rattle.reach.specs.Graph.{Reaches, edge?}
+use Rattle.matching.specs.Lists.{channelOf, positionOf}
+use Rattle.record.specs.Checks.{Content, edgesOf}
+use Rattle.record.specs.Sound.{Leads, Sound}
+use Rattle.reduction.proofs.Transitive.{reaches-map}
+use Rattle.bundles.specs.Sides.{adjacent?}
+use Rattle.geometry.specs.Segment.{Point, Meets}
+use Rattle.geometry.specs.Placement.{gapWidth, trackAt}
+use Rattle.geometry.specs.Polylines.{byTrack}
+use Rattle.geometry.specs.Courses.{courseOf}
+use Rattle.geometry.specs.declared.Course.{Course}
+use Rattle.geometry.specs.declared.Course.the-variants as course
+use Rattle.outline.specs.Chart.{tailOf, headOf, Plan, channelsOf, planOf, placeOf, crossing, kindBetween, vertexEntry, edgeEntry, bundleEntry}
+use Rattle.outline.specs.Lines.{pointAt, polylineOf}
+use Rattle.outline.specs.declared.Kind.{Kind}
+use Rattle.outline.specs.declared.Kind.the-variants.{Path, PathTransitive, Straight, Bent}
+use Rattle.outline.specs.declared.VertexEntry.{VertexEntry}
+use Rattle.outline.specs.declared.BundleEntry.{BundleEntry}
+use Rattle.outline.proofs.Leading.{edge-there}
+use Rattle.outline.proofs.Bundling.{side-edge, side-bundle}
+use Rattle.outline.proofs.EdgeKinds.{kind-path, kind-side, kind-cross}
+use Rattle.outline.proofs.Marks.{marked-longer, chart-reduced}
+use Rattle.outline.proofs.Clearing.{chart-clear}
+use Rattle.outline.proofs.Paging.{chart-on-page}
+use Rattle.demands.specs.Demands.{Entries, entriesOf, Firm, placeIn, lineIn, Faithful}
+use Rattle.demands.proofs.Agreeing.{Shown, mark, firm-reduced, reduced-firm}
+
+-- a kind's bundle, if it has one, is of the first k
+abbrev Within : ℕ → Kind → Type 0
+Within k Path = Unit {0}
+Within k (PathTransitive b) = b < k
+Within k Straight = Unit {0}
+Within k (Bent b) = Unit {0}
+
+-- a polyline reads that bundle alone
+lines-same : (u v : VertexEntry) (d : Kind) (k : ℕ) (f g : ℕ → BundleEntry) → Within k d → ((b : ℕ) → b < k → f b ≡ g b) → polylineOf u v d f ≡ polylineOf u v d g
+unfolding polylineOf
+lines-same u v Path k f g w same = refl
+lines-same u v (PathTransitive b) k f g w same = ap (λ (x : BundleEntry). byTrack (pointAt u) (pointAt v) (trackAt (u .column) gapWidth (x .track))) (same b w)
+lines-same u v Straight k f g w same = refl
+lines-same u v (Bent b) k f g w same = refl
+
+crossing-within : (k : ℕ) (r : Course) → Within k (crossing r)
+crossing-within k course.Straight = tt
+crossing-within k (course.Bent x y) = tt
+
+module _ (c : Content) (s : Sound c) where
+  abbrev ls : List (List ℕ)
+  ls = channelsOf c
+
+  abbrev p : Plan
+  p = planOf c
+
+  abbrev k : ℕ
+  k = length (p .bundles)
+
+  kind-within : (u v : ℕ) → u < c .vertices → v < c .vertices → edge? (c .tails) (c .heads) u v ≡ true → Within k (kindBetween c p u v)
+  kind-within u v hu hv edge = ⊎-elim
+      (λ q.
+      let e : channelOf ls u ≡ channelOf ls v = eqb-true _ _ q in
+      ⊎-elim
+      (λ a. rw (kind-path c u v e a) tt)
+      (λ a. rw (kind-side c u v e a) (side-bundle c s u v (side-edge c s u v edge hu hv e a) .0))
+      (true-or-false (adjacent? (positionOf ls u) (positionOf ls v))))
+      (λ q. let e : channelOf ls u ≢ channelOf ls v = eqb-false _ _ q in rw (kind-cross c u v e) (crossing-within k (courseOf (placeOf c p) (c .vertices) u v)))
+      (true-or-false (eqb (channelOf ls u) (channelOf ls v)))
+
+  entry-within : (e : ℕ) → e < edgesOf c → Within k (edgeEntry c p e .kind)
+  unfolding edgeEntry
+  entry-within e l = let b = s .ends e l in kind-within (tailOf c e) (headOf c e) (b .0) (b .1) (edge-there c s e l)
+
+  module _ (n : Entries) (h : Shown c n) where
+    shown-descent : (u v : ℕ) → Reaches (Firm c n) u v ↔ Leads c u v
+    shown-descent u v = let d = chart-reduced c s u v in ((λ r. d .0 (reaches-map (firm-reduced c s n h) r)), λ r. reaches-map (reduced-firm c s n h) (d .1 r))
+
+    line-same : (e : ℕ) → e < edgesOf c → lineIn c n e ≡ lineIn c (entriesOf c) e
+    line-same e l =
+        let b = s .ends e l in
+        rw (h .vertex (tailOf c e) (b .0), h .vertex (headOf c e) (b .1), h .edge e l)
+        (lines-same (vertexEntry c p (tailOf c e)) (vertexEntry c p (headOf c e)) (edgeEntry c p e .kind) k (n .bundle) (bundleEntry p) (entry-within e l) (h .bundle))
+
+    place-same : (v : ℕ) → v < c .vertices → placeIn n v ≡ placeOf c p v
+    unfolding vertexEntry
+    place-same v l = ap pointAt (h .vertex v l)
+
+    pub shown-faithful : Faithful c n
+    shown-faithful = record {
+      marked = λ e l. rw (mark c s n h e l) (marked-longer c s e l);
+      descent = shown-descent;
+      clear = λ e l. record {
+        clear = λ w hw nu nv m.
+            chart-clear c s e l .clear w hw nu nv
+            (subst (λ (x : List Point). Meets x (placeOf c p w)) (line-same e l) (subst (λ (q : Point). Meets (lineIn c n e) q) (place-same w hw) m));
+      };
+      on-page = λ e l. rw (line-same e l) (chart-on-page c s e l);
+    }

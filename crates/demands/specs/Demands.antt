@@ -1,0 +1,137 @@
+-- The demands on a chart, as statements: `Faithful` for demand 2, `Smallest` and `Carried` for demand 3. proofs/Demands.antt proves them of
+-- the definitions' chart and of what every call leaves. Assumes nothing.
+use mathlib.Core.Path.{_≡_}
+use mathlib.Core.Logic.{_↔_}
+use mathlib.Core.Bool.{Bool, true, false, not, _&&_}
+use mathlib.Core.List.{List}
+use Prim.Native.Nat.{ℕ, _≤_, _<_}
+use lib.Dec.{eqb}
+use lib.ListN.{length, getD}
+use Rattle.counting.specs.Count.{some}
+use Rattle.reach.specs.Graph.{Reaches, Longer, Edge}
+use Rattle.matching.specs.Lists.{channelOf}
+use Rattle.record.specs.Checks.{Content, edgesOf}
+use Rattle.record.specs.Sound.{Leads}
+use Rattle.reduction.specs.Reduction.{reducedLink}
+use Rattle.geometry.specs.Segment.{Point}
+use Rattle.geometry.specs.Polylines.{Clear}
+use Rattle.outline.specs.Chart.{leads?, tailOf, headOf, rowOf, channelsOf, planOf, bundleIn, trackIn, vertexEntry, edgeEntry, bundleEntry}
+use Rattle.outline.specs.Lines.{pointAt, polylineOf, OnPage}
+use Rattle.outline.specs.declared.Kind.the-variants.{Path}
+use Rattle.outline.specs.declared.VertexEntry.{VertexEntry}
+use Rattle.outline.specs.declared.EdgeEntry.{EdgeEntry}
+use Rattle.outline.specs.declared.BundleEntry.{BundleEntry}
+use Rattle.charts.specs.declared.Chart as answer
+use Rattle.demands.specs.Lawful.{Chart, Lawful, rowsOf, linksOf, sideColumns, SameLines, SameRows, SameBundles}
+
+-- ---- what is handed over
+
+-- an entry of every vertex, edge and bundle
+pub record Entries : Type 0 where
+  pub vertex : ℕ → VertexEntry
+  pub edge : ℕ → EdgeEntry
+  pub bundle : ℕ → BundleEntry
+
+-- those that lists hold; what stands past a list's end no law reads
+abbrev pub entriesIn : List VertexEntry → List EdgeEntry → List BundleEntry → Entries
+entriesIn vs es bs = record {
+  vertex = λ v. getD vs v (record { channel = 0; position = 0; column = 0; row = 0; descendants = 0 });
+  edge = λ e. getD es e (record { number = 0; kind = Path; transitive = false });
+  bundle = λ b. getD bs b (record { channel = 0; «first_row» = 0; «last_row» = 0; track = 0 });
+}
+
+-- those of the definitions
+abbrev pub entriesOf : Content → Entries
+entriesOf c = record { vertex = vertexEntry c (planOf c); edge = edgeEntry c (planOf c); bundle = bundleEntry (planOf c) }
+
+-- ---- our chart
+
+-- by the definitions; 'with the firm arrows as its links'
+unfoldable pub oursOf : Content → Chart
+oursOf c = record {
+  row = rowOf c;
+  parts = length (channelsOf c);
+  part = channelOf (channelsOf c);
+  link = reducedLink (leads? c) (c .vertices) (c .tails) (c .heads);
+  bundles = length (planOf c .bundles);
+  line = λ b. bundleIn (planOf c) b .channel;
+  first = λ b. bundleIn (planOf c) b .first;
+  last = λ b. bundleIn (planOf c) b .last;
+  side = trackIn (planOf c);
+}
+
+-- edge e joins u to v, and its entry is not marked transitive (document 01: implied)
+abbrev pub joins? : Content → Entries → ℕ → ℕ → ℕ → Bool
+joins? c entries u v e = (eqb (tailOf c e) u && eqb (headOf c e) v) && not (entries .edge e .transitive)
+
+-- as whoever knows the graph c sees it: how many lines and bundles the answer r says, all else the entries
+unfoldable pub seen : Content → answer.Chart → Entries → Chart
+seen c r entries = record {
+  row = λ v. entries .vertex v .row;
+  parts = r .channels;
+  part = λ v. entries .vertex v .channel;
+  link = λ u v. some (edgesOf c) (joins? c entries u v);
+  bundles = r .bundles;
+  line = λ b. entries .bundle b .channel;
+  first = λ b. entries .bundle b .«first_row»;
+  last = λ b. entries .bundle b .«last_row»;
+  side = λ b. entries .bundle b .track;
+}
+
+-- ---- demand 2
+
+-- there is a firm arrow from u to v, by the marks of the entries
+abbrev pub Firm : Content → Entries → ℕ → ℕ → Type 0
+Firm c entries u v = (e : ℕ) × (e < edgesOf c) × (tailOf c e ≡ u) × (headOf c e ≡ v) × (entries .edge e .transitive ≡ false)
+
+-- the place of a word, and an arrow's line
+abbrev pub placeIn : Entries → ℕ → Point
+placeIn entries v = pointAt (entries .vertex v)
+
+abbrev pub lineIn : Content → Entries → ℕ → List Point
+lineIn c entries e = polylineOf (entries .vertex (tailOf c e)) (entries .vertex (headOf c e)) (entries .edge e .kind) (entries .bundle)
+
+pub record Faithful (c : Content) (entries : Entries) : Type 0 where
+  -- 'a firm arrow is one that no longer route already implies'; the others are marked
+  pub marked : (e : ℕ) → e < edgesOf c → (entries .edge e .transitive ≡ true) ↔ Longer (Edge (c .tails) (c .heads)) (tailOf c e) (headOf c e)
+  -- 'one word leads to another by firm arrows exactly when it does by the record's arrows'
+  pub descent : (u v : ℕ) → Reaches (Firm c entries) u v ↔ Leads c u v
+  -- 'no arrow's line meets the place of a word that isn't one of its ends'
+  pub clear : (e : ℕ) → e < edgesOf c → Clear (c .vertices) (placeIn entries) (tailOf c e) (headOf c e) (lineIn c entries e)
+  -- and every line stands on the page: columns below 640, rows below 128
+  pub on-page : (e : ℕ) → e < edgesOf c → OnPage (lineIn c entries e)
+
+-- document 01's 8 'short' is not said: no list has fewer entries than there are vertices, edges or bundles
+pub record Roomy (c : Content) (vs : List VertexEntry) (es : List EdgeEntry) (bs : List BundleEntry) : Type 0 where
+  pub vertices : c .vertices ≤ length vs
+  pub edges : edgesOf c ≤ length es
+  pub bundles : length (planOf c .bundles) ≤ length bs
+
+-- ---- demand 3
+
+pub record Smallest (c : Content) (x : Chart) : Type 0 where
+  pub lawful : Lawful c x
+  -- each of its lines has a word, so that `parts` is their number
+  pub filled : (p : ℕ) → p < x .parts → (v : ℕ) × (v < c .vertices) × (x .part v ≡ p)
+  -- 'the other has at least as many rows as ours'
+  pub rows : (y : Chart) → Lawful c y → rowsOf c x ≤ rowsOf c y
+  -- 'at least as many lines'; 'where an editor gave the lines, all this holds but the count of lines'
+  pub lines : c .given ≡ false → (y : Chart) → Lawful c y → x .parts ≤ y .parts
+  -- 'at least as many links as ours has firm arrows'
+  pub links : (y : Chart) → Lawful c y → linksOf c x ≤ linksOf c y
+  -- 'where the other also has the same lines, rows and bundles as ours, it has at least as many side columns in every line': p and q are
+  -- the same line, for word v is in both
+  pub sides : (y : Chart) → Lawful c y → SameLines c x y → SameRows c x y → SameBundles c x y
+      → (p q v : ℕ) → v < c .vertices → x .part v ≡ p → y .part v ≡ q → sideColumns x p ≤ sideColumns y q
+
+-- 'every count of ours is the one that the result carries'
+pub record Counted (c : Content) (x : Chart) (rows lines firm bundles : ℕ) (sides : ℕ → ℕ) : Type 0 where
+  pub row-count : rowsOf c x ≡ rows
+  pub line-count : x .parts ≡ lines
+  pub link-count : linksOf c x ≡ firm
+  pub bundle-count : x .bundles ≡ bundles
+  pub side-counts : (p : ℕ) → sideColumns x p ≡ sides p
+
+-- .. by the answer r
+abbrev pub Carried : Content → Chart → answer.Chart → Type 0
+Carried c x r = Counted c x (r .rows) (r .channels) (r .reduced) (r .bundles) (λ p. getD (r .tracks) p 0)

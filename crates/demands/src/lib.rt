@@ -1,0 +1,1 @@
+// The demands, stated together and proved of every call: specs/Lawful.antt, specs/Demands.antt, proofs/Demands.antt. There is no code.
