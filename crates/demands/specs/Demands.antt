@@ -98,7 +98,7 @@ pub record Faithful (c : Content) (entries : Entries) : Type 0 where
   pub descent : (u v : ℕ) → Reaches (Firm c entries) u v ↔ Leads c u v
   -- 'no arrow's line meets the place of a word that isn't one of its ends'
   pub clear : (e : ℕ) → e < edgesOf c → Clear (c .vertices) (placeIn entries) (tailOf c e) (headOf c e) (lineIn c entries e)
-  -- and every line stands on the page: columns below 640, rows below 128
+  -- and every line stands on the page, so that no stroke refuses a place of it
   pub on-page : (e : ℕ) → e < edgesOf c → OnPage (lineIn c entries e)
 
 -- document 01's 8 'short' is not said: no list has fewer entries than there are vertices, edges or bundles

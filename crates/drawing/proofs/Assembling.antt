@@ -26,6 +26,7 @@ use Rattle.geometry.specs.Segment.{Point, point, pointOf, vertexCount}
 use Rattle.geometry.specs.Placement.{Widths, evenGaps, blockStart, ownColumn}
 use Rattle.geometry.specs.Courses.{courseOf}
 use Rattle.reduction.specs.Reduction.{reducedCount}
+use Rattle.page.specs.Page as page
 use Rattle.outline.specs.Chart as chart
 use Rattle.outline.specs.Chart.{channelsOf, planOf, rowOf, transitiveEdge?, reducedEdges, widthOf, widths, tracksIn, columnIn, placeOf, tailOf, headOf, crossing, kindBetween}
 use Rattle.outline.specs.declared.Kind.{Kind}
@@ -33,7 +34,7 @@ use Rattle.outline.specs.declared.Kind.the-variants.{Path, PathTransitive}
 use Rattle.outline.proofs.Leading.{graph-accepted, edge-there}
 use Rattle.outline.proofs.Channels.{vertices-small, channels-few, channel-below}
 use Rattle.outline.proofs.Bundling.{plan-channels, bundles-256, side-edge, side-number}
-use Rattle.outline.proofs.Columns.{width-640}
+use Rattle.outline.proofs.Columns.{width-on-page}
 use Rattle.outline.proofs.Marks.{marked-longer}
 use Rattle.drawing.specs.Promise.{graphContent, Tables}
 use Rattle.drawing.specs.Parts.{Tabled, Owns, markIn, Marking, kindIn, codeOf, Coded}
@@ -106,8 +107,8 @@ module _ (g : Graph) (p : Plan) (l : Laid g p) where
   unfolding widthOf
   width-same = start-same used (tracksIn planned) (p .channels .count) used-same ∙ ap (blockStart (evenGaps (tracksIn planned))) (l .channels ∙ ap length (sym (plan-channels c s)))
 
-  pub width-fits : blockStart (evenGaps used) (p .channels .count) ≤ 640
-  width-fits = omega (arith, width-same, width-640 c s)
+  pub width-fits : blockStart (evenGaps used) (p .channels .count) ≤ page.columns
+  width-fits = omega (arith, width-same, width-on-page c s)
 
   pub channel-known : (v : ℕ) → v < n → getD (p .channels .channel) v 0 < p .channels .count
   unfolding graphContent

@@ -3,6 +3,7 @@ ghost use mathlib.Core.Path.{_≡_};
 ghost use Prim.Native.Nat.{ℕ, _≤_, _<_};
 ghost use lib.ListN.{length, getD};
 ghost use Rattle.geometry.specs.Placement.{evenGaps, blockStart};
+ghost use Rattle.page.specs.Page as page;
 ghost use Rattle.drawing.specs.Parts.{Owns, Tabled};
 use crate::wide;
 
@@ -17,7 +18,7 @@ pub struct Columns {
 
 // The own columns of the first channels, block after block from column 0: tracks, a gap, the own column, a gap.
 pub(crate) fn own_columns(channels: usize, tracks: &[u16]) -> Columns
-    requires { ⌜ (channels ≤ 128) × (channels ≤ length (now tracks)) × (blockStart (evenGaps (λ l. getD (now tracks) l 0)) channels ≤ 640) ⌝ }
+    requires { ⌜ (channels ≤ 128) × (channels ≤ length (now tracks)) × (blockStart (evenGaps (λ l. getD (now tracks) l 0)) channels ≤ page.columns) ⌝ }
     ensures { λ r. ⌜ Owns (evenGaps (λ l. getD (now (tracks .entry)) l 0)) channels (r .own) (r .width) ⌝ }
 {
     let mut own = [0; 128];

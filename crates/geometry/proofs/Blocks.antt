@@ -82,7 +82,7 @@ unfolding sum
 channels-bound zero size filled = omega arith
 channels-bound (suc k) size filled = omega (arith, channels-bound k size (λ c l. filled c (omega arith)), filled k (omega arith))
 
--- So with n vertices the last column of each block, where its right gap ends, is below (g + 2) n ..
+-- So with n vertices the last column of each block, where its right gap ends, is below (g + 2) n.
 pub column-bound : (W : Widths) (channels g n : ℕ) (size : ℕ → ℕ)
     → ((c : ℕ) → c < channels → W .tracks c ≤ 2 * size c)
     → ((c : ℕ) → c < channels → W .leftGap c + 1 + W .rightGap c ≤ g)
@@ -92,12 +92,3 @@ pub column-bound : (W : Widths) (channels g n : ℕ) (size : ℕ → ℕ)
 column-bound W channels g n size few narrow filled most c h =
     let fewer : channels ≤ n = omega (arith, channels-bound channels size filled) in
     omega (arith, own-within W channels c h, width-bound W channels g size few narrow, mul-le-mul-left g fewer)
-
--- .. which is document 01's page: 128 vertices stand in 640 columns.
-pub column-640 : (tracks size : ℕ → ℕ) (channels : ℕ)
-    → ((c : ℕ) → c < channels → tracks c ≤ 2 * size c)
-    → ((c : ℕ) → c < channels → 0 < size c)
-    → sum channels size ≤ 128
-    → (c : ℕ) → c < channels → ownColumn (evenGaps tracks) c + gapWidth < 640
-column-640 tracks size channels few filled most =
-    column-bound (evenGaps tracks) channels 3 128 size few (λ c l. omega arith) filled most

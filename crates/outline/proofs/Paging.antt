@@ -20,6 +20,7 @@ use Rattle.geometry.proofs.Crossing.{course-within}
 use Rattle.outline.specs.declared.Bend.{Bend}
 use Rattle.outline.specs.declared.Kind.{Kind}
 use Rattle.outline.specs.declared.Kind.the-variants.{Path, PathTransitive, Bent}
+use Rattle.page.specs.Page as page
 use Rattle.outline.specs.Chart.{tailOf, headOf, Plan, channelsOf, planOf, columnIn, placeOf, crossing, kindBetween, vertexEntry, edgeEntry, bundleEntry}
 use Rattle.outline.specs.Lines.{polylineOf, OnPage, none, more}
 use Rattle.outline.proofs.Rows.{row-128}
@@ -41,10 +42,10 @@ module _ (c : Content) (s : Sound c) where
   Paged u v k = OnPage (polylineOf (vertexEntry c p u) (vertexEntry c p v) k (bundleEntry p))
 
   module _ (u v : ℕ) (hu : u < n) (hv : v < n) where
-    left : columnIn p u < 640
+    left : columnIn p u < page.columns
     left = omega (arith, column-below c s u hu)
 
-    right : columnIn p v < 640
+    right : columnIn p v < page.columns
     right = omega (arith, column-below c s v hv)
 
     path-paged : Paged u v Path
@@ -54,15 +55,15 @@ module _ (c : Content) (s : Sound c) where
     side-paged : (b : ℕ) → Paged u v (PathTransitive b)
     unfolding polylineOf vertexEntry
     side-paged b =
-        let x : trackAt (columnIn p u) gapWidth (bundleEntry p b .track) < 640 = omega (arith, left) in
+        let x : trackAt (columnIn p u) gapWidth (bundleEntry p b .track) < page.columns = omega (arith, left) in
         more left (row-128 c s u hu) (more x (row-128 c s u hu) (more x (row-128 c s v hv) (more right (row-128 c s v hv) none)))
 
     cross-paged : (r : Course) → courseOf (placeOf c p) n u v ≡ r → Paged u v (crossing r)
     unfolding polylineOf vertexEntry
     cross-paged course.Straight e = more left (row-128 c s u hu) (more right (row-128 c s v hv) none)
     cross-paged (course.Bent x y) e =
-        let w = course-within (placeOf c p) n u v 640 x y left right e in
-        let low : y < 128 = omega (arith, w .1, row-128 c s v hv) in
+        let w = course-within (placeOf c p) n u v page.columns x y left right e in
+        let low : y < page.rows = omega (arith, w .1, row-128 c s v hv) in
         more left (row-128 c s u hu) (more (w .0) low (more right (row-128 c s v hv) none))
 
     between-paged : Paged u v (kindBetween c p u v)
@@ -76,15 +77,15 @@ module _ (c : Content) (s : Sound c) where
         (λ q. let e : channelOf ls u ≢ channelOf ls v = eqb-false _ _ q in rw (kind-cross c u v e) (cross-paged (courseOf (placeOf c p) n u v) refl))
         (true-or-false (eqb (channelOf ls u) (channelOf ls v)))
 
-  -- ON THE PAGE: columns below 640, rows below 128
+  -- ON THE PAGE: no stroke refuses a place of the chart
   pub chart-on-page : (i : ℕ) → i < edgesOf c
       → OnPage (polylineOf (vertexEntry c p (tailOf c i)) (vertexEntry c p (headOf c i)) (edgeEntry c p i .kind) (bundleEntry p))
   unfolding edgeEntry
   chart-on-page i l = let b = s .ends i l in between-paged (tailOf c i) (headOf c i) (b .0) (b .1)
 
-  pub bend-on-page : (i : ℕ) → i < edgesOf c → (b : Bend) → edgeEntry c p i .kind ≡ Bent b → (b .column < 640) × (b .row < 128)
+  pub bend-on-page : (i : ℕ) → i < edgesOf c → (b : Bend) → edgeEntry c p i .kind ≡ Bent b → (b .column < page.columns) × (b .row < page.rows)
   unfolding polylineOf vertexEntry
   bend-on-page i l b e = middle (subst (λ k. Paged (tailOf c i) (headOf c i) k) e (chart-on-page i l))
     where
-      middle : Paged (tailOf c i) (headOf c i) (Bent b) → (b .column < 640) × (b .row < 128)
+      middle : Paged (tailOf c i) (headOf c i) (Bent b) → (b .column < page.columns) × (b .row < page.rows)
       middle (more x y (more z w _)) = (z, w)

@@ -4,6 +4,7 @@ use Prim.Native.Nat.{ℕ, _<_}
 use Rattle.geometry.specs.Segment.{Point, point}
 use Rattle.geometry.specs.Placement.{gapWidth, trackAt}
 use Rattle.geometry.specs.Polylines.{straight, byTrack}
+use Rattle.page.specs.Page as page
 use Rattle.outline.specs.declared.Kind.{Kind}
 use Rattle.outline.specs.declared.Kind.the-variants.{Path, PathTransitive, Straight, Bent}
 use Rattle.outline.specs.declared.VertexEntry.{VertexEntry}
@@ -23,4 +24,4 @@ polylineOf u v (Bent bend) bundle = pointAt u ∷ point (bend .column) (bend .ro
 -- every point of a polyline stands on document 01's page
 pub data OnPage : List Point → Type 0 where
   none : OnPage []
-  more : {q : Point} {l : List Point} → q .column < 640 → q .row < 128 → OnPage l → OnPage (q ∷ l)
+  more : {q : Point} {l : List Point} → q .column < page.columns → q .row < page.rows → OnPage l → OnPage (q ∷ l)

@@ -2,6 +2,7 @@ use mathlib.Core.Path.{_≡_, subst}
 use Prim.Native.Nat.{ℕ, _+_, _-_, _≤_, _<_, zero-le}
 use native.Mathlib.Omega.{arith}
 use lib.ListN.{getD}
+use Rattle.page.specs.Page as page
 use Rattle.geometry.specs.Placement.{Widths, evenGaps, blockStart}
 use Rattle.drawing.specs.Parts.{Owns}
 use Rattle.drawing.proofs.Owning.{owns-none, owns-more, block-within}
@@ -27,7 +28,7 @@ shared-slice-read-x : tie.Need-shared-slice-read-x Inv-loop μ-loop
 shared-slice-read-x c = search needs
 
 -- the block that is next ends within the width
-fits : (c : tie.In-loop Inv-loop μ-loop) → c .before .loop .start + getD (c .before .before .args .tracks .now) (c .before .loop .l) 0 + 1 + 1 + 1 ≤ 640
+fits : (c : tie.In-loop Inv-loop μ-loop) → c .before .loop .start + getD (c .before .before .args .tracks .now) (c .before .loop .l) 0 + 1 + 1 + 1 ≤ page.columns
 fits c =
     let a = c .before .before .args in
     let l = c .before .loop in

@@ -3,6 +3,7 @@ use Prim.Native.Nat.{ℕ, _≤_, _<_}
 use native.Mathlib.Omega.{arith}
 use lib.ListN.{length, getD}
 use lib.Seq.{length-take-le}
+use Rattle.page.specs.Page as page
 use Rattle.geometry.specs.Placement.{evenGaps, blockStart}
 use Rattle.outline.specs.Chart.{planOf}
 use Rattle.drawing.specs.Promise.{graphContent, Tables}
@@ -36,7 +37,7 @@ own-columns-requires c κs =
     let e = c .before .wide .ensures .0 in (
       omega (arith, channels-small (c .before .before .before .before .before .before .before .before .before .before .args .g) (c .before .before .before .before .before .before .before .before .before .before .args .p) (c .before .before .before .before .before .before .before .before .before .before .pre)),
       (let k = c .before .before .before .before .before .before .before .before .before .before .pre .tracked in omega (arith, channels-small (c .before .before .before .before .before .before .before .before .before .before .args .g) (c .before .before .before .before .before .before .before .before .before .before .args .p) (c .before .before .before .before .before .before .before .before .before .before .pre))),
-      subst (λ (k : ℕ). blockStart (evenGaps (λ i. getD (c .before .before .before .before .before .before .before .before .before .before .args .p .tracks .used) i 0)) k ≤ 640) (sym e) (width-fits (c .before .before .before .before .before .before .before .before .before .before .args .g) (c .before .before .before .before .before .before .before .before .before .before .args .p) (c .before .before .before .before .before .before .before .before .before .before .pre)),
+      subst (λ (k : ℕ). blockStart (evenGaps (λ i. getD (c .before .before .before .before .before .before .before .before .before .before .args .p .tracks .used) i 0)) k ≤ page.columns) (sym e) (width-fits (c .before .before .before .before .before .before .before .before .before .before .args .g) (c .before .before .before .before .before .before .before .before .before .before .args .p) (c .before .before .before .before .before .before .before .before .before .before .pre)),
     )
 
 slice-aggregate-vertex-columns : tie.Need-slice-aggregate-vertex-columns
