@@ -1,23 +1,20 @@
 -- The answers: a refusal and nothing, or the graph's chart. Assumes nothing.
-use mathlib.Core.Path.{_≡_, refl, sym, ap, ap₂, _∙_, subst}
+use mathlib.Core.Path.{_≡_, refl, sym, ap, _∙_, subst}
 use mathlib.Core.Logic.{⊎-elim}
-use mathlib.Core.Bool.{Bool, true, false}
 use mathlib.Core.List.{List}
 use Prim.Native.Nat.{ℕ, _≤_, _<_, min}
 use native.Mathlib.Omega.{arith}
-use lib.Dec.{eqb, ltb}
 use lib.ListN.{length, getD, take}
 use lib.Seq.{ext-getD, length-take-le, getD-take, take-all}
 use borrow.Author.Tests.{eq-eqb, ne-eqb, lt-ltb, le-ltb}
-use Rattle.counting.specs.Count.{choose}
 use Rattle.counting.proofs.Truth.{lt-or-le}
 use Rattle.reach.specs.Closure.{Closure}
-use Rattle.record.specs.Checks.{Content, content, edgesOf, refusalOf}
-use Rattle.record.specs.Reading.{nothing, recordRefusal, said, Held, Reads}
+use Rattle.record.specs.Checks.{Content, content, refusalOf}
+use Rattle.record.specs.Reading.{nothing, recordRefusal, said, Reads}
 use Rattle.record.specs.declared.reading.Graph.{Graph}
 use Rattle.record.specs.declared.reading.Reading.{Reading}
 use Rattle.record.proofs.Readings.{refused-says}
-use Rattle.record.proofs.Accepted.{Even, said-even}
+use Rattle.record.proofs.Accepted.{said-even}
 use Rattle.outline.specs.Chart.{planOf}
 use Rattle.drawing.specs.Promise.{Drawn, judged, recordDrawn, graphContent, graphRefusal, graphDrawn, Tables, Draws}
 use Rattle.drawing.specs.Parts.{blankOf}

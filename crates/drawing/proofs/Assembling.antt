@@ -1,43 +1,39 @@
 -- What is planned of a sound graph, put together, is its chart. Cites the chart's laws. Assumes nothing.
-use mathlib.Core.Path.{_≡_, refl, sym, ap, ap₂, _∙_, subst}
-use mathlib.Core.Bool.{Bool, true, false, not, _&&_, true≢false}
+use mathlib.Core.Path.{_≡_, refl, sym, ap, ap₂, _∙_}
+use mathlib.Core.Bool.{Bool, true, false, true≢false}
 use mathlib.Core.Logic.{⊎-elim}
 use mathlib.Core.List.{List}
-use Prim.Native.Nat.{ℕ, _+_, _*_, _≤_, _<_, min}
+use Prim.Native.Nat.{ℕ, _*_, _≤_, _<_, min}
 use native.Mathlib.Omega.{arith}
 use lib.Dec.{eqb}
-use lib.ListN.{length, getD, take, length-take}
+use lib.ListN.{length, getD, take}
 use lib.Seq.{getD-take, length-take-le}
 use borrow.Author.Tests.{eq-eqb, ne-eqb, eqb-true}
-use Rattle.counting.specs.Count.{choose, count, indicator}
+use Rattle.counting.specs.Count.{count}
 use Rattle.counting.proofs.Truth.{true-or-false, same-truth}
-use Rattle.counting.proofs.Sums.{count-ext}
-use Rattle.masks.specs.Sets.{member, member?, at}
+use Rattle.masks.specs.Sets.{member?, at}
 use Rattle.matching.specs.Lists.{channelOf, positionOf}
-use Rattle.reach.specs.Graph.{Edge, Longer}
-use Rattle.reach.specs.Closure.{Closure, Composed}
+use Rattle.reach.specs.Closure.{Composed}
 use Rattle.reach.proofs.Closures.{longer-bits}
 use Rattle.record.specs.Checks.{Content, edgesOf}
 use Rattle.record.specs.Sound.{Sound}
 use Rattle.record.specs.declared.reading.Graph.{Graph}
-use Rattle.bundles.specs.Bundles.{bundleOf}
 use Rattle.bundles.specs.Sides.{adjacent?}
 use Rattle.geometry.specs.Segment.{Point, point, pointOf, vertexCount}
-use Rattle.geometry.specs.Placement.{Widths, evenGaps, blockStart, ownColumn}
+use Rattle.geometry.specs.Placement.{evenGaps, blockStart, ownColumn}
 use Rattle.geometry.specs.Courses.{courseOf}
-use Rattle.reduction.specs.Reduction.{reducedCount}
 use Rattle.page.specs.Page as page
 use Rattle.outline.specs.Chart as chart
-use Rattle.outline.specs.Chart.{channelsOf, planOf, rowOf, transitiveEdge?, reducedEdges, widthOf, widths, tracksIn, columnIn, placeOf, tailOf, headOf, crossing, kindBetween}
+use Rattle.outline.specs.Chart.{channelsOf, planOf, transitiveEdge?, widthOf, widths, tracksIn, columnIn, placeOf, tailOf, headOf, crossing, kindBetween}
 use Rattle.outline.specs.declared.Kind.{Kind}
-use Rattle.outline.specs.declared.Kind.the-variants.{Path, PathTransitive}
+use Rattle.outline.specs.declared.Kind.the-variants.{PathTransitive}
 use Rattle.outline.proofs.Leading.{graph-accepted, edge-there}
 use Rattle.outline.proofs.Channels.{vertices-small, channels-few, channel-below}
-use Rattle.outline.proofs.Bundling.{plan-channels, bundles-256, side-edge, side-number}
+use Rattle.outline.proofs.Bundling.{plan-channels, side-edge, side-number}
 use Rattle.outline.proofs.Columns.{width-on-page}
 use Rattle.outline.proofs.Marks.{marked-longer}
-use Rattle.drawing.specs.Promise.{graphContent, Tables}
-use Rattle.drawing.specs.Parts.{Tabled, Owns, markIn, Marking, kindIn, codeOf, Coded}
+use Rattle.drawing.specs.Promise.{graphContent}
+use Rattle.drawing.specs.Parts.{Tabled, Owns, markIn, kindIn}
 use Rattle.drawing.specs.Laid.{Laid}
 use Rattle.drawing.specs.declared.tables.Plan.{Plan}
 use Rattle.drawing.proofs.Coursing.{start-same, own-same, course-same}

@@ -1,21 +1,20 @@
 -- The tables that are put together are the chart's, entry by entry. Assumes nothing.
-use mathlib.Core.Path.{_≡_, refl, sym, ap, ap₂, _∙_, subst}
-use mathlib.Core.Bool.{Bool, true, false, not, true≢false}
+use mathlib.Core.Path.{_≡_, refl, sym, ap, ap₂, _∙_}
+use mathlib.Core.Bool.{Bool, true, false, not}
 use mathlib.Core.Logic.{⊎-elim}
 use mathlib.Core.List.{List, [], _∷_, flatten}
-use Prim.Native.Nat.{ℕ, suc, _+_, _≤_, _<_}
+use Prim.Native.Nat.{ℕ, suc, _≤_, _<_}
 use native.Mathlib.Omega.{arith}
 use lib.Dec.{eqb}
 use lib.ListN.{length, getD, take, List·getD-eq-default}
-use Rattle.counting.specs.Count.{choose, sum, count, indicator}
+use Rattle.counting.specs.Count.{count, indicator}
 use Rattle.counting.proofs.Truth.{lt-or-le}
 use Rattle.counting.proofs.Falsity.{not-true}
 use Rattle.counting.proofs.Sums.{count-ext, sum-zero}
 use Rattle.matching.specs.Lists.{times, has, channelFrom, channelOf, positionOf}
-use Rattle.matching.specs.Division.{Covers}
 use Rattle.matching.proofs.Lists.{times-append, times-hasnt}
-use Rattle.reach.specs.Closure.{Closure, Composed}
-use Rattle.record.specs.Checks.{Content, edgesOf}
+use Rattle.reach.specs.Closure.{Composed}
+use Rattle.record.specs.Checks.{Content}
 use Rattle.record.specs.Sound.{Sound}
 use Rattle.record.specs.declared.reading.Graph.{Graph}
 use Rattle.bundles.specs.Bundles.{Bundle}
@@ -25,12 +24,11 @@ use Rattle.geometry.specs.Placement.{evenGaps}
 use Rattle.reduction.specs.Reduction.{reducedCount}
 use Rattle.outline.specs.Chart as chart
 use Rattle.outline.specs.Chart.{leads?, descendantsOf, channelsOf, planOf, transitiveEdge?, reducedEdges, vertexEntry, edgeEntry, bundleEntry, tailOf, headOf, kindBetween}
-use Rattle.outline.specs.declared.Kind.{Kind}
 use Rattle.outline.proofs.Leading.{leads-ends}
 use Rattle.outline.proofs.Channels.{channels-cover}
 use Rattle.outline.proofs.Bundling.{plan-channels, bundles-256}
 use Rattle.drawing.specs.Promise.{graphContent, Tables, vertexAt, edgeAt, bundleAt, kindOf}
-use Rattle.drawing.specs.Parts.{Tabled, Owns, markIn, Marking, kindIn, codeOf, Coded}
+use Rattle.drawing.specs.Parts.{Tabled, Owns, markIn, Marking, kindIn, Coded}
 use Rattle.drawing.specs.Laid.{Laid, bareWith, withBundles}
 use Rattle.drawing.specs.declared.tables.Plan.{Plan}
 use Rattle.drawing.specs.declared.edges.Marked.{Marked}

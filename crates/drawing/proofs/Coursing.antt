@@ -1,16 +1,12 @@
 -- Columns by blocks and the courses of edges depend on the channels and vertices alone. Assumes nothing.
-use mathlib.Core.Path.{_≡_, refl, sym, ap, _∙_}
-use mathlib.Core.Bool.{Bool, true, false, _&&_}
-use mathlib.Core.Logic.{⊎-elim}
-use Prim.Native.Nat.{ℕ, _+_, _≤_, _<_}
+use mathlib.Core.Path.{_≡_, refl, ap}
+use Prim.Native.Nat.{ℕ, _+_, _<_}
 use native.Mathlib.Omega.{arith}
-use borrow.Author.Tests.{lt-ltb}
-use Rattle.counting.specs.Count.{some}
 use Rattle.counting.proofs.Sums.{sum-ext}
 use Rattle.counting.proofs.Somes.{some-ext}
 use Rattle.geometry.specs.Segment.{Point}
 use Rattle.geometry.specs.Test.{isHit, isBlocked}
-use Rattle.geometry.specs.Placement.{Widths, evenGaps, blockWidth, blockStart, ownColumn}
+use Rattle.geometry.specs.Placement.{evenGaps, blockWidth, blockStart, ownColumn}
 use Rattle.geometry.specs.Courses.{courseOf}
 
 module _ (f g : ℕ → ℕ) where

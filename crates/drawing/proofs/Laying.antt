@@ -1,6 +1,6 @@
 -- What the lower layers promise of a sound graph is what its chart is drawn from. Cites their promises alone. Assumes nothing.
-use mathlib.Core.Path.{_≡_, refl, sym, ap, ap₂, _∙_, subst}
-use mathlib.Core.Bool.{Bool, true, false, _&&_}
+use mathlib.Core.Path.{_≡_, refl, sym, ap, _∙_, subst}
+use mathlib.Core.Bool.{Bool, true, false}
 use mathlib.Core.List.{List, []}
 use Prim.Native.Nat.{ℕ, _≤_, _<_, min}
 use native.Mathlib.Omega.{arith}
@@ -31,11 +31,11 @@ use Rattle.layers.specs.Layered.{Layered, edgeIn}
 use Rattle.layers.specs.declared.Layering.{Layering}
 use Rattle.layers.proofs.Same.{row-same, used-same}
 use Rattle.bundles.specs.Bundles.{Bundle}
-use Rattle.bundles.specs.Sides.{side?, apart?, adjacent?}
+use Rattle.bundles.specs.Sides.{side?, apart?}
 use Rattle.bundles.specs.Promise.{Bundled, Listed, bundlesOf, empty}
 use Rattle.bundles.specs.declared.Bundles.{Bundles}
 use Rattle.bundles.proofs.Extension.{bundles-ext}
-use Rattle.tracks.specs.Promise.{Tracked, Assigned}
+use Rattle.tracks.specs.Promise.{Tracked}
 use Rattle.tracks.specs.Tracks.{tracks, topIn}
 use Rattle.tracks.specs.declared.Tracks.{Tracks}
 use Rattle.tracks.proofs.Extension.{tracks-ext}

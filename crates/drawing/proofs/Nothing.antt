@@ -1,12 +1,10 @@
 -- The chart of no graph: every table is empty. Assumes nothing.
-use mathlib.Core.Path.{_≡_, refl, sym, ap, _∙_, subst}
-use mathlib.Core.Bool.{Bool, true, false}
+use mathlib.Core.Path.{_≡_, refl, sym, ap, subst}
 use mathlib.Core.List.{List, []}
-use Prim.Native.Nat.{ℕ, zero, suc, _≤_, _<_, zero-le}
+use Prim.Native.Nat.{ℕ, zero, suc, zero-le}
 use native.Mathlib.Nat.{not-suc-le-zero}
-use native.Mathlib.Omega.{arith}
-use lib.ListN.{getD, replicate, length}
-use Rattle.counting.specs.Count.{choose, sum, count}
+use lib.ListN.{replicate}
+use Rattle.counting.specs.Count.{sum, count}
 use Rattle.counting.proofs.Zeros.{zeros}
 use Rattle.matching.specs.Chains.{begun, planned}
 use Rattle.record.specs.Reading.{nothing}
@@ -17,7 +15,6 @@ use Rattle.bundles.specs.Promise.{bundlesOf, empty}
 use Rattle.tracks.specs.Tracks.{inRow, inRows, tracks, topIn}
 use Rattle.geometry.specs.Placement.{blockStart}
 use Rattle.outline.specs.Chart.{Plan, planOf, bundled, tracked, channelsOf, rowCount, reducedEdges, widthOf, tracksIn}
-use Rattle.outline.specs.declared.Kind.the-variants.{Path}
 use Rattle.drawing.specs.Promise.{Tables, vertexAt, edgeAt, bundleAt, kindOf}
 use Rattle.drawing.specs.Parts.{blankOf}
 

@@ -5,7 +5,7 @@ use mathlib.Core.Logic.{inr, ⊎-elim}
 use mathlib.Core.Bool.{Bool, true}
 use Prim.Native.Nat.{ℕ, zero, suc, _≤_, _<_, zero-le}
 use native.Mathlib.Omega.{arith}
-use Rattle.counting.specs.Count.{indicator, sum, count}
+use Rattle.counting.specs.Count.{indicator, count}
 use Rattle.counting.proofs.Truth.{indicator-le, true-or-false}
 use Rattle.counting.proofs.Sums.{sum-bound, sum-smaller}
 use Rattle.layers.specs.Rows.{above, rowWithin, row, rowsUsed}

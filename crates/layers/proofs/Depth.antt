@@ -1,12 +1,12 @@
 -- How the row of a vertex depends on how far back edges are followed. Assumes nothing.
-use mathlib.Core.Path.{_≡_, refl, sym, _∙_}
+use mathlib.Core.Path.{_≡_}
 use mathlib.Core.Logic.{_⊎_, inl, inr, ⊎-elim}
-use mathlib.Core.Bool.{Bool, true}
+use mathlib.Core.Bool.{Bool}
 use Prim.Native.Nat.{ℕ, zero, suc, _≤_, _<_}
 use native.Mathlib.Nat.{not-suc-le-zero}
 use native.Mathlib.Omega.{arith}
-use Rattle.layers.specs.Rows.{above, rowWithin}
-use Rattle.layers.proofs.Above.{above-each, above-le, above-which, above-ext}
+use Rattle.layers.specs.Rows.{rowWithin}
+use Rattle.layers.proofs.Above.{above-each, above-le, above-ext}
 
 module _ (E : ℕ → ℕ → Bool) (n : ℕ) where
   -- a row below j is the same at every depth from j on

@@ -15,9 +15,9 @@ use Rattle.reach.specs.Graph.{edge?}
 use Rattle.matching.specs.Lists.{channelOf, positionOf}
 use Rattle.record.specs.Checks.{Content}
 use Rattle.record.specs.Sound.{Sound}
-use Rattle.bundles.specs.Bundles.{Bundle, taken, bundleOf}
+use Rattle.bundles.specs.Bundles.{Bundle, bundleOf}
 use Rattle.bundles.specs.Sides.{adjacent?, apart?, side?}
-use Rattle.bundles.specs.Promise.{bundlesOf, numberFrom}
+use Rattle.bundles.specs.Promise.{numberFrom}
 use Rattle.bundles.proofs.Marks.{side-within}
 use Rattle.bundles.proofs.Covering as covering
 use Rattle.bundles.proofs.Theorems as theorems
@@ -26,7 +26,7 @@ use Rattle.tracks.specs.Order.{Intervals, Packed}
 use Rattle.tracks.proofs.Different.{top-each, top-least, different-count}
 use Rattle.tracks.proofs.Least.{tracks-packed}
 use Rattle.outline.specs.Chart.{rowOf, rowCount, Plan, channelsOf, tracked, bundled, planOf, bundleIn, trackIn, tracksIn}
-use Rattle.outline.proofs.Rows.{row-128, row-counted, rows-few}
+use Rattle.outline.proofs.Rows.{row-counted, rows-few}
 use Rattle.outline.proofs.Channels.{sizeOf, vertices-small, channel-below}
 
 -- path-transitive edges (document 01: side arrows), by the chart's channels

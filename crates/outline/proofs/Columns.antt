@@ -10,7 +10,7 @@ use Rattle.record.specs.Sound.{Sound}
 use Rattle.geometry.specs.Placement.{ownColumn, gapWidth}
 use Rattle.geometry.proofs.Blocks.{column-bound, width-bound}
 use Rattle.page.specs.Page as page
-use Rattle.outline.specs.Chart.{Plan, channelsOf, tracked, bundled, planOf, tracksIn, widths, columnIn, widthOf}
+use Rattle.outline.specs.Chart.{Plan, channelsOf, tracked, bundled, planOf, widths, columnIn, widthOf}
 use Rattle.outline.proofs.Channels.{sizeOf, sizes-sum, size-positive, channels-few, channel-below, vertices-small}
 use Rattle.outline.proofs.Bundling.{tracks-few}
 

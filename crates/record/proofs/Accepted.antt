@@ -1,12 +1,11 @@
 -- What an accepted record or graph hands to the layers above. Assumes nothing.
-use mathlib.Core.Path.{_≡_, refl, sym, ap, _∙_, subst}
-use mathlib.Core.Bool.{Bool, true, false, not, _&&_, _||_}
+use mathlib.Core.Path.{_≡_, refl, sym, _∙_, subst}
+use mathlib.Core.Bool.{true, not}
 use mathlib.Core.List.{List}
-use Prim.Native.Nat.{ℕ, _≤_, _<_}
+use Prim.Native.Nat.{ℕ, _≤_}
 use native.Mathlib.Omega.{arith}
 use lib.ListN.{length}
 use Rattle.counting.specs.Count.{some}
-use Rattle.counting.proofs.Falsity.{neither}
 use Rattle.counting.proofs.Truth.{or-neither}
 use Rattle.matching.specs.Lists.{allLinked}
 use Rattle.reach.specs.Refusal.{strange?}

@@ -14,7 +14,6 @@ use Rattle.reach.specs.Graph.{edgeCount}
 use Rattle.reach.specs.Refusal.{outsized?, strange?, verdict, refusal}
 use Rattle.reach.specs.Closure.{Closure, reachable?}
 use Rattle.reach.specs.declared.Reachability.{Reachability}
-use Rattle.reach.proofs.Refusing.{accepted-within}
 use Rattle.matching.specs.Lists.{linked, every, allLinked}
 use Rattle.channels.specs.Given.{linesOf, verticesOf, unknown?, repeats?, lacks?, broken?}
 use Rattle.channels.specs.Table.{leadsIn}

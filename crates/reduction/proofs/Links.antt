@@ -7,7 +7,7 @@ use Prim.Native.Nat.{ℕ, _≤_, _<_}
 use native.Mathlib.Omega.{arith}
 use lib.ListN.{getD}
 use Rattle.counting.proofs.Truth.{and-intro, and-elim}
-use Rattle.reach.specs.Graph.{Reaches, edgeCount, Edge, edge?}
+use Rattle.reach.specs.Graph.{Reaches, edgeCount, Edge}
 use Rattle.reach.specs.Graph.Reaches.{one, more}
 use Rattle.reach.proofs.Decide.{edge-decided}
 use Rattle.reduction.specs.Reduction.{transitive?, reducedCount, Reduced, Linked, linkCount, SameClosure, reducedLink, Fewest, Dag}

@@ -1,5 +1,5 @@
-use mathlib.Core.Path.{_≡_, refl, sym, ap, _∙_, subst}
-use Prim.Native.Nat.{ℕ, _≤_}
+use mathlib.Core.Path.{_≡_, sym, _∙_, subst}
+use Prim.Native.Nat.{_≤_}
 use native.Mathlib.Omega.{arith}
 use lib.ListN.{length}
 use lib.Seq.{length-take-le}
@@ -9,13 +9,6 @@ use Rattle.drawing.proofs.Answering.{graph-refused, many-refused, few-j
 use borrow.Author.Needs.{needs}
 use Rattle.drawing.proofs.of_graph.Statement.{statement}
 use Rattle.drawing.proofs.of_graph.Tie as tie
-use Rattle.drawing.proofs.of_graph.Reads as reads
-use Rattle.drawing.proofs.of_graph.Lts as lts
-use Rattle.drawing.proofs.blank.Reads as blank-reads
-use Rattle.drawing.proofs.planning.bounded.Reads as bounded-reads
-use Rattle.drawing.proofs.planning.planned.Reads as planned-reads
-use Rattle.drawing.proofs.tables.assembled.Reads as assembled-reads
-use Rattle.record.proofs.checks.check.Reads as check-reads
 
 blank-requires : tie.Need-blank-requires
 blank-requires c κs = search needs

@@ -2,12 +2,6 @@ use Rattle.drawing.proofs.Answering.{record-refused, record-accepted, r
 use borrow.Author.Needs.{needs}
 use Rattle.drawing.proofs.of_record.Statement.{statement}
 use Rattle.drawing.proofs.of_record.Tie as tie
-use Rattle.drawing.proofs.of_record.Reads as reads
-use Rattle.drawing.proofs.of_record.Lts as lts
-use Rattle.drawing.proofs.blank.Reads as blank-reads
-use Rattle.drawing.proofs.planning.planned.Reads as planned-reads
-use Rattle.drawing.proofs.tables.assembled.Reads as assembled-reads
-use Rattle.record.proofs.reading.read.Reads as read-reads
 
 read-requires : tie.Need-read-requires
 read-requires c κs = search needs

@@ -1,9 +1,7 @@
-use mathlib.Core.Path.{_≡_, sym, _∙_, subst}
+use mathlib.Core.Path.{_≡_}
 use mathlib.Core.Bool.{true, false}
-use Prim.Native.Nat.{ℕ, _≤_}
 use native.Mathlib.Omega.{arith}
 use borrow.Author.Tests.{eq-eqb, ne-eqb, lt-ltb, le-ltb}
-use lib.ListN.{length, getD}
 use Rattle.layers.specs.Layered.{edgeIn, outsized?}
 use Rattle.layers.proofs.Depth.{shallow}
 use Rattle.layers.proofs.Answers.{refused, accepted}

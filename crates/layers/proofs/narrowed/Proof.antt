@@ -1,4 +1,3 @@
-use mathlib.Core.Path.{_≡_, refl, sym, _∙_}
 use Rattle.layers.proofs.Growing.{narrowed-law}
 use borrow.Author.Needs.{needs}
 use Rattle.layers.proofs.narrowed.Statement.{statement}

@@ -1,16 +1,14 @@
 use mathlib.Core.Path.{_≡_, subst}
-use Prim.Native.Nat.{ℕ, _+_, _-_, _≤_, _<_, zero-le}
+use Prim.Native.Nat.{ℕ, _+_, _-_, _≤_, zero-le}
 use native.Mathlib.Omega.{arith}
 use lib.ListN.{getD}
 use Rattle.page.specs.Page as page
-use Rattle.geometry.specs.Placement.{Widths, evenGaps, blockStart}
+use Rattle.geometry.specs.Placement.{evenGaps}
 use Rattle.drawing.specs.Parts.{Owns}
 use Rattle.drawing.proofs.Owning.{owns-none, owns-more, block-within}
 use borrow.Author.Needs.{needs}
 use Rattle.drawing.proofs.columns.own_columns.Statement.{statement}
 use Rattle.drawing.proofs.columns.own_columns.Tie as tie
-use Rattle.drawing.proofs.columns.own_columns.Reads as reads
-use Rattle.drawing.proofs.columns.own_columns.Lts as lts
 
 abbrev Inv-loop : tie.InvT-loop
 Inv-loop channels tracks own₀ start₀ l₀ own start l = (l ≤ channels) × Owns (evenGaps (λ k. getD tracks k 0)) l own start

@@ -1,4 +1,4 @@
-use mathlib.Core.Path.{_≡_, refl, ap, subst}
+use mathlib.Core.Path.{_≡_, ap, subst}
 use Prim.Native.Nat.{ℕ, _-_, _≤_, _<_, zero-le}
 use native.Mathlib.Omega.{arith}
 use lib.ListN.{getD}
@@ -7,9 +7,6 @@ use Rattle.drawing.proofs.Tabling.{tabled-none, tabled-more}
 use borrow.Author.Needs.{needs}
 use Rattle.drawing.proofs.columns.vertex_columns.Statement.{statement}
 use Rattle.drawing.proofs.columns.vertex_columns.Tie as tie
-use Rattle.drawing.proofs.columns.vertex_columns.Reads as reads
-use Rattle.drawing.proofs.columns.vertex_columns.Lts as lts
-use Rattle.drawing.proofs.wide.Reads as wide-reads
 
 abbrev Inv-loop : tie.InvT-loop
 Inv-loop n channel own columns₀ v₀ columns v = (v ≤ n) × Tabled 128 (λ x. getD own (getD channel x 0) 0) v columns

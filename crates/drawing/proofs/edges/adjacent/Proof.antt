@@ -1,4 +1,4 @@
-use mathlib.Core.Path.{_≡_, sym, ap, ap₂, _∙_}
+use mathlib.Core.Path.{sym, ap₂, _∙_}
 use Prim.Native.Nat.{ℕ, _+_}
 use native.Mathlib.Omega.{arith}
 use lib.Dec.{eqb}
@@ -6,9 +6,6 @@ use Rattle.drawing.proofs.Coding.{next-adjacent, else-adjacent}
 use borrow.Author.Needs.{needs}
 use Rattle.drawing.proofs.edges.adjacent.Statement.{statement}
 use Rattle.drawing.proofs.edges.adjacent.Tie as tie
-use Rattle.drawing.proofs.edges.adjacent.Reads as reads
-use Rattle.drawing.proofs.edges.adjacent.Lts as lts
-use Rattle.drawing.proofs.wide.Reads as wide-reads
 
 wide-requires : tie.Need-wide-requires
 wide-requires c κs = search needs

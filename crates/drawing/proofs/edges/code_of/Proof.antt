@@ -1,16 +1,10 @@
-use mathlib.Core.Path.{_≡_, sym, ap, _∙_}
+use mathlib.Core.Path.{sym, ap, _∙_}
 use Rattle.outline.specs.Chart.{crossing}
 use Rattle.drawing.specs.Parts.{codeOf}
 use Rattle.drawing.proofs.Coding.{in-path, in-bundle, across}
 use borrow.Author.Needs.{needs}
 use Rattle.drawing.proofs.edges.code_of.Statement.{statement}
 use Rattle.drawing.proofs.edges.code_of.Tie as tie
-use Rattle.drawing.proofs.edges.code_of.Reads as reads
-use Rattle.drawing.proofs.edges.code_of.Lts as lts
-use Rattle.drawing.proofs.edges.adjacent.Reads as adjacent-reads
-use Rattle.drawing.proofs.edges.crossed.Reads as crossed-reads
-use Rattle.drawing.proofs.edges.lesser.Reads as lesser-reads
-use Rattle.geometry.proofs.course_of.Reads as course-of-reads
 
 shared-slice-read-if1 : tie.Need-shared-slice-read-if1
 shared-slice-read-if1 c = search needs

@@ -1,11 +1,9 @@
-use mathlib.Core.Path.{_≡_, sym, ap, _∙_}
+use mathlib.Core.Path.{sym, ap}
 use Rattle.outline.specs.Chart.{crossing}
 use Rattle.drawing.specs.Parts.{codeOf}
 use borrow.Author.Needs.{needs}
 use Rattle.drawing.proofs.edges.crossed.Statement.{statement}
 use Rattle.drawing.proofs.edges.crossed.Tie as tie
-use Rattle.drawing.proofs.edges.crossed.Reads as reads
-use Rattle.drawing.proofs.edges.crossed.Lts as lts
 
 enum-told : tie.Need-enum-told
 enum-told c = search needs

@@ -1,5 +1,5 @@
-use mathlib.Core.Path.{_≡_, refl, sym, ap, ap₂, _∙_, subst}
-use Prim.Native.Nat.{ℕ, _-_, _≤_, _<_, zero-le}
+use mathlib.Core.Path.{_≡_, ap₂, _∙_, subst}
+use Prim.Native.Nat.{ℕ, _-_, _≤_, zero-le}
 use native.Mathlib.Omega.{arith}
 use lib.ListN.{getD}
 use Rattle.outline.specs.declared.Kind.{Kind}
@@ -8,10 +8,6 @@ use Rattle.drawing.proofs.Coding.{coded-none, coded-more}
 use borrow.Author.Needs.{needs}
 use Rattle.drawing.proofs.edges.kinds_of.Statement.{statement}
 use Rattle.drawing.proofs.edges.kinds_of.Tie as tie
-use Rattle.drawing.proofs.edges.kinds_of.Reads as reads
-use Rattle.drawing.proofs.edges.kinds_of.Lts as lts
-use Rattle.drawing.proofs.edges.code_of.Reads as code-of-reads
-use Rattle.drawing.proofs.wide.Reads as wide-reads
 
 abbrev Inv-loop : tie.InvT-loop
 Inv-loop m tails heads channel position into out-of columns rows code₀ value₀ bend-row₀ e₀ code value bend-row e =

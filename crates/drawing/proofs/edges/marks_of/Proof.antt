@@ -1,18 +1,12 @@
-use mathlib.Core.Path.{_≡_, refl, sym, ap, ap₂, _∙_, subst}
-use mathlib.Core.Bool.{true, false}
-use Prim.Native.Nat.{ℕ, _*_, _-_, _≤_, _<_, zero-le}
+use mathlib.Core.Path.{_≡_, sym, ap₂, _∙_, subst}
+use Prim.Native.Nat.{ℕ, _*_, _-_, _≤_, zero-le}
 use native.Mathlib.Omega.{arith}
-use lib.ListN.{getD}
 use Rattle.drawing.specs.Parts.{markIn, Marking}
 use Rattle.masks.specs.Sets.{member?}
 use Rattle.drawing.proofs.Marking.{marking-none, marking-set, marking-left}
 use borrow.Author.Needs.{needs}
 use Rattle.drawing.proofs.edges.marks_of.Statement.{statement}
 use Rattle.drawing.proofs.edges.marks_of.Tie as tie
-use Rattle.drawing.proofs.edges.marks_of.Reads as reads
-use Rattle.drawing.proofs.edges.marks_of.Lts as lts
-use Rattle.drawing.proofs.wide.Reads as wide-reads
-use Rattle.masks.proofs.contains.Reads as contains-reads
 
 abbrev Inv-loop : tie.InvT-loop
 Inv-loop m tails heads longer mark₀ reduced₀ e₀ mark reduced e = (e ≤ m) × (reduced ≤ e) × Marking longer tails heads e mark reduced

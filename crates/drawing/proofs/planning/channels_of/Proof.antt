@@ -1,14 +1,10 @@
-use mathlib.Core.Path.{_≡_, sym, subst}
+use mathlib.Core.Path.{sym, subst}
 use mathlib.Core.Bool.{Bool}
 use Rattle.counting.specs.Count.{choose}
 use Rattle.channels.specs.Promise.{Plans, Gives}
 use borrow.Author.Needs.{needs}
 use Rattle.drawing.proofs.planning.channels_of.Statement.{statement}
 use Rattle.drawing.proofs.planning.channels_of.Tie as tie
-use Rattle.drawing.proofs.planning.channels_of.Reads as reads
-use Rattle.drawing.proofs.planning.channels_of.Lts as lts
-use Rattle.channels.proofs.given.Reads as given-reads
-use Rattle.channels.proofs.plan.Reads as plan-reads
 
 given-requires : tie.Need-given-requires
 given-requires c κs = search needs

@@ -1,8 +1,8 @@
-use mathlib.Core.Path.{_≡_, refl, sym, ap, _∙_, subst}
+use mathlib.Core.Path.{_≡_, sym, subst}
 use mathlib.Core.List.{List}
-use Prim.Native.Nat.{ℕ, _≤_}
+use Prim.Native.Nat.{ℕ}
 use native.Mathlib.Omega.{arith}
-use lib.ListN.{length, take}
+use lib.ListN.{length}
 use lib.Seq.{length-take-le}
 use Rattle.counting.specs.Count.{choose}
 use Rattle.channels.specs.Promise.{Plans, Gives}
@@ -13,14 +13,6 @@ use Rattle.drawing.proofs.Answering.{bounded-field}
 use borrow.Author.Needs.{needs}
 use Rattle.drawing.proofs.planning.planned.Statement.{statement}
 use Rattle.drawing.proofs.planning.planned.Tie as tie
-use Rattle.drawing.proofs.planning.planned.Reads as reads
-use Rattle.drawing.proofs.planning.planned.Lts as lts
-use Rattle.bundles.proofs.bundled.Reads as bundled-reads
-use Rattle.drawing.proofs.planning.bounded.Reads as bounded-reads
-use Rattle.drawing.proofs.planning.channels_of.Reads as channels-of-reads
-use Rattle.drawing.proofs.wide.Reads as wide-reads
-use Rattle.layers.proofs.compacted.Reads as compacted-reads
-use Rattle.tracks.proofs.tracked.Reads as tracked-reads
 
 bounded-requires : tie.Need-bounded-requires
 bounded-requires c κs = search needs

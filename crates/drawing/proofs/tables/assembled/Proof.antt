@@ -1,30 +1,20 @@
 use mathlib.Core.Path.{_≡_, refl, sym, ap, _∙_, subst}
-use Prim.Native.Nat.{ℕ, _≤_, _<_}
+use Prim.Native.Nat.{ℕ, _≤_}
 use native.Mathlib.Omega.{arith}
-use lib.ListN.{length, getD}
+use lib.ListN.{getD}
 use lib.Seq.{length-take-le}
 use Rattle.page.specs.Page as page
 use Rattle.geometry.specs.Placement.{evenGaps, blockStart}
 use Rattle.outline.specs.Chart.{planOf}
 use Rattle.drawing.specs.Promise.{graphContent, Tables}
 use Rattle.drawing.specs.Parts.{Owns}
-use Rattle.drawing.specs.Laid.{Laid, withBundles}
+use Rattle.drawing.specs.Laid.{withBundles}
 use Rattle.drawing.specs.declared.Drawing.{Drawing}
 use Rattle.drawing.proofs.Assembling.{small, ends-known, tail-same, head-same, channels-small, width-fits, channel-known}
 use Rattle.drawing.proofs.Charting.{tables-drawn}
 use borrow.Author.Needs.{needs}
 use Rattle.drawing.proofs.tables.assembled.Statement.{statement}
 use Rattle.drawing.proofs.tables.assembled.Tie as tie
-use Rattle.drawing.proofs.tables.assembled.Reads as reads
-use Rattle.drawing.proofs.tables.assembled.Lts as lts
-use Rattle.drawing.proofs.columns.own_columns.Reads as own-columns-reads
-use Rattle.drawing.proofs.columns.vertex_columns.Reads as vertex-columns-reads
-use Rattle.drawing.proofs.edges.kinds_of.Reads as kinds-of-reads
-use Rattle.drawing.proofs.edges.marks_of.Reads as marks-of-reads
-use Rattle.drawing.proofs.tables.bare.Reads as bare-reads
-use Rattle.drawing.proofs.tables.with_bundles.Reads as with-bundles-reads
-use Rattle.drawing.proofs.wide.Reads as wide-reads
-use Rattle.reach.proofs.longer_routes.Reads as longer-routes-reads
 
 wide-requires : tie.Need-wide-requires
 wide-requires c κs = search needs

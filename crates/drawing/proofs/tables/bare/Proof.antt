@@ -1,10 +1,7 @@
-use mathlib.Core.Path.{_≡_, refl, ap}
+use mathlib.Core.Path.{refl}
 use borrow.Author.Needs.{needs}
 use Rattle.drawing.proofs.tables.bare.Statement.{statement}
 use Rattle.drawing.proofs.tables.bare.Tie as tie
-use Rattle.drawing.proofs.tables.bare.Reads as reads
-use Rattle.drawing.proofs.tables.bare.Lts as lts
-use Rattle.drawing.proofs.blank.Reads as blank-reads
 
 blank-requires : tie.Need-blank-requires
 blank-requires c κs = search needs

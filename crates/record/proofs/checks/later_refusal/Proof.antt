@@ -1,9 +1,6 @@
 use borrow.Author.Needs.{needs}
 use Rattle.record.proofs.checks.later_refusal.Statement.{statement}
 use Rattle.record.proofs.checks.later_refusal.Tie as tie
-use Rattle.record.proofs.checks.later_refusal.Reads as reads
-use Rattle.record.proofs.checks.later_refusal.Lts as lts
-use Rattle.record.proofs.checks.lines_refusal.Reads as lines-refusal-reads
 
 returns : tie.Need-returns
 returns c = search needs
