@@ -1,0 +1,331 @@
+// Reads a record on standard input and prints its chart as document 01's listing, or `refused` and the number.
+ghost use mathlib.Core.Path.{_≡_};
+ghost use Prim.Native.Nat.{_+_, _<_, _≤_};
+ghost use lib.ListN.{length};
+use charts::Chart;
+use charts::Page;
+use libc::STDIN_FILENO;
+use libc::STDOUT_FILENO;
+use outline::BundleEntry;
+use outline::EdgeEntry;
+use outline::Kind;
+use outline::VertexEntry;
+use record::layout::Layout;
+
+// Room for any line but the first.
+const LINE: usize = 36;
+
+const NEWLINE: u8 = 10;
+
+// ---- text: each call puts bytes into the output from `used` on, and answers where they end
+
+fn put_byte(output: &mut [u8], used: usize, byte: u8) -> usize
+    requires { ⌜ used + 1 ≤ length (now output) ⌝ }
+    ensures { λ r. ⌜ r ≡ used + 1 ⌝ }
+{
+    output[used] = byte;
+    used + 1
+}
+
+fn put_text<'a>(output: &mut [u8], used: usize, text: &'a [u8]) -> usize
+    requires { ⌜ used + length (now text) ≤ length (now output) ⌝ }
+    ensures { λ r. ⌜ r ≡ used + length (now (text .entry)) ⌝ }
+{
+    for i in 0..text.len() {
+        output[used + i] = text[i];
+    }
+    used + text.len()
+}
+
+// The digit of a power of ten, if the number has it.
+fn put_digit(output: &mut [u8], used: usize, n: u16, power: u16) -> usize
+    requires { ⌜ (used + 1 ≤ length (now output)) × (0 < power) ⌝ }
+    ensures { λ r. ⌜ r ≤ used + 1 ⌝ }
+{
+    if n < power {
+        return used;
+    }
+    put_byte(output, used, 48 + (n / power % 10) as u8)
+}
+
+// A blank, and the number in decimal.
+fn put_number(output: &mut [u8], used: usize, n: u16) -> usize
+    requires { ⌜ used + 6 ≤ length (now output) ⌝ }
+    ensures { λ r. ⌜ r ≤ used + 6 ⌝ }
+{
+    let a = put_byte(output, used, b' ');
+    let b = put_digit(output, a, n, 10000);
+    let c = put_digit(output, b, n, 1000);
+    let d = put_digit(output, c, n, 100);
+    let e = put_digit(output, d, n, 10);
+    put_byte(output, e, 48 + (n % 10) as u8)
+}
+
+fn put_pair(output: &mut [u8], used: usize, first: u16, second: u16) -> usize
+    requires { ⌜ used + 12 ≤ length (now output) ⌝ }
+    ensures { λ r. ⌜ r ≤ used + 12 ⌝ }
+{
+    let at = put_number(output, used, first);
+    put_number(output, at, second)
+}
+
+// A name, a blank and the number.
+fn put_count<'a>(output: &mut [u8], used: usize, name: &'a [u8], n: u16) -> usize
+    requires { ⌜ used + length (now name) + 6 ≤ length (now output) ⌝ }
+    ensures { λ r. ⌜ r ≤ used + length (now (name .entry)) + 6 ⌝ }
+{
+    let at = put_text(output, used, name);
+    put_number(output, at, n)
+}
+
+// ---- lines
+
+// A letter and five numbers.
+fn put_line(
+    output: &mut [u8],
+    used: usize,
+    letter: u8,
+    a: u16,
+    b: u16,
+    c: u16,
+    d: u16,
+    e: u16,
+) -> usize
+    requires { ⌜ used + 32 ≤ length (now output) ⌝ }
+    ensures { λ r. ⌜ r ≤ used + 32 ⌝ }
+{
+    let first = put_byte(output, used, letter);
+    let second = put_pair(output, first, a, b);
+    let third = put_pair(output, second, c, d);
+    let last = put_number(output, third, e);
+    put_byte(output, last, NEWLINE)
+}
+
+fn put_counts(output: &mut [u8], used: usize, chart: Chart, bundles: u16) -> usize
+    requires { ⌜ used + 60 ≤ length (now output) ⌝ }
+    ensures { λ r. ⌜ r ≤ used + 60 ⌝ }
+{
+    let a = put_count(output, used, b" rows", chart.rows as u16);
+    let b = put_count(output, a, b" lines", chart.channels as u16);
+    let c = put_count(output, b, b" firm", chart.reduced);
+    let d = put_count(output, c, b" bundles", bundles);
+    put_count(output, d, b" width", chart.width)
+}
+
+fn put_header(output: &mut [u8], used: usize, chart: Chart, n: u16, m: u16, bundles: u16) -> usize
+    requires { ⌜ used + 78 ≤ length (now output) ⌝ }
+    ensures { λ r. ⌜ r ≤ used + 78 ⌝ }
+{
+    let a = put_text(output, used, b"chart");
+    let b = put_pair(output, a, n, m);
+    let c = put_counts(output, b, chart, bundles);
+    put_byte(output, c, NEWLINE)
+}
+
+fn put_vertex(output: &mut [u8], used: usize, number: u16, entry: VertexEntry) -> usize
+    requires { ⌜ used + 32 ≤ length (now output) ⌝ }
+    ensures { λ r. ⌜ r ≤ used + 32 ⌝ }
+{
+    put_line(
+        output,
+        used,
+        b'w',
+        number,
+        entry.channel as u16,
+        entry.position as u16,
+        entry.column,
+        entry.row as u16,
+    )
+}
+
+fn put_kind(output: &mut [u8], used: usize, kind: Kind) -> usize
+    requires { ⌜ used + 14 ≤ length (now output) ⌝ }
+    ensures { λ r. ⌜ r ≤ used + 14 ⌝ }
+{
+    match kind {
+        Kind::Path => put_text(output, used, b" S"),
+        Kind::PathTransitive(bundle) => put_count(output, used, b" B", bundle),
+        Kind::Straight => put_text(output, used, b" D"),
+        Kind::Bent(bend) => {
+            let at = put_text(output, used, b" K");
+            put_pair(output, at, bend.column, bend.row as u16)
+        }
+    }
+}
+
+fn put_mark(output: &mut [u8], used: usize, transitive: bool) -> usize
+    requires { ⌜ used + 3 ≤ length (now output) ⌝ }
+    ensures { λ r. ⌜ r ≡ used + 3 ⌝ }
+{
+    if transitive {
+        return put_text(output, used, b" i\n");
+    }
+    put_text(output, used, b" f\n")
+}
+
+fn put_edge(output: &mut [u8], used: usize, entry: EdgeEntry, tail: u8, head: u8) -> usize
+    requires { ⌜ used + 36 ≤ length (now output) ⌝ }
+    ensures { λ r. ⌜ r ≤ used + 36 ⌝ }
+{
+    let a = put_count(output, used, b"a", entry.number);
+    let b = put_pair(output, a, tail as u16, head as u16);
+    let kind = entry.kind;
+    let c = put_kind(output, b, kind);
+    put_mark(output, c, entry.transitive)
+}
+
+fn put_bundle(output: &mut [u8], used: usize, number: u16, entry: BundleEntry) -> usize
+    requires { ⌜ used + 32 ≤ length (now output) ⌝ }
+    ensures { λ r. ⌜ r ≤ used + 32 ⌝ }
+{
+    put_line(
+        output,
+        used,
+        b'b',
+        number,
+        entry.channel as u16,
+        entry.first_row as u16,
+        entry.last_row as u16,
+        entry.track as u16,
+    )
+}
+
+// ---- lists of lines: what no longer has room in the output is written
+
+// Writes the first bytes of the output.
+fn flush(output: &[u8], used: usize)
+    requires { ⌜ used ≤ length (now output) ⌝ }
+{
+    io::write_all(STDOUT_FILENO, &output[..used]);
+}
+
+// Writes what the output holds where less than a line's room is left; answers where the next line begins.
+fn make_room(output: &[u8], used: usize) -> usize
+    requires { ⌜ (used ≤ length (now output)) × (36 ≤ length (now output)) ⌝ }
+    ensures { λ r. ⌜ r + 36 ≤ length (now (output .entry)) ⌝ }
+{
+    if output.len() - used < LINE {
+        flush(output, used);
+        return 0;
+    }
+    used
+}
+
+fn put_vertices(output: &mut [u8], used: usize, n: usize, vertices: [VertexEntry; 128]) -> usize
+    requires { ⌜ (used ≤ length (now output)) × (36 ≤ length (now output)) × (n ≤ 128) ⌝ }
+    ensures { λ r. ⌜ r ≤ length (now (output .entry)) ⌝ }
+{
+    let mut end = used;
+    for v in 0..n {
+        let at = make_room(output, end);
+        end = put_vertex(output, at, v as u16, vertices[v]);
+    }
+    end
+}
+
+// `ends` has the tails and heads in turn. The page comes whole: its edges as an array of their own would be a copy more on the stack.
+fn put_edges<'a>(output: &mut [u8], used: usize, m: usize, page: Page, ends: &'a [u8]) -> usize
+    requires { ⌜ (used ≤ length (now output)) × (36 ≤ length (now output)) × (m ≤ 4096) × (m + m ≤ length (now ends)) ⌝ }
+    ensures { λ r. ⌜ r ≤ length (now (output .entry)) ⌝ }
+{
+    let mut end = used;
+    for e in 0..m {
+        let at = make_room(output, end);
+        end = put_edge(output, at, page.edges[e], ends[2 * e], ends[2 * e + 1]);
+    }
+    end
+}
+
+fn put_bundles(output: &mut [u8], used: usize, count: usize, bundles: [BundleEntry; 256]) -> usize
+    requires { ⌜ (used ≤ length (now output)) × (36 ≤ length (now output)) × (count ≤ 256) ⌝ }
+    ensures { λ r. ⌜ r ≤ length (now (output .entry)) ⌝ }
+{
+    let mut end = used;
+    for i in 0..count {
+        let at = make_room(output, end);
+        end = put_bundle(output, at, i as u16, bundles[i]);
+    }
+    end
+}
+
+// ---- the whole
+
+fn lesser(a: usize, b: usize) -> usize
+    ensures { λ r. ⌜ (r ≤ a) × (r ≤ b) ⌝ }
+{
+    if a < b {
+        return a;
+    }
+    b
+}
+
+// The bytes of a record's edges, tail and head in turn; none where it is not laid out as it must be.
+fn edges_of(b: &[u8]) -> &[u8] {
+    let layout = record::layout::layout_of(b);
+    let Layout::Good(fields) = layout else {
+        return &b[..0];
+    };
+    let start = fields.edges;
+    let end = start + 2 * fields.count;
+    &b[start..end]
+}
+
+fn write_refusal(number: u8) {
+    let mut output = [0u8; 16];
+    let a = put_text(&mut output, 0, b"refused");
+    let b = put_number(&mut output, a, number as u16);
+    let c = put_byte(&mut output, b, NEWLINE);
+    flush(&output, c);
+}
+
+// The chart of a record, in lists that hold every chart.
+fn drawn(record: &[u8]) -> Page {
+    let vertex = VertexEntry {
+        channel: 0,
+        position: 0,
+        column: 0,
+        row: 0,
+        descendants: 0,
+    };
+    let edge = EdgeEntry {
+        number: 0,
+        kind: Kind::Path,
+        transitive: false,
+    };
+    let bundle = BundleEntry {
+        channel: 0,
+        first_row: 0,
+        last_row: 0,
+        track: 0,
+    };
+    charts::chart_page(record, [vertex; 128], [edge; 4096], [bundle; 256])
+}
+
+// Prints the chart of a record, or its refusal. Every chart fits the lists, so that each count is itself the lesser.
+fn write_chart(record: &[u8]) {
+    let page = drawn(record);
+    let chart = page.chart;
+    if chart.refusal != 0 {
+        write_refusal(chart.refusal);
+        return;
+    }
+    let vertices = page.vertices;
+    let bundles = page.bundles;
+    let ends = edges_of(record);
+    let n = lesser(chart.vertices, 128);
+    let m = lesser(lesser(chart.edges, 4096), ends.len() / 2);
+    let k = lesser(chart.bundles, 256);
+    let mut output = [0u8; 16384];
+    let a = put_header(&mut output, 0, chart, n as u16, m as u16, k as u16);
+    let b = put_vertices(&mut output, a, n, vertices);
+    let c = put_edges(&mut output, b, m, page, ends);
+    let d = put_bundles(&mut output, c, k, bundles);
+    flush(&output, d);
+}
+
+// The buffer has one byte more than a record may have: a longer input fills it and is refused.
+fn main() {
+    let mut buffer = io::large_buffer();
+    let got = io::read_full(STDIN_FILENO, &mut buffer);
+    write_chart(&buffer[..got]);
+}

@@ -1,0 +1,56 @@
+#!/usr/bin/env python3
+"""Makes the samples: each record by its rule, the listings from the vectors and by the second implementation (see README.md).
+
+    make.py [FOLDER]
+"""
+import sys
+from pathlib import Path
+
+HERE = Path(__file__).resolve().parent
+sys.dont_write_bytecode = True
+sys.path.insert(0, str(HERE.parent / 'tests' / 'compare'))
+from records import build, graph, listing, vectors
+
+# of the paper's proof table, with listings read off the paper
+PAPER = ['P1', 'P5', 'P6', 'P7']
+
+
+def house():
+    """Two house lines with arrows along them, over them and between them."""
+    lines = [[0, 2, 4, 6, 8], [1, 3, 5, 7]]
+    spine = [(line[i], line[i + 1]) for line in lines for i in range(len(line) - 1)]
+    side = [(0, 4), (0, 6), (2, 6), (2, 8), (4, 8), (1, 5), (1, 7)]
+    cross = [(1, 2), (3, 6), (0, 7), (5, 8)]
+    return graph(9, spine + side + cross, lines)
+
+
+def wide():
+    """Layers of 31 words, arrows from all of a layer to all of the next, then to all of the one after it, as many as a record may have."""
+    layers = [range(first, min(first + 31, 128)) for first in range(0, 128, 31)]
+    pairs = [(u, v) for rise in (1, 2) for low, high in zip(layers, layers[rise:]) for u in low for v in high]
+    return graph(128, pairs[:4096])
+
+
+def deep():
+    """One line of 128 words: the shortest arrows from lower to higher numbers, as many as a record may have."""
+    return graph(128, [(u, u + rise) for rise in range(1, 128) for u in range(128 - rise)][:4096])
+
+
+def ring():
+    return graph(3, [(0, 1), (1, 2), (2, 0)])
+
+
+def main():
+    folder = Path(sys.argv[1]) if len(sys.argv) > 1 else HERE
+    build()
+    for name, record, lines in vectors():
+        if name in PAPER:
+            (folder / f'{name.lower()}.record').write_bytes(record)
+            (folder / f'{name.lower()}.listing').write_bytes(lines)
+    for rule in [house, wide, deep, ring]:
+        record = rule()
+        (folder / f'{rule.__name__}.record').write_bytes(record)
+        (folder / f'{rule.__name__}.listing').write_bytes(listing(record))
+
+
+main()

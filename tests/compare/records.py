@@ -1,0 +1,84 @@
+"""Records to compare programs on, and what the second implementation prints for them."""
+import re
+import subprocess
+from pathlib import Path
+
+ROOT = Path(__file__).resolve().parents[2]
+REFERENCE = ROOT / 'tests' / 'reference'
+
+# a name, a record in hexadecimal, its listing
+BLOCK = re.compile(r'^# (.*)\n([0-9A-Fa-f]*)\n((?:chart|refused) .*\n(?:[wab] .*\n)*)', re.M)
+
+
+def field(tag, data):
+    return bytes([tag, len(data) // 256, len(data) % 256]) + bytes(data)
+
+
+def edges(pairs):
+    return field(2, [end for pair in pairs for end in pair])
+
+
+def graph(words, pairs, lines=None):
+    """The record of a graph, with house lines where they are given."""
+    record = field(1, [words]) + edges(pairs)
+    if lines is None:
+        return record
+    return record + field(3, [byte for line in lines for byte in [len(line), *line]])
+
+
+def dense(count):
+    """So many different arrows among 128 words, each from a lower to a higher one."""
+    return [(u, v) for v in range(128) for u in range(v)][:count]
+
+
+# document 01's edges, and what it says of them
+EDGES = [
+    ('128 words, 4,096 arrows', graph(128, dense(4096)), 'accepted'),
+    ('129 words', graph(129, []), 'refused 2'),
+    ('4,097 arrows', graph(128, dense(4097)), 'refused 2'),
+    ('no words', graph(0, []), 'refused 2'),
+    ('arrows of length 0', graph(1, []), 'accepted'),
+    ('arrows missing', field(1, [1]), 'refused 1'),
+    ('house lines of length 0', graph(1, [], []), 'refused 6'),
+    ('0 to 0 twice', graph(1, [(0, 0), (0, 0)]), 'refused 4'),
+    ('0 to 0', graph(1, [(0, 0)]), 'refused 5'),
+    ('a repeat and a break', graph(2, [], [[0, 1], [0]]), 'refused 6'),
+    ('a break', graph(2, [], [[0, 1]]), 'refused 7'),
+    ('a word lacks', graph(2, [], [[0]]), 'refused 6'),
+    ('a stranger in the last house line before a double', graph(2, [(0, 1), (0, 1)], [[0], [2]]), 'refused 3'),
+    ('a line of no word before 129 words', graph(129, [], [[]]), 'refused 1'),
+    ('a line past its field', graph(1, []) + field(3, [2, 0]), 'refused 1'),
+    ('a byte too many', graph(1, []) + b'\0', 'refused 1'),
+    ('65,535 bytes', field(1, [1]) + field(2, bytes(65528)), 'refused 2'),
+    ('65,536 bytes', field(1, [1]) + field(2, bytes(65528)) + b'\0', 'refused 1'),
+    ('65,536 bytes in fields', field(1, [1]) + field(2, bytes(65526)) + field(3, []), 'refused 1'),
+    ('a sound record and zeros up to 100,000 bytes', graph(1, []).ljust(100000, b'\0'), 'refused 1'),
+    ('nothing', b'', 'refused 1'),
+]
+
+
+def build():
+    """Builds the second implementation."""
+    subprocess.run(['cargo', 'build', '--release', '--quiet', '--offline'], cwd=REFERENCE, check=True)
+
+
+def listing(record):
+    """What the second implementation prints."""
+    return subprocess.run([REFERENCE / 'target/release/reference'], input=record, capture_output=True, check=True).stdout
+
+
+def blocks(text):
+    """Name, bytes and listing of each record of a list of vectors."""
+    for name, digits, lines in BLOCK.findall(text):
+        yield name, bytes.fromhex(digits), lines.encode()
+
+
+def vectors():
+    """The given records, with their listings."""
+    return blocks((REFERENCE / 'vectors/base.txt').read_text())
+
+
+def random_records(seed, count):
+    """Random, house-lined and damaged records, with the second implementation's listings."""
+    command = [REFERENCE / 'target/release/records', str(seed), str(count)]
+    return blocks(subprocess.run(command, capture_output=True, text=True, check=True).stdout)
