@@ -15,7 +15,7 @@ use Rattle.counting.proofs.Truth.{true-or-false, lt-or-le, and-intro, and-elim,
 use Rattle.bundles.specs.Bundles.{before, best, better}
 use Rattle.bundles.specs.Steps.{endOf, loadAt, Finds, Picks}
 use Rattle.bundles.specs.declared.End.{End}
-use Rattle.bundles.proofs.Choose.{choose-yes, choose-no}
+use Rattle.counting.proofs.Choosing.{choose-yes, choose-no}
 
 -- x edges at position p, and y at position q
 ahead-yes : (x p y q : ℕ) → (ltb y x || (eqb y x && ltb p q)) ≡ true → (y < x) ⊎ ((y ≡ x) × (p < q))

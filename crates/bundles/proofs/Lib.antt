@@ -1,5 +1,3 @@
-pub mod Booleans
-pub mod Choose
 pub mod Numbers
 pub mod Extremes
 pub mod Choices

@@ -22,9 +22,9 @@ use Rattle.bundles.specs.Bundles.{Bundle, gathers, taken, along, waits, 
 use Rattle.bundles.specs.Promise.{empty, numberFrom, Listed}
 use Rattle.bundles.specs.Steps.{endOf, Sets, sideIn, Filled, loadIn, openAt, Room, Added, Column, Holds, Stands}
 use Rattle.bundles.specs.declared.State.{State}
-use Rattle.bundles.proofs.Booleans.{and-no, and-yes}
+use Rattle.counting.proofs.Booleans.{and-no, and-yes}
 use Rattle.bundles.proofs.Ends.{end-below, same-end, other-end}
-use Rattle.bundles.proofs.Choose.{choose-yes, choose-no}
+use Rattle.counting.proofs.Choosing.{choose-yes, choose-no}
 use Rattle.bundles.proofs.Numbers.{gathered, number-none, number-kept, number-last, open-end}
 use Rattle.bundles.proofs.Extremes.{joined-ext, lowest-with, lowest-cut, highest-with, highest-cut}
 use Rattle.bundles.proofs.Waiting.{Of, of-here, of-there, waits-ends, turned, waiting-open, wait-gone, wait-kept, wait-fewer}

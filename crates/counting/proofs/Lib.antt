@@ -5,3 +5,6 @@ pub mod Zeros
 pub mod Classes
 pub mod Falsity
 pub mod Deciding
+pub mod Booleans
+pub mod Choosing
+pub mod Mapping

@@ -13,7 +13,7 @@ use Rattle.counting.specs.Count.{count}
 use Rattle.counting.proofs.Truth.{and-elim}
 use Rattle.tracks.specs.Tracks.{mostBundles, meet, tracks, differentIn, topIn}
 use Rattle.tracks.specs.Order.{Apart, Among, Intervals, Packed}
-use Rattle.tracks.proofs.Mapping.{into-count, onto-count}
+use Rattle.counting.proofs.Mapping.{into-count, onto-count}
 use Rattle.tracks.proofs.Different.{different-least, different-below, top-each, top-least}
 use Rattle.tracks.proofs.FirstFit.{turn, turn-earlier, meet-fact, row-meet, meet-sym, blocks-fact, blocks-yes, earlier-turn}
 use Rattle.tracks.proofs.Placing.{Placed, placed-all}

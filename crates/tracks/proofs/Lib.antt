@@ -1,4 +1,3 @@
-pub mod Mapping
 pub mod Different
 pub mod FirstFit
 pub mod Placing

@@ -12,7 +12,7 @@ use lib.Seq.{getD-set-same, getD-set-other}
 use borrow.Author.Tests.{eq-eqb, ne-eqb}
 use Rattle.counting.proofs.Zeros.{zeros}
 use Rattle.tracks.specs.Tracks.{mostRows, lowestFree, blocks, busy, placed, inRow, inRows, tracks}
-use Rattle.tracks.proofs.Mapping.{one-fails, onto-count}
+use Rattle.counting.proofs.Mapping.{one-fails, onto-count}
 use Rattle.tracks.proofs.FirstFit.{IsLowest, lowest-is, turn, earlier-turn, blocks-fact, blocks-self, busy-fact, busy-yes}
 
 -- the rule's steps
