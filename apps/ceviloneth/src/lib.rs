@@ -1,0 +1,26 @@
+//! Safe calls to the proved layout engine for descent charts.
+//!
+//! The engine is an archive, `libembed.a`, whose calls are proved for any bytes and any lists.
+//! This crate lends it slices and hands back owned values; a refusal is document 01's.
+//!
+//!     let chart = ceviloneth::chart(&record)?;
+//!     println!("{} rows, {} lines", chart.counts.rows, chart.counts.lines);
+
+mod chart;
+pub mod raw;
+mod refusal;
+mod session;
+mod stroke;
+
+pub use chart::{
+    chart, chart_into, Arrow, Bundle, Chart, Counts, Kind, Lists, Word, ARROW_NUMBERS,
+    BUNDLE_NUMBERS, MOST_ARROWS, MOST_BUNDLES, MOST_WORDS, WORD_NUMBERS,
+};
+pub use refusal::Refusal;
+pub use session::{Session, STATE_NUMBERS};
+pub use stroke::{stroke_bent, stroke_side, stroke_straight, Place, Point};
+
+/// Whether a word of a record leads to another, by one arrow or more.
+pub fn leads(record: &[u8], from: usize, to: usize) -> Result<bool, Refusal> {
+    raw::leads(record, from, to).answer()
+}

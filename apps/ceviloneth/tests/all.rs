@@ -1,0 +1,123 @@
+//! The wrapper over the proved archive: values, refusals and their words.
+
+use ceviloneth::{
+    chart, chart_into, leads, stroke_bent, stroke_side, stroke_straight, Bundle, Kind, Lists,
+    Place, Point, Refusal, Session, Word,
+};
+
+const P5: &[u8] = &[1, 0, 1, 4, 2, 0, 12, 0, 1, 0, 2, 0, 3, 1, 2, 1, 3, 2, 3];
+const P6: &[u8] = &[
+    1, 0, 1, 6, 2, 0, 8, 1, 2, 3, 4, 4, 5, 0, 5, 3, 0, 9, 1, 0, 2, 1, 2, 3, 3, 4, 5,
+];
+
+#[test]
+fn a_chart_is_handed_over_whole() {
+    let chart = chart(P5).expect("a chart");
+    let counts = chart.counts;
+    assert_eq!((counts.words, counts.arrows, counts.bundles), (4, 6, 2));
+    assert_eq!(
+        (counts.rows, counts.lines, counts.firm, counts.width),
+        (4, 1, 3, 5)
+    );
+    assert_eq!(counts.side_columns[..2], [2, 0]);
+    let last = Word {
+        line: 0,
+        position: 3,
+        column: 3,
+        row: 3,
+        descendants: 0,
+    };
+    assert_eq!((chart.words.len(), chart.words[3]), (4, last));
+    assert_eq!(chart.arrows[2].kind, Kind::Side { bundle: 0 });
+    assert!(chart.arrows[2].implied && !chart.arrows[5].implied);
+    let second = Bundle {
+        line: 0,
+        first_row: 0,
+        last_row: 2,
+        side_column: 1,
+    };
+    assert_eq!(chart.bundles[1], second);
+}
+
+#[test]
+fn kinds_carry_their_numbers() {
+    let chart = chart(P6).expect("a chart");
+    let bend = Kind::Bent { column: 2, row: 1 };
+    assert_eq!(
+        (chart.arrows[0].kind, chart.arrows[3].kind),
+        (Kind::Spine, bend)
+    );
+}
+
+#[test]
+fn refusals_have_the_paper_s_numbers_and_words() {
+    let words = [
+        "layout", "size", "stranger", "double", "ring", "cover", "broken", "short", "full",
+        "off page",
+    ];
+    let all = [
+        Refusal::Layout,
+        Refusal::Size,
+        Refusal::Stranger,
+        Refusal::Double,
+        Refusal::Ring,
+        Refusal::Cover,
+        Refusal::Broken,
+        Refusal::Short,
+        Refusal::Full,
+        Refusal::OffPage,
+    ];
+    for ((refusal, word), number) in all.into_iter().zip(words).zip(1..) {
+        assert_eq!((refusal.number(), refusal.word()), (number, word));
+        assert_eq!(refusal.to_string(), format!("{number} {word}"));
+    }
+}
+
+#[test]
+fn refused_records_and_short_lists() {
+    assert_eq!(chart(&[]), Err(Refusal::Layout));
+    assert_eq!(chart(&[1, 0, 1, 0, 2, 0, 0]), Err(Refusal::Size));
+    assert_eq!(
+        Lists::new().check(&[1, 0, 1, 1, 2, 0, 2, 0, 0]),
+        Err(Refusal::Ring)
+    );
+    let (mut words, mut arrows, mut bundles) = ([7; 20], [7; 30], [7; 7]);
+    let short = chart_into(P5, &mut words, &mut arrows, &mut bundles);
+    assert_eq!(short, Err(Refusal::Short));
+    assert_eq!((words, arrows, bundles), ([7; 20], [7; 30], [7; 7]));
+    assert!(chart_into(P5, &mut words, &mut arrows, &mut [0; 8]).is_ok());
+}
+
+#[test]
+fn sessions_grow_and_refuse() {
+    assert_eq!(Session::start(0), Err(Refusal::Size));
+    assert_eq!(Session::start(129), Err(Refusal::Size));
+    let mut session = Session::start(3).expect("a session");
+    assert_eq!(session.add(0, 1), Ok(()));
+    assert_eq!(session.add(1, 2), Ok(()));
+    assert_eq!(session.add(0, 3), Err(Refusal::Stranger));
+    assert_eq!(session.add(0, 1), Err(Refusal::Double));
+    assert_eq!(session.add(2, 0), Err(Refusal::Ring));
+    assert_eq!(
+        (session.leads(0, 2), session.leads(2, 0)),
+        (Ok(true), Ok(false))
+    );
+    assert_eq!(session.leads(usize::MAX, 0), Err(Refusal::Stranger));
+    assert_eq!((session.words(), session.arrows()), (3, 2));
+}
+
+#[test]
+fn questions_and_strokes() {
+    assert_eq!((leads(P5, 0, 3), leads(P5, 3, 0)), (Ok(true), Ok(false)));
+    assert_eq!(leads(P5, 0, 4), Err(Refusal::Stranger));
+    let at = |column, row| Place { column, row };
+    let point = |across, up| Point { across, up };
+    let straight = stroke_straight([at(0, 0), at(3, 3)]);
+    assert_eq!(straight, Ok([point(0.0, 0.0), point(31.5, 84.75)]));
+    assert_eq!(
+        stroke_bent([at(0, 0), at(640, 0), at(0, 0)]),
+        Err(Refusal::OffPage)
+    );
+    let side = stroke_side([at(2, 0), at(1, 0), at(1, 127), at(639, 127)]);
+    assert_eq!(side.map(|points| points[3]), Ok(point(6709.5, 3587.75)));
+}

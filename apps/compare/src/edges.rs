@@ -1,0 +1,97 @@
+//! The edges that the paper names, with what it says of them.
+
+use crate::answers::Room;
+use crate::tester::{Outcome, Tester};
+use reference::record::{Edge, Record};
+
+/// The edges of document 01, each with its number.
+pub fn edges(tester: &mut Tester) -> Outcome {
+    for (name, bytes, expected) in cases() {
+        let before = tester.seen[expected];
+        tester.record(&bytes, Room([5, 3, 2]))?;
+        if tester.seen[expected] != before + 1 {
+            return Err(format!(
+                "{name}: both sides agree, but the paper says {expected}"
+            ));
+        }
+    }
+    Ok(())
+}
+
+type Case = (&'static str, Vec<u8>, usize);
+
+fn cases() -> Vec<Case> {
+    let empty = |n: u8| fields(n, &[], &[]);
+    let mut cases = vec![
+        ("128 words, 4,096 arrows", rising(128, 4096).to_bytes(), 0),
+        ("4,097 arrows", rising(128, 4097).to_bytes(), 2),
+        ("129 words", empty(129), 2),
+        ("no words", empty(0), 2),
+        ("one word", empty(1), 0),
+        ("128 words alone", empty(128), 0),
+        ("a ring of 128", ring(128), 5),
+        ("a ring of 65", ring(65), 5),
+        ("an arrow to itself", ring(1), 5),
+    ];
+    cases.extend(layouts());
+    cases
+}
+
+fn layouts() -> Vec<Case> {
+    let whole = fields(1, &[], &[]);
+    vec![
+        ("nothing", Vec::new(), 1),
+        ("no tag 2", whole[..4].to_vec(), 1),
+        ("a byte too many", fields(1, &[], &[0]), 1),
+        ("an odd arrow byte", fields(2, &[0], &[]), 1),
+        ("tag 3 of length 0", fields(1, &[], &[3, 0, 0]), 6),
+        ("a line of no word", fields(1, &[], &[3, 0, 1, 0]), 1),
+        ("a line past its field", fields(1, &[], &[3, 0, 2, 2, 0]), 1),
+        ("65,535 bytes", house_lines(65_525).to_bytes(), 6),
+        ("65,536 bytes", house_lines(65_526).to_bytes(), 1),
+    ]
+}
+
+/// So many words, a few bytes of arrows, and what follows.
+fn fields(words: u8, arrows: &[u8], rest: &[u8]) -> Vec<u8> {
+    let head = [1, 0, 1, words, 2, 0, arrows.len() as u8];
+    [&head, arrows, rest].concat()
+}
+
+/// The first so many arrows from lower to higher words.
+fn rising(vertex_count: usize, count: usize) -> Record {
+    let pairs = (0..vertex_count).flat_map(|v| (0..v).map(move |u| Edge::new(u, v)));
+    Record {
+        vertex_count,
+        edges: pairs.take(count).collect(),
+        channels: None,
+    }
+}
+
+fn ring(length: usize) -> Vec<u8> {
+    let edges = (0..length)
+        .map(|u| Edge::new(u, (u + 1) % length))
+        .collect();
+    let record = Record {
+        vertex_count: length,
+        edges,
+        channels: None,
+    };
+    record.to_bytes()
+}
+
+/// One word, in house lines of word 0 that fill a field of so many bytes.
+fn house_lines(length: usize) -> Record {
+    let mut channels = Vec::new();
+    let mut left = length;
+    while left > 0 {
+        let words = left.min(256) - 1;
+        channels.push(vec![0; words]);
+        left -= words + 1;
+    }
+    Record {
+        vertex_count: 1,
+        edges: Vec::new(),
+        channels: Some(channels),
+    }
+}

@@ -1,0 +1,44 @@
+//! Demand 3 on all small graphs, by brute force: no lawful chart is smaller.
+
+use crate::answers::Room;
+use crate::tester::{Outcome, Tester};
+use reference::chart::Chart;
+use reference::lawful::{
+    acyclic_graphs, descent, least_links, least_parts, least_rows, least_tracks, LawfulChart,
+};
+use reference::record::Record;
+
+/// Compares the two, so that one chart speaks for both, and tries all lawful charts.
+pub fn least(tester: &mut Tester) -> Outcome {
+    for size in 1..=4 {
+        let links = least_links(size);
+        for record in acyclic_graphs(size) {
+            tester.record(&record.to_bytes(), Room::EXACT)?;
+            let least = links.get(&descent(&record)).copied();
+            check(&record, least)?;
+        }
+    }
+    Ok(())
+}
+
+fn check(record: &Record, links: Option<usize>) -> Outcome {
+    let chart = Chart::draw(record).map_err(|refusal| format!("{refusal}: {record:?}"))?;
+    let ours = LawfulChart::of(record, &chart);
+    let counts = &chart.counts;
+    let tracks = |part: usize| {
+        let own = ours.track_count(part);
+        own == counts.tracks[part] && Some(own) == least_tracks(&ours.bundles_of(part))
+    };
+    let met = ours.is_lawful(record)
+        && ours.row_count() == counts.rows
+        && ours.part_count() == counts.channels
+        && ours.links.len() == counts.reduced_edges
+        && Some(counts.rows) == least_rows(record)
+        && Some(counts.channels) == least_parts(record)
+        && Some(counts.reduced_edges) == links
+        && (0..counts.channels).all(tracks);
+    match met {
+        true => Ok(()),
+        false => Err(format!("a lawful chart is smaller: {record:?}")),
+    }
+}

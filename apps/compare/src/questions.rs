@@ -1,0 +1,115 @@
+//! Questions about a record's descent, and page strokes.
+
+use crate::tester::{Outcome, Tester};
+use ceviloneth::raw;
+use reference::descent::Reachability;
+use reference::geometry::Place;
+use reference::hex::to_hex;
+use reference::random::{self, Generator};
+use reference::record::Record;
+use reference::shrink::shrink;
+use reference::strokes::{Polyline, PAGE_COLUMNS, PAGE_ROWS};
+
+/// Asks of random records whether words lead to each other, unknown words too.
+pub fn leads(tester: &mut Tester, generator: &mut Generator, count: usize) -> Outcome {
+    for _ in 0..count {
+        let bytes = random::record(generator);
+        let far = generator.pick(&[128, 255, 256, usize::MAX]).unwrap_or(128);
+        tester.compared += 1;
+        if !agree(&bytes, far) {
+            let small = shrink(&bytes, |bytes| !agree(bytes, far));
+            return Err(format!("leads differs on record {}", to_hex(&small)));
+        }
+    }
+    Ok(())
+}
+
+/// Whether both sides answer alike for all pairs of some words.
+fn agree(bytes: &[u8], far: usize) -> bool {
+    let record = Record::read(bytes);
+    let size = record.as_ref().map_or(1, |record| record.vertex_count);
+    let reach = record
+        .as_ref()
+        .map(|record| Reachability::of(size, &record.edges));
+    let words: Vec<usize> = (0..size + 2).step_by(1 + size / 12).chain([far]).collect();
+    let expected = |u: usize, v: usize| match &reach {
+        Err(refusal) => (refusal.number(), 0),
+        Ok(_) if u >= size || v >= size => (3, 0),
+        Ok(reach) => (0, u8::from(reach.reaches(u, v))),
+    };
+    let found = |u, v| {
+        let told = raw::leads(bytes, u, v);
+        (told.refusal, told.leads)
+    };
+    let alike = |u: usize| words.iter().all(|&v| found(u, v) == expected(u, v));
+    words.iter().all(|&u| alike(u))
+}
+
+/// Strokes through places on the page, at its edges and beyond.
+pub fn strokes(tester: &mut Tester, generator: &mut Generator, count: usize) -> Outcome {
+    for column in 0..=PAGE_COLUMNS {
+        for row in 0..=PAGE_ROWS {
+            stroke(
+                tester,
+                &[Place::new(column, row), Place::new(row, column % PAGE_ROWS)],
+            )?;
+        }
+    }
+    for _ in 0..count {
+        let length = generator.between(2, 4);
+        let places: Vec<Place> = (0..length).map(|_| place(generator)).collect();
+        stroke(tester, &places)?;
+    }
+    Ok(())
+}
+
+fn place(generator: &mut Generator) -> Place {
+    let mut number = |bound: usize| match generator.below(40) {
+        0 => bound,
+        1 => u32::MAX as usize - generator.below(3),
+        2 => generator.below(1 << 32),
+        3 => bound - 1,
+        _ => generator.below(bound),
+    };
+    Place::new(number(PAGE_COLUMNS), number(PAGE_ROWS))
+}
+
+fn stroke(tester: &mut Tester, places: &[Place]) -> Outcome {
+    tester.compared += 1;
+    let numbers: Vec<[u32; 2]> = places
+        .iter()
+        .map(|p| [p.column as u32, p.row as u32])
+        .collect();
+    let found = match numbers[..] {
+        [a, b] => raw::stroke_straight([a, b]),
+        [a, b, c] => raw::stroke_bent([a, b, c]),
+        [a, b, c, d] => raw::stroke_side([a, b, c, d]),
+        _ => return Err(format!("no stroke has these places: {places:?}")),
+    };
+    let expected = expected(places);
+    match found == expected {
+        true => Ok(()),
+        false => Err(format!(
+            "stroke {places:?}: the proved library has {found:?}, not {expected:?}"
+        )),
+    }
+}
+
+fn expected(places: &[Place]) -> raw::Stroke {
+    let mut stroke = raw::Stroke {
+        refusal: 0,
+        points: 0,
+        places: [[0.0; 2]; 4],
+    };
+    match Polyline::through(places) {
+        Some(Ok(line)) => {
+            stroke.points = line.points().len() as u8;
+            for (place, point) in stroke.places.iter_mut().zip(line.points()) {
+                *place = [point.across(), point.up()];
+            }
+        }
+        Some(Err(refusal)) => stroke.refusal = refusal.number(),
+        None => {}
+    }
+    stroke
+}

@@ -1,0 +1,113 @@
+//! What install-check prints and answers, tried as a person would.
+
+use std::fs;
+use std::path::{Path, PathBuf};
+use std::process::{Command, Output};
+
+const SOUND: &[u8] = &[1, 0, 1, 2, 2, 0, 2, 0, 1];
+const RING: &[u8] = &[1, 0, 1, 1, 2, 0, 2, 0, 0];
+
+/// A folder of its own for each test, empty at first.
+fn folder(name: &str) -> PathBuf {
+    let folder = Path::new(env!("CARGO_TARGET_TMPDIR")).join(name);
+    let _ = fs::remove_dir_all(&folder);
+    fs::create_dir_all(&folder).expect("a folder");
+    folder
+}
+
+fn put(folder: &Path, name: &str, bytes: &[u8]) -> PathBuf {
+    let path = folder.join(name);
+    fs::write(&path, bytes).expect("a file");
+    path
+}
+
+fn run(arguments: &[&Path]) -> Output {
+    let program = env!("CARGO_BIN_EXE_install-check");
+    let output = Command::new(program).args(arguments).output();
+    output.expect("the program runs")
+}
+
+fn status(output: &Output) -> Option<i32> {
+    output.status.code()
+}
+
+fn text(bytes: &[u8]) -> String {
+    String::from_utf8_lossy(bytes).into_owned()
+}
+
+#[test]
+fn sound_records_pass() {
+    let folder = folder("sound");
+    put(&folder, "a", SOUND);
+    let output = run(&[&folder]);
+    assert_eq!(status(&output), Some(0));
+    let summary = "1 checked: 1 sound, 0 refused; 0 can't be read\n";
+    assert_eq!(text(&output.stdout), summary);
+    assert!(output.stderr.is_empty(), "no progress off a terminal");
+}
+
+#[test]
+fn refused_records_are_named_with_number_and_word() {
+    let folder = folder("refused");
+    fs::create_dir(folder.join("inner")).expect("a folder");
+    put(&folder, "a", SOUND);
+    put(&folder.join("inner"), "ring", RING);
+    put(&folder, "torn", &SOUND[..5]);
+    put(&folder, "long", &vec![1; 70_000]);
+    let output = run(&[&folder]);
+    assert_eq!(status(&output), Some(1));
+    let said = text(&output.stdout);
+    assert!(said.contains("inner/ring: refused 5 ring"), "{said}");
+    assert!(said.contains("torn: refused 1 layout"), "{said}");
+    assert!(said.contains("long: refused 1 layout"), "{said}");
+    assert!(said.ends_with("4 checked: 1 sound, 3 refused; 0 can't be read\n"));
+}
+
+#[test]
+fn a_file_that_cannot_be_read_gives_2() {
+    let folder = folder("unread");
+    let ring = put(&folder, "ring", RING);
+    let output = run(&[&ring, &folder.join("missing")]);
+    assert_eq!(status(&output), Some(2));
+    assert!(text(&output.stderr).contains("missing: can't be read"));
+    assert!(text(&output.stdout).contains("1 refused; 1 can't be read"));
+}
+
+#[test]
+fn lists_name_files() {
+    let folder = folder("list");
+    let sound = put(&folder, "sound", SOUND);
+    let ring = put(&folder, "ring", RING);
+    let lines = format!("{}\n\n{}\n", sound.display(), ring.display());
+    let list = put(&folder, "list", lines.as_bytes());
+    let output = run(&[Path::new("--list"), &list]);
+    assert_eq!(status(&output), Some(1));
+    assert!(text(&output.stdout).ends_with("2 checked: 1 sound, 1 refused; 0 can't be read\n"));
+}
+
+#[test]
+fn links_in_a_circle_end() {
+    let folder = folder("circle");
+    put(&folder, "a", SOUND);
+    std::os::unix::fs::symlink(&folder, folder.join("again")).expect("a link");
+    let output = run(&[&folder]);
+    assert_eq!(status(&output), Some(0));
+    assert!(text(&output.stdout).starts_with("1 checked"));
+}
+
+#[test]
+fn nothing_to_check_is_no_success() {
+    let empty = folder("empty");
+    for arguments in [vec![], vec![empty.as_path()], vec![Path::new("--what")]] {
+        let output = run(&arguments);
+        assert_eq!(status(&output), Some(2), "{arguments:?}");
+        assert!(text(&output.stderr).starts_with("install-check: "));
+    }
+}
+
+#[test]
+fn help_tells_the_use() {
+    let output = run(&[Path::new("--help")]);
+    assert_eq!(status(&output), Some(0));
+    assert!(text(&output.stdout).starts_with("usage: install-check"));
+}

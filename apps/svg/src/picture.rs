@@ -1,0 +1,130 @@
+//! The picture: words as numbered points, arrows as strokes by kind.
+
+use crate::listing::{Arrow, Kind, Listing};
+use reference::geometry::Place;
+use reference::strokes::{Point, Polyline, COLUMN_PITCH, ROW_PITCH};
+use std::fmt::Write;
+
+/// Points around the chart.
+const MARGIN: f32 = 16.0;
+/// The radius of a word's point.
+const RADIUS: f32 = 4.6;
+
+/// How strokes look: implied ones faint, each kind in its own way.
+const STYLE: &str = "
+  rect { fill: #fff }
+  .arrow { fill: none; stroke-linejoin: round; stroke-width: 0.9; marker-end: url(#head) }
+  .spine { stroke: #222; stroke-width: 1.6 }
+  .side { stroke: #1f5fa8 }
+  .straight { stroke: #2a7d46 }
+  .bent { stroke: #b5541c }
+  .implied { opacity: 0.28 }
+  circle { fill: #fff; stroke: #222; stroke-width: 0.9 }
+  text { font: 5px sans-serif; text-anchor: middle; fill: #222 }
+";
+
+/// The listing as SVG; the error names what lies off the page.
+pub fn svg(listing: &Listing) -> Result<String, String> {
+    let mut canvas = Canvas::new(listing)?;
+    // Faint strokes first, so that no firm one is covered.
+    let (implied, firm): (Vec<_>, Vec<_>) = (0..)
+        .zip(&listing.arrows)
+        .partition(|(_, arrow)| arrow.implied);
+    for (number, arrow) in implied.into_iter().chain(firm) {
+        canvas.arrow(number, arrow, listing)?;
+    }
+    for (number, word) in (0..).zip(&listing.words) {
+        canvas.word(number, word.place)?;
+    }
+    Ok(canvas.finish())
+}
+
+struct Canvas {
+    height: f32,
+    text: String,
+}
+
+impl Canvas {
+    fn new(listing: &Listing) -> Result<Canvas, String> {
+        let (columns, rows) = (listing.width.max(1) - 1, listing.rows.max(1) - 1);
+        let corner = point(Place::new(columns, rows))?;
+        let (width, height) = (corner.across() + 2.0 * MARGIN, corner.up() + 2.0 * MARGIN);
+        let mut text = String::new();
+        let _ = write!(
+            text,
+            "<svg xmlns=\"http://www.w3.org/2000/svg\" width=\"{width}pt\" height=\"{height}pt\" \
+             viewBox=\"0 0 {width} {height}\">\n\
+             <!-- column pitch {COLUMN_PITCH}, row pitch {ROW_PITCH} quarter points -->\n\
+             <style>{STYLE}</style>\n\
+             <defs><marker id=\"head\" viewBox=\"0 0 6 6\" refX=\"6\" refY=\"3\" markerWidth=\"4\" \
+             markerHeight=\"4\" markerUnits=\"userSpaceOnUse\" orient=\"auto\">\
+             <path d=\"M0 0 L6 3 L0 6 z\" fill=\"#444\"/></marker></defs>\n\
+             <rect width=\"100%\" height=\"100%\"/>\n"
+        );
+        Ok(Canvas { height, text })
+    }
+
+    fn arrow(&mut self, number: usize, arrow: &Arrow, listing: &Listing) -> Result<(), String> {
+        let lost = || format!("arrow {number} leaves the page");
+        let route = listing.route(arrow).ok_or_else(lost)?;
+        let stroke = Polyline::through(&route).ok_or_else(lost)?;
+        let stroke = stroke.map_err(|_| lost())?;
+        let places: Vec<(f32, f32)> = stroke.points().iter().map(|&at| self.at(at)).collect();
+        let class = match arrow.kind {
+            Kind::Spine => "spine",
+            Kind::Side(_) => "side",
+            Kind::Straight => "straight",
+            Kind::Bent(_) => "bent",
+        };
+        let implied = if arrow.implied { " implied" } else { "" };
+        let (from, to) = (arrow.from, arrow.to);
+        let _ = writeln!(
+            self.text,
+            "<path class=\"arrow {class}{implied}\" d=\"{}\"><title>{number}: {from} to {to}, \
+             {class}{implied}</title></path>",
+            path(&places)
+        );
+        Ok(())
+    }
+
+    fn word(&mut self, number: usize, place: Place) -> Result<(), String> {
+        let (x, y) = self.at(point(place)?);
+        let base = y + 1.8;
+        let _ = writeln!(
+            self.text,
+            "<circle cx=\"{x}\" cy=\"{y}\" r=\"{RADIUS}\"/><text x=\"{x}\" y=\"{base}\">{number}</text>"
+        );
+        Ok(())
+    }
+
+    /// Rows go up on the page and down in the picture.
+    fn at(&self, point: Point) -> (f32, f32) {
+        (MARGIN + point.across(), self.height - MARGIN - point.up())
+    }
+
+    fn finish(mut self) -> String {
+        self.text.push_str("</svg>\n");
+        self.text
+    }
+}
+
+fn point(place: Place) -> Result<Point, String> {
+    let lost = |_| format!("column {}, row {} is off the page", place.column, place.row);
+    Point::at(place).map_err(lost)
+}
+
+/// A path through the places that ends at the rim of the last word.
+fn path(places: &[(f32, f32)]) -> String {
+    let mut places = places.to_vec();
+    if let [.., (x, y), end] = &mut places[..] {
+        let (across, down) = (*x - end.0, *y - end.1);
+        let length = across.hypot(down).max(RADIUS);
+        *end = (
+            end.0 + across / length * RADIUS,
+            end.1 + down / length * RADIUS,
+        );
+    }
+    let step = |(x, y): &(f32, f32)| format!("{:.2} {:.2}", x, y);
+    let steps: Vec<String> = places.iter().map(step).collect();
+    format!("M{}", steps.join(" L"))
+}

@@ -1,0 +1,8 @@
+pub mod Asking
+pub mod Changing
+pub mod Filling
+pub mod Numbering
+pub mod Refusing
+pub mod Sequences
+pub mod Spelling
+pub mod Stroking

@@ -1,0 +1,64 @@
+-- `embed::state::masks_at` meets its contract: the invariant is a fill up to i. Assumes nothing.
+use mathlib.Core.Path.{refl}
+use Prim.Native.Nat.{ℕ, _+_, _-_, _≤_}
+use native.Mathlib.Omega.{arith}
+use lib.ListN.{getD, replicate}
+use borrow.Author.Needs.{needs}
+use Rattle.lists.specs.Filled.{Filled}
+use Rattle.embed.proofs.Filling.{filled-none, filled-more}
+use Rattle.embed.proofs.Spelling.{copied}
+use Rattle.embed.proofs.state.masks_at.Statement.{statement}
+use Rattle.embed.proofs.state.masks_at.Tie as tie
+
+abbrev Inv-loop : tie.InvT-loop
+Inv-loop state first masks₀ i₀ masks i = (i ≤ 256) × Filled (replicate 256 0) (λ (k : ℕ). getD state (first + k) 0) i masks
+
+abbrev μ-loop : tie.MeasureT-loop
+μ-loop state first masks₀ i₀ masks i = 256 - i
+
+loop-holds : tie.Need-loop-holds Inv-loop μ-loop
+loop-holds c = (omega arith, filled-none _ _)
+
+add-masks : tie.Need-add-masks Inv-loop μ-loop
+add-masks c = search needs
+
+mul-masks : tie.Need-mul-masks Inv-loop μ-loop
+mul-masks c = search needs
+
+shared-slice-read-masks : tie.Need-shared-slice-read-masks Inv-loop μ-loop
+shared-slice-read-masks c = search needs
+
+mul-masks-2 : tie.Need-mul-masks-2 Inv-loop μ-loop
+mul-masks-2 c = search needs
+
+array-write-masks : tie.Need-array-write-masks Inv-loop μ-loop
+array-write-masks c = search needs
+
+add-i : tie.Need-add-i Inv-loop μ-loop
+add-i c = search needs
+
+loop-less : tie.Need-loop-less Inv-loop μ-loop
+loop-less c = search needs
+
+loop-again : tie.Need-loop-again Inv-loop μ-loop
+loop-again c = (omega arith, filled-more _ _ _ _ _ (omega arith) refl (c .before .before .loop .inv .1))
+
+returns : tie.Need-returns Inv-loop μ-loop
+returns c = copied _ _ _ _ (c .before .before .pre) (c .before .loop .inv .0) (c .loop-test .left) (c .before .loop .inv .1)
+
+pub masks-at-spec : {M : Type 1} → statement M
+masks-at-spec =
+    tie.close
+    (tie.spec
+    Inv-loop
+    μ-loop
+    loop-holds
+    add-masks
+    mul-masks
+    shared-slice-read-masks
+    mul-masks-2
+    array-write-masks
+    add-i
+    loop-less
+    loop-again
+    returns)

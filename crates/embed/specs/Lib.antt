@@ -1,0 +1,5 @@
+pub mod Asked
+pub mod Calls
+pub mod Chart
+pub mod State
+pub mod Strokes

@@ -1,0 +1,113 @@
+/* Ceviloneth: descent charts by lines and rows, for C and whatever calls C.
+ *
+ * Link with libembed.a (x86-64 Linux). The library keeps nothing between calls, allocates nothing and uses memcpy and memset alone, so
+ * calls may run at the same time on lists of their own. A call takes up to 256 KiB of stack.
+ *
+ * Lists. A list is a pointer and its number of numbers (not of bytes). A pointer is never NULL, also where the number is 0, and is
+ * aligned for its type. The lists of one call do not overlap. Beyond this every call takes any values: a damaged record, a short list,
+ * any numbers in a session. It then refuses, or answers as said below.
+ *
+ * Refusals. Each call tells 0, or why it refuses:
+ *    1 layout    the record's fields, lengths or order are not as they must be
+ *    2 size      no word or more than 128, or more than 4,096 arrows
+ *    3 stranger  a word that is not there is named
+ *    4 double    an arrow stands twice
+ *    5 ring      a word leads to itself
+ *    6 cover     house lines lack or repeat a word
+ *    7 broken    a house line's word isn't led to by the one before
+ *    8 short     a lent list is too short
+ *    9 full      the session has 4,096 arrows
+ *   10 off page  a column of 640 or more, or a row of 128 or more
+ * A call that refuses changes nothing in any list, and every other number that it returns is 0.
+ */
+#ifndef CEVILONETH_H
+#define CEVILONETH_H
+
+#include <stddef.h>
+#include <stdint.h>
+
+#ifdef __cplusplus
+extern "C" {
+#endif
+
+/* ---- charts */
+
+/* Lists that hold every chart have this many numbers. */
+#define CEVILONETH_WORDS 640     /* 128 words, 5 numbers each */
+#define CEVILONETH_ARROWS 20480  /* 4,096 arrows, 5 numbers each */
+#define CEVILONETH_BUNDLES 1024  /* 256 bundles, 4 numbers each */
+
+typedef struct {
+    uint8_t refusal;
+    size_t words;   /* entries written: not numbers */
+    size_t arrows;
+    size_t bundles;
+    uint8_t rows;
+    uint8_t lines;
+    uint16_t firm;  /* arrows that are not implied */
+    uint16_t width; /* in columns */
+    uint16_t side_columns[128]; /* of each line; 0 past the last */
+} ceviloneth_counts;
+
+/* Draws the record: its bytes are three tagged fields (word count, arrows, house lines).
+ *   words    word i has the numbers 5i to 5i+4: line, position in the line, column, row, number of descendants
+ *   arrows   arrow i has 5i to 5i+4: its number i; its kind, 0 spine, 1 side, 2 straight, 3 bent; the bundle's number if it is a side
+ *            arrow or the bend's column if it is bent, else 0; the bend's row if it is bent, else 0; 1 if it is implied, else 0
+ *   bundles  bundle i has 4i to 4i+3: line, first row, last row, side column
+ * Refusals 1 to 7 of the record, then 8 where a list has no room for all its entries. Numbers past the last entry stay as they were. */
+ceviloneth_counts ceviloneth_chart(const uint8_t *record, size_t record_len,
+                                   uint16_t *words, size_t words_len,
+                                   uint16_t *arrows, size_t arrows_len,
+                                   uint16_t *bundles, size_t bundles_len);
+
+/* ---- what leads where */
+
+typedef struct {
+    uint8_t refusal;
+    uint8_t leads; /* 1 if one or more arrows in a row go from the first word to the second, else 0 */
+} ceviloneth_answer;
+
+/* Whether one word of a record leads to another. Refusals 1 to 7 of the record, then 3 where either is no word of it. */
+ceviloneth_answer ceviloneth_leads(const uint8_t *record, size_t record_len, size_t from, size_t to);
+
+/* ---- sessions: a graph that grows arrow by arrow, in a list that the caller keeps */
+
+/* The numbers of a session: words, arrows, 256 masks of arrows, 256 masks of descent. A mask has bit v mod 64, lowest first, of mask
+ * 2u + v/64 for an arrow (or a descent) from word u to word v. */
+#define CEVILONETH_STATE 514
+
+/* Every call refuses with 8 first where the list is shorter than that. Numbers past 514 stay as they were. A list that was not made by
+ * these calls is answered for as its numbers stand; words past 128 count as none. */
+
+/* A session of so many words and no arrows. Refusal 2. */
+uint8_t ceviloneth_session_start(uint64_t *state, size_t state_len, size_t words);
+
+/* Adds an arrow. Refusals 3, 4, 5 and 9, in this order. */
+uint8_t ceviloneth_session_add(uint64_t *state, size_t state_len, size_t from, size_t to);
+
+/* Whether one word leads to another by the arrows added. Refusal 3. */
+ceviloneth_answer ceviloneth_session_leads(const uint64_t *state, size_t state_len, size_t from, size_t to);
+
+/* ---- page strokes: places by column and row, as points across (x) and up (y), each exactly a quarter of a whole number */
+
+typedef struct {
+    uint8_t refusal;
+    uint8_t points; /* 2, 3 or 4; 0 where refused */
+    float x0, y0, x1, y1, x2, y2, x3, y3; /* 0.0 past the last point */
+} ceviloneth_stroke;
+
+/* From (c0, r0) to (c1, r1). Each call refuses with 10 where any of its places is off the page. */
+ceviloneth_stroke ceviloneth_stroke_straight(uint32_t c0, uint32_t r0, uint32_t c1, uint32_t r1);
+
+/* From (c0, r0) by the bend (c1, r1) to (c2, r2). */
+ceviloneth_stroke ceviloneth_stroke_bent(uint32_t c0, uint32_t r0, uint32_t c1, uint32_t r1, uint32_t c2, uint32_t r2);
+
+/* From (c0, r0) by the corners (c1, r1) and (c2, r2), in a side column, to (c3, r3). */
+ceviloneth_stroke ceviloneth_stroke_side(uint32_t c0, uint32_t r0, uint32_t c1, uint32_t r1,
+                                         uint32_t c2, uint32_t r2, uint32_t c3, uint32_t r3);
+
+#ifdef __cplusplus
+}
+#endif
+
+#endif
