@@ -51,6 +51,8 @@ def main():
         record = rule()
         (folder / f'{rule.__name__}.record').write_bytes(record)
         (folder / f'{rule.__name__}.listing').write_bytes(listing(record))
+    # made once at random, and kept
+    (folder / 'large.listing').write_bytes(listing((HERE / 'large.record').read_bytes()))
 
 
 main()

@@ -2,7 +2,7 @@
  *
  *     rt staticlib embed
  *     cc -std=c99 -Wall -Iinclude -o target/draw examples/c/draw.c target/staticlib/libembed.a
- *     target/draw examples/records/P5.rec
+ *     target/draw samples/p5.record
  */
 #include "ceviloneth.h"
 #include <stdio.h>

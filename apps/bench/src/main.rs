@@ -27,8 +27,8 @@ Made by one command, from the root of the repository, after `rt staticlib embed`
 
 The proved library and the second implementation (`tests/reference`, which is made for clarity) run in
 one process, in turn, on the same inputs, both as release builds. The lists are made once, with room for
-every chart, and lent again and again: caches are warm. Records are in memory. A figure is the median of
-seven turns of 0.15 s or more. A ratio below 1 says that the proved library is faster.
+every chart, and lent again and again: caches are warm. Records are in memory. A figure is the best of
+nine turns of 0.15 s or more. A ratio below 1 says that the proved library is faster.
 ";
 
 fn main() {

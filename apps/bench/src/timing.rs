@@ -2,22 +2,19 @@
 
 use std::time::{Duration, Instant};
 
-/// Turns, of which the median counts; each lasts at least so long.
-const TURNS: usize = 7;
+/// Turns, of which the best counts, as other work on the machine only adds; each lasts at least so long.
+const TURNS: usize = 9;
 const TURN: Duration = Duration::from_millis(150);
 
-/// Seconds for a round of each side: the median of several turns, the sides one after the other.
+/// Seconds for a round of each side: the best of several turns, the sides one after the other.
 pub fn seconds(mut proved: impl FnMut(), mut second: impl FnMut()) -> [f64; 2] {
     let rounds = [rounds(&mut proved), rounds(&mut second)];
-    let mut turns = [Vec::new(), Vec::new()];
+    let mut best = [f64::INFINITY; 2];
     for _ in 0..TURNS {
-        turns[0].push(turn(&mut proved, rounds[0]));
-        turns[1].push(turn(&mut second, rounds[1]));
+        best[0] = best[0].min(turn(&mut proved, rounds[0]));
+        best[1] = best[1].min(turn(&mut second, rounds[1]));
     }
-    turns.map(|mut turns| {
-        turns.sort_by(f64::total_cmp);
-        turns[TURNS / 2]
-    })
+    best
 }
 
 /// How many rounds fill a turn; also warms up.

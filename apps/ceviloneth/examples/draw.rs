@@ -1,7 +1,7 @@
 //! Draws the record in a file, follows its arrows in a session, and places the first one on a page.
 //!
 //!     rt staticlib embed
-//!     cd apps && cargo run --release --offline --example draw -- ../examples/records/P1.rec
+//!     cd apps && cargo run --release --offline --example draw -- ../samples/p1.record
 
 use ceviloneth::{stroke_straight, Chart, Place, Refusal, Session};
 use std::process::ExitCode;

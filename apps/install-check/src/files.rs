@@ -25,9 +25,14 @@ impl Files {
     }
 
     fn try_add(&mut self, path: &Path) -> io::Result<()> {
-        if !fs::metadata(path)?.is_dir() {
+        let kind = fs::metadata(path)?;
+        if kind.is_file() {
             self.found.push(path.to_path_buf());
             return Ok(());
+        }
+        if !kind.is_dir() {
+            // A pipe could keep the check waiting for ever.
+            return Err(io::Error::other("neither a file nor a folder"));
         }
         if !self.searched.insert(path.canonicalize()?) {
             return Ok(());

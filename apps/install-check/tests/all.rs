@@ -74,6 +74,13 @@ fn a_file_that_cannot_be_read_gives_2() {
 }
 
 #[test]
+fn a_device_is_no_record() {
+    let output = run(&[Path::new("/dev/null")]);
+    assert_eq!(status(&output), Some(2));
+    assert!(text(&output.stderr).contains("neither a file nor a folder"));
+}
+
+#[test]
 fn lists_name_files() {
     let folder = folder("list");
     let sound = put(&folder, "sound", SOUND);

@@ -62,7 +62,8 @@ fn bends_stand_where_the_listing_says() {
 fn the_pictures_in_docs_are_what_it_draws() {
     for name in ["P1", "P5", "P6", "large"] {
         let root = concat!(env!("CARGO_MANIFEST_DIR"), "/../..");
-        let record = std::fs::read(format!("{root}/examples/records/{name}.rec"));
+        let sample = name.to_lowercase();
+        let record = std::fs::read(format!("{root}/samples/{sample}.record"));
         let kept = std::fs::read_to_string(format!("{root}/docs/pictures/{name}.svg"));
         let drawn = picture(&listing(&record.expect("the record")));
         assert_eq!(drawn, kept.expect("the picture"), "{name}");

@@ -101,7 +101,7 @@ fn fitted(d: Drawing, vertices: usize, edges: usize, bundles: usize) -> Drawing
     d
 }
 
-// What is handed over of a graph, and of a record.
+// What is handed over of a graph.
 fn plan_graph(g: Graph, vertices: usize, edges: usize, bundles: usize) -> Drawing
     ensures { λ r. ⌜ Planned (graphDrawn g) vertices edges bundles r ⌝ }
 {
@@ -109,7 +109,8 @@ fn plan_graph(g: Graph, vertices: usize, edges: usize, bundles: usize) -> Drawin
     fitted(d, vertices, edges, bundles)
 }
 
-fn plan_record(bytes: &[u8], vertices: usize, edges: usize, bundles: usize) -> Drawing
+// The same of a record, for any lengths; also for lists of another shape that have room for so many entries (embed).
+pub fn plan_record(bytes: &[u8], vertices: usize, edges: usize, bundles: usize) -> Drawing
     ensures { λ r. ⌜ Planned (recordDrawn (now (bytes .entry))) vertices edges bundles r ⌝ }
 {
     let d = drawing::of_record(bytes);

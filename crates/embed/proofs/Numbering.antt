@@ -1,50 +1,55 @@
 -- From the drawing's tables to the promise. Assumes nothing.
-use mathlib.Core.Path.{_≡_, sym, ap, subst}
+use mathlib.Core.Path.{_≡_, refl, sym, ap, subst}
 use mathlib.Core.List.{List}
-use Prim.Native.Nat.{ℕ, _*_, _/_, _%_}
+use Prim.Native.Nat.{ℕ, _+_, _*_, _/_, _%_, _≤_}
 use native.Mathlib.Omega.{arith}
-use lib.ListN.{getD}
+use lib.Dec.{eqb}
+use lib.ListN.{length, getD, set}
+use Rattle.counting.specs.Count.{indicator}
 use Rattle.lists.specs.Filled.{Filled}
 use Rattle.lists.proofs.Written.{refilled}
 use Rattle.outline.specs.declared.VertexEntry.{VertexEntry}
 use Rattle.outline.specs.declared.EdgeEntry.{EdgeEntry}
 use Rattle.outline.specs.declared.BundleEntry.{BundleEntry}
-use borrow.Author.Tests.{eq-eqb, ne-eqb}
-use Rattle.drawing.specs.Promise.{Drawn, Draws, kindOf, edgeAt}
+use Rattle.drawing.specs.Promise.{Drawn, Draws, kindOf, vertexAt, edgeAt, bundleAt}
 use Rattle.drawing.specs.declared.Drawing.{Drawing}
 use Rattle.embed.specs.declared.ChartCounts.{ChartCounts}
 use Rattle.embed.specs.declared.flat.Shape.{Shape}
-use Rattle.embed.specs.Chart.{wordNumber, arrowNumber, bundleNumber, wordAt, arrowAt, bundleNumberAt, Shapes, countsOf, Left}
+use Rattle.embed.specs.Chart.{wordNumber, arrowNumber, bundleNumber, wordFrom, arrowFrom, bundleFrom, wordsOf, arrowsOf, bundlesOf, wordAt, arrowAt, bundleNumberAt, Shapes, countsOf, Left}
+use Rattle.embed.proofs.Filling.{five-stored, four-stored}
 
--- ---- number i of the list of arrows, by the number of its field
+-- ---- an entry more
 
-module _ (d : Drawing) (i : ℕ) where
-  pub arrow-first : i % 5 ≡ 0 → i / 5 ≡ arrowAt d i
-  unfolding arrowNumber edgeAt
-  arrow-first e = simp (eq-eqb _ _ e)
+module _ (ys zs : List ℕ) (v : ℕ) where
+  pub words-more : (channel position column row descendants : List ℕ) → (v + 1) * 5 ≤ length ys → Filled ys (wordsOf channel position column row descendants) (v * 5) zs
+      → Filled ys (wordsOf channel position column row descendants) ((v + 1) * 5) (set (set (set (set (set zs (v * 5) (getD channel v 0)) (v * 5 + 1) (getD position v 0)) (v * 5 + 2) (getD column v 0)) (v * 5 + 3) (getD row v 0)) (v * 5 + 4) (getD descendants v 0))
+  unfolding wordNumber wordFrom
+  words-more channel position column row descendants = five-stored wordNumber (wordFrom channel position column row descendants) v ys zs _ _ _ _ refl refl refl refl _ refl
 
-  module _ (n₀ : i % 5 ≡ 0 → ⊥) where
-    module _ (s : Shape) (h : Shapes (kindOf (getD (d .code) (i / 5) 0) (getD (d .value) (i / 5) 0) (getD (d .«bend_row») (i / 5) 0)) s) where
-      pub arrow-code : i % 5 ≡ 1 → s .code ≡ arrowAt d i
-      unfolding arrowNumber edgeAt
-      arrow-code e = simp (ne-eqb _ _ n₀, eq-eqb _ _ e) (h .code)
+  pub arrows-more : (code value row mark : List ℕ) (s : Shape) (x : ℕ) → Shapes (kindOf (getD code v 0) (getD value v 0) (getD row v 0)) s → x ≡ indicator (eqb (getD mark v 0) 1) → (v + 1) * 5 ≤ length ys
+      → Filled ys (arrowsOf code value row mark) (v * 5) zs → Filled ys (arrowsOf code value row mark) ((v + 1) * 5) (set (set (set (set (set zs (v * 5) v) (v * 5 + 1) (s .code)) (v * 5 + 2) (s .value)) (v * 5 + 3) (s .row)) (v * 5 + 4) x)
+  unfolding arrowNumber arrowFrom
+  arrows-more code value row mark s x h e = five-stored arrowNumber (arrowFrom code value row mark) v ys zs _ _ _ _ refl (h .code) (h .value) (h .row) _ e
 
-      pub arrow-value : (i % 5 ≡ 1 → ⊥) → i % 5 ≡ 2 → s .value ≡ arrowAt d i
-      unfolding arrowNumber edgeAt
-      arrow-value n₁ e = simp (ne-eqb _ _ n₀, ne-eqb _ _ n₁, eq-eqb _ _ e) (h .value)
+  pub bundles-more : (channel first last track : List ℕ) → (v + 1) * 4 ≤ length ys → Filled ys (bundlesOf channel first last track) (v * 4) zs
+      → Filled ys (bundlesOf channel first last track) ((v + 1) * 4) (set (set (set (set zs (v * 4) (getD channel v 0)) (v * 4 + 1) (getD first v 0)) (v * 4 + 2) (getD last v 0)) (v * 4 + 3) (getD track v 0))
+  unfolding bundleNumber bundleFrom
+  bundles-more channel first last track = four-stored bundleNumber (bundleFrom channel first last track) v ys zs _ _ _ _ refl refl refl refl
 
-      pub arrow-row : (i % 5 ≡ 1 → ⊥) → (i % 5 ≡ 2 → ⊥) → i % 5 ≡ 3 → s .row ≡ arrowAt d i
-      unfolding arrowNumber edgeAt
-      arrow-row n₁ n₂ e = simp (ne-eqb _ _ n₀, ne-eqb _ _ n₁, ne-eqb _ _ n₂, eq-eqb _ _ e) (h .row)
+-- ---- a drawing's lists
 
-    module _ (n₁ : i % 5 ≡ 1 → ⊥) (n₂ : i % 5 ≡ 2 → ⊥) (n₃ : i % 5 ≡ 3 → ⊥) where
-      pub arrow-implied : getD (d .mark) (i / 5) 0 ≡ 1 → 1 ≡ arrowAt d i
-      unfolding arrowNumber edgeAt
-      arrow-implied m = simp (ne-eqb _ _ n₀, ne-eqb _ _ n₁, ne-eqb _ _ n₂, ne-eqb _ _ n₃, eq-eqb _ _ m)
+module _ (d : Drawing) where
+  pub words-drawn : (ys zs : List ℕ) (n : ℕ) → Filled ys (wordsOf (d .channel) (d .position) (d .column) (d .row) (d .descendants)) n zs → Filled ys (wordAt d) n zs
+  unfolding wordFrom vertexAt
+  words-drawn ys zs n h = h
 
-      pub arrow-firm : (getD (d .mark) (i / 5) 0 ≡ 1 → ⊥) → 0 ≡ arrowAt d i
-      unfolding arrowNumber edgeAt
-      arrow-firm m = simp (ne-eqb _ _ n₀, ne-eqb _ _ n₁, ne-eqb _ _ n₂, ne-eqb _ _ n₃, ne-eqb _ _ m)
+  pub arrows-drawn : (ys zs : List ℕ) (n : ℕ) → Filled ys (arrowsOf (d .code) (d .value) (d .«bend_row») (d .mark)) n zs → Filled ys (arrowAt d) n zs
+  unfolding arrowFrom edgeAt
+  arrows-drawn ys zs n h = h
+
+  pub bundles-drawn : (ys zs : List ℕ) (n : ℕ) → Filled ys (bundlesOf (d .«bundle_channel») (d .«first_row») (d .«last_row») (d .track)) n zs → Filled ys (bundleNumberAt d) n zs
+  unfolding bundleFrom bundleAt
+  bundles-drawn ys zs n h = h
 
 -- ---- the lists by the chart's definitions
 

@@ -13,7 +13,7 @@ use Rattle.outline.specs.declared.Kind.{Kind}
 use Rattle.outline.specs.declared.VertexEntry.{VertexEntry}
 use Rattle.outline.specs.declared.EdgeEntry.{EdgeEntry}
 use Rattle.outline.specs.declared.BundleEntry.{BundleEntry}
-use Rattle.drawing.specs.Promise.{Drawn, recordDrawn, vertexAt, edgeAt, bundleAt}
+use Rattle.drawing.specs.Promise.{Drawn, recordDrawn, kindOf, vertexAt, edgeAt, bundleAt}
 use Rattle.drawing.specs.Parts.{codeOf}
 use Rattle.drawing.specs.declared.Drawing.{Drawing}
 use Rattle.charts.specs.Promise.{lent}
@@ -80,7 +80,28 @@ pub record Left (d : Drawn) (ws es bs : List ℕ) (r : ChartCounts) (ws′ es′
 abbrev pub HandedFlat : List ℕ → List ℕ → List ℕ → List ℕ → ChartCounts → List ℕ → List ℕ → List ℕ → Type 0
 HandedFlat b ws es bs = Left (lent (length ws / 5) (length es / 5) (length bs / 4) (recordDrawn b)) ws es bs
 
--- ---- the steps, by the drawing's tables
+-- ---- the steps: an entry as tables have it, and number i of the list of such entries
+
+module _ (channel position column row descendants : List ℕ) where
+  unfoldable pub wordFrom : ℕ → VertexEntry
+  wordFrom v = record { channel = getD channel v 0; position = getD position v 0; column = getD column v 0; row = getD row v 0; descendants = getD descendants v 0 }
+
+  abbrev pub wordsOf : ℕ → ℕ
+  wordsOf = words wordFrom
+
+module _ (code value row mark : List ℕ) where
+  unfoldable pub arrowFrom : ℕ → EdgeEntry
+  arrowFrom e = record { number = e; kind = kindOf (getD code e 0) (getD value e 0) (getD row e 0); transitive = eqb (getD mark e 0) 1 }
+
+  abbrev pub arrowsOf : ℕ → ℕ
+  arrowsOf = arrows arrowFrom
+
+module _ (channel first last track : List ℕ) where
+  unfoldable pub bundleFrom : ℕ → BundleEntry
+  bundleFrom b = record { channel = getD channel b 0; «first_row» = getD first b 0; «last_row» = getD last b 0; track = getD track b 0 }
+
+  abbrev pub bundlesOf : ℕ → ℕ
+  bundlesOf = bundles bundleFrom
 
 abbrev pub wordAt : Drawing → ℕ → ℕ
 wordAt d = words (vertexAt d)

@@ -1,11 +1,12 @@
 // A drawing as lists of numbers.
 ghost use mathlib.Core.Path.{_≡_};
-ghost use Prim.Native.Nat.{_<_, _≤_};
+ghost use Prim.Native.Nat.{_*_, _≤_};
+ghost use lib.Dec.{eqb};
 ghost use lib.ListN.{length};
+ghost use Rattle.counting.specs.Count.{indicator};
 ghost use Rattle.lists.specs.Filled.{Filled};
-ghost use Rattle.drawing.specs.Promise.{kindOf, recordDrawn};
-ghost use Rattle.charts.specs.Steps.{Bounded, Fitted, Planned};
-ghost use Rattle.embed.specs.Chart.{Shapes, wordAt, arrowAt, bundleNumberAt, countsOf};
+ghost use Rattle.drawing.specs.Promise.{kindOf};
+ghost use Rattle.embed.specs.Chart.{Shapes, wordsOf, arrowsOf, bundlesOf, wordAt, arrowAt, bundleNumberAt, countsOf};
 use crate::ChartCounts;
 use drawing::Drawing;
 
@@ -15,33 +16,6 @@ pub(crate) const WORD_NUMBERS: usize = 5;
 pub(crate) const ARROW_NUMBERS: usize = 5;
 
 pub(crate) const BUNDLE_NUMBERS: usize = 4;
-
-// ---- what is handed over into lists of given lengths
-
-// The drawing, or 8 and nothing where a list has fewer entries than are needed.
-fn fitted(d: Drawing, words: usize, arrows: usize, bundles: usize) -> Drawing
-    requires { ⌜ Bounded d ⌝ }
-    ensures { λ r. ⌜ Fitted d words arrows bundles r ⌝ }
-{
-    if words < d.vertices {
-        return drawing::blank(8);
-    }
-    if arrows < d.edges {
-        return drawing::blank(8);
-    }
-    if bundles < d.bundles {
-        return drawing::blank(8);
-    }
-    d
-}
-
-// The same of a record.
-pub(crate) fn plan(bytes: &[u8], words: usize, arrows: usize, bundles: usize) -> Drawing
-    ensures { λ r. ⌜ Planned (recordDrawn (now (bytes .entry))) words arrows bundles r ⌝ }
-{
-    let d = drawing::of_record(bytes);
-    fitted(d, words, arrows, bundles)
-}
 
 pub(crate) fn summary(d: Drawing) -> ChartCounts
     ensures { λ r. ⌜ r ≡ countsOf d ⌝ }
@@ -60,28 +34,7 @@ pub(crate) fn summary(d: Drawing) -> ChartCounts
     }
 }
 
-// ---- number i of each list
-
-fn word_number_at(d: Drawing, i: usize) -> u16
-    requires { ⌜ i < 640 ⌝ }
-    ensures { λ r. ⌜ r ≡ wordAt d i ⌝ }
-{
-    let v = i / WORD_NUMBERS;
-    let f = i % WORD_NUMBERS;
-    if f == 0 {
-        return d.channel[v] as u16;
-    }
-    if f == 1 {
-        return d.position[v] as u16;
-    }
-    if f == 2 {
-        return d.column[v];
-    }
-    if f == 3 {
-        return d.row[v] as u16;
-    }
-    d.descendants[v] as u16
-}
+// ---- an arrow's numbers
 
 // An arrow's kind as three numbers; those that its kind has not are 0.
 struct Shape {
@@ -121,74 +74,121 @@ fn shape_of(code: u8, value: u16, row: u8) -> Shape
     }
 }
 
-fn arrow_number_at(d: Drawing, i: usize) -> u16
-    requires { ⌜ i < 20480 ⌝ }
-    ensures { λ r. ⌜ r ≡ arrowAt d i ⌝ }
+fn implied(mark: u8) -> u16
+    ensures { λ r. ⌜ r ≡ indicator (eqb mark 1) ⌝ }
 {
-    let e = i / ARROW_NUMBERS;
-    let f = i % ARROW_NUMBERS;
-    let shape = shape_of(d.code[e], d.value[e], d.bend_row[e]);
-    if f == 0 {
-        return e as u16;
-    }
-    if f == 1 {
-        return shape.code;
-    }
-    if f == 2 {
-        return shape.value;
-    }
-    if f == 3 {
-        return shape.row;
-    }
-    if d.mark[e] == 1 {
+    if mark == 1 {
         return 1;
     }
     0
 }
 
-fn bundle_number_at(d: Drawing, i: usize) -> u16
-    requires { ⌜ i < 1024 ⌝ }
-    ensures { λ r. ⌜ r ≡ bundleNumberAt d i ⌝ }
-{
-    let b = i / BUNDLE_NUMBERS;
-    let f = i % BUNDLE_NUMBERS;
-    if f == 0 {
-        return d.bundle_channel[b] as u16;
-    }
-    if f == 1 {
-        return d.first_row[b] as u16;
-    }
-    if f == 2 {
-        return d.last_row[b] as u16;
-    }
-    d.track[b] as u16
-}
+// ---- the lists, from the tables, an entry at a time
 
-// ---- the lists
-
-pub(crate) fn fill_words(out: &mut [u16], d: Drawing, top: usize)
-    requires { ⌜ (top ≤ length (now out)) × (top ≤ 640) ⌝ }
-    ensures { λ _. ⌜ Filled (now (out .entry)) (wordAt d) top (now (out .exit)) ⌝ }
+fn put_words<'c, 'p, 'l, 'r, 'd>(
+    out: &mut [u16],
+    channel: &'c [u8],
+    position: &'p [u8],
+    column: &'l [u16],
+    row: &'r [u8],
+    descendants: &'d [u8],
+    top: usize,
+)
+    requires { ⌜ (top * 5 ≤ length (now out)) × (top ≤ 128) × (length (now channel) ≡ 128) × (length (now position) ≡ 128) × (length (now column) ≡ 128) × (length (now row) ≡ 128) × (length (now descendants) ≡ 128) ⌝ }
+    ensures { λ _. ⌜ Filled (now (out .entry)) (wordsOf (now (channel .entry)) (now (position .entry)) (now (column .entry)) (now (row .entry)) (now (descendants .entry))) (top * 5) (now (out .exit)) ⌝ }
 {
-    for i in 0..top {
-        out[i] = word_number_at(d, i);
+    for v in 0..top {
+        let i = v * WORD_NUMBERS;
+        out[i] = channel[v] as u16;
+        out[i + 1] = position[v] as u16;
+        out[i + 2] = column[v];
+        out[i + 3] = row[v] as u16;
+        out[i + 4] = descendants[v] as u16;
     }
 }
 
-pub(crate) fn fill_arrows(out: &mut [u16], d: Drawing, top: usize)
-    requires { ⌜ (top ≤ length (now out)) × (top ≤ 20480) ⌝ }
-    ensures { λ _. ⌜ Filled (now (out .entry)) (arrowAt d) top (now (out .exit)) ⌝ }
+fn put_arrows<'c, 'v, 'r, 'm>(
+    out: &mut [u16],
+    code: &'c [u8],
+    value: &'v [u16],
+    row: &'r [u8],
+    mark: &'m [u8],
+    top: usize,
+)
+    requires { ⌜ (top * 5 ≤ length (now out)) × (top ≤ 4096) × (length (now code) ≡ 4096) × (length (now value) ≡ 4096) × (length (now row) ≡ 4096) × (length (now mark) ≡ 4096) ⌝ }
+    ensures { λ _. ⌜ Filled (now (out .entry)) (arrowsOf (now (code .entry)) (now (value .entry)) (now (row .entry)) (now (mark .entry))) (top * 5) (now (out .exit)) ⌝ }
 {
-    for i in 0..top {
-        out[i] = arrow_number_at(d, i);
+    for e in 0..top {
+        let shape = shape_of(code[e], value[e], row[e]);
+        let i = e * ARROW_NUMBERS;
+        out[i] = e as u16;
+        out[i + 1] = shape.code;
+        out[i + 2] = shape.value;
+        out[i + 3] = shape.row;
+        out[i + 4] = implied(mark[e]);
     }
 }
 
-pub(crate) fn fill_bundles(out: &mut [u16], d: Drawing, top: usize)
-    requires { ⌜ (top ≤ length (now out)) × (top ≤ 1024) ⌝ }
-    ensures { λ _. ⌜ Filled (now (out .entry)) (bundleNumberAt d) top (now (out .exit)) ⌝ }
+fn put_bundles<'c, 'f, 'l, 't>(
+    out: &mut [u16],
+    channel: &'c [u8],
+    first_row: &'f [u8],
+    last_row: &'l [u8],
+    track: &'t [u8],
+    top: usize,
+)
+    requires { ⌜ (top * 4 ≤ length (now out)) × (top ≤ 256) × (length (now channel) ≡ 256) × (length (now «first_row») ≡ 256) × (length (now «last_row») ≡ 256) × (length (now track) ≡ 256) ⌝ }
+    ensures { λ _. ⌜ Filled (now (out .entry)) (bundlesOf (now (channel .entry)) (now («first_row» .entry)) (now («last_row» .entry)) (now (track .entry))) (top * 4) (now (out .exit)) ⌝ }
 {
-    for i in 0..top {
-        out[i] = bundle_number_at(d, i);
+    for b in 0..top {
+        let i = b * BUNDLE_NUMBERS;
+        out[i] = channel[b] as u16;
+        out[i + 1] = first_row[b] as u16;
+        out[i + 2] = last_row[b] as u16;
+        out[i + 3] = track[b] as u16;
     }
+}
+
+// ---- the same of a drawing
+
+pub(crate) fn fill_words(out: &mut [u16], d: Drawing)
+    requires { ⌜ (d .vertices * 5 ≤ length (now out)) × (d .vertices ≤ 128) ⌝ }
+    ensures { λ _. ⌜ Filled (now (out .entry)) (wordAt d) (d .vertices * 5) (now (out .exit)) ⌝ }
+{
+    let channel = d.channel;
+    let position = d.position;
+    let column = d.column;
+    let row = d.row;
+    let descendants = d.descendants;
+    put_words(
+        out,
+        &channel,
+        &position,
+        &column,
+        &row,
+        &descendants,
+        d.vertices,
+    );
+}
+
+pub(crate) fn fill_arrows(out: &mut [u16], d: Drawing)
+    requires { ⌜ (d .edges * 5 ≤ length (now out)) × (d .edges ≤ 4096) ⌝ }
+    ensures { λ _. ⌜ Filled (now (out .entry)) (arrowAt d) (d .edges * 5) (now (out .exit)) ⌝ }
+{
+    let code = d.code;
+    let value = d.value;
+    let row = d.bend_row;
+    let mark = d.mark;
+    put_arrows(out, &code, &value, &row, &mark, d.edges);
+}
+
+pub(crate) fn fill_bundles(out: &mut [u16], d: Drawing)
+    requires { ⌜ (d .bundles * 4 ≤ length (now out)) × (d .bundles ≤ 256) ⌝ }
+    ensures { λ _. ⌜ Filled (now (out .entry)) (bundleNumberAt d) (d .bundles * 4) (now (out .exit)) ⌝ }
+{
+    let channel = d.bundle_channel;
+    let first_row = d.first_row;
+    let last_row = d.last_row;
+    let track = d.track;
+    put_bundles(out, &channel, &first_row, &last_row, &track, d.bundles);
 }

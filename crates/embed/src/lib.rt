@@ -17,7 +17,6 @@ use flat::WORD_NUMBERS;
 use flat::fill_arrows;
 use flat::fill_bundles;
 use flat::fill_words;
-use flat::plan;
 use flat::summary;
 use page::Cell;
 use state::STATE_NUMBERS;
@@ -53,15 +52,15 @@ pub extern "C" fn ceviloneth_chart(
 ) -> ChartCounts
     ensures { λ r. ⌜ HandedFlat (now (bytes .entry)) (now (words .entry)) (now (arrows .entry)) (now (bundles .entry)) r (now (words .exit)) (now (arrows .exit)) (now (bundles .exit)) ⌝ }
 {
-    let d = plan(
+    let d = charts::plan_record(
         bytes,
         words.len() / WORD_NUMBERS,
         arrows.len() / ARROW_NUMBERS,
         bundles.len() / BUNDLE_NUMBERS,
     );
-    fill_words(words, d, d.vertices * WORD_NUMBERS);
-    fill_arrows(arrows, d, d.edges * ARROW_NUMBERS);
-    fill_bundles(bundles, d, d.bundles * BUNDLE_NUMBERS);
+    fill_words(words, d);
+    fill_arrows(arrows, d);
+    fill_bundles(bundles, d);
     summary(d)
 }
 

@@ -1,26 +1,17 @@
--- `embed::ceviloneth_chart` meets its contract, from what `plan`, the three fills and `summary` ensure. Assumes nothing.
+-- `embed::ceviloneth_chart` meets its contract, from what `plan_record`, the three fills and `summary` ensure. Assumes nothing.
 use borrow.Author.Needs.{needs}
 use Rattle.embed.proofs.Numbering.{left}
 use Rattle.embed.proofs.ceviloneth_chart.Statement.{statement}
 use Rattle.embed.proofs.ceviloneth_chart.Tie as tie
 
-plan-requires : tie.Need-plan-requires
-plan-requires c κs = search needs
-
-mul-fill-words : tie.Need-mul-fill-words
-mul-fill-words c = search needs
+plan-record-requires : tie.Need-plan-record-requires
+plan-record-requires c κs = search needs
 
 fill-words-requires : tie.Need-fill-words-requires
 fill-words-requires c κs = search needs
 
-mul-fill-arrows : tie.Need-mul-fill-arrows
-mul-fill-arrows c = search needs
-
 fill-arrows-requires : tie.Need-fill-arrows-requires
 fill-arrows-requires c κs = search needs
-
-mul-fill-bundles : tie.Need-mul-fill-bundles
-mul-fill-bundles c = search needs
 
 fill-bundles-requires : tie.Need-fill-bundles-requires
 fill-bundles-requires c κs = search needs
@@ -40,20 +31,17 @@ same-length-3 c = search needs
 returns : tie.Need-returns
 returns c =
     let third = c .before .before .before in
-    let second = third .before .before .before .before .before in
-    let first = second .before .before .before .before .before in
-    left _ _ _ _ _ _ _ _ (c .summary .ensures) (first .fill-words .ensures) (second .fill-arrows .ensures) (third .fill-bundles .ensures) _ (first .before .before .before .plan .ensures .draws)
+    let second = third .before .before .before .before in
+    let first = second .before .before .before .before in
+    left _ _ _ _ _ _ _ _ (c .summary .ensures) (first .fill-words .ensures) (second .fill-arrows .ensures) (third .fill-bundles .ensures) _ (first .before .before .plan-record .ensures .draws)
 
 pub ceviloneth-chart-spec : {M : Type 1} → statement M
 ceviloneth-chart-spec =
     tie.close
     (tie.spec
-    plan-requires
-    mul-fill-words
+    plan-record-requires
     fill-words-requires
-    mul-fill-arrows
     fill-arrows-requires
-    mul-fill-bundles
     fill-bundles-requires
     summary-requires
     same-length

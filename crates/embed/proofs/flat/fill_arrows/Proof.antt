@@ -1,57 +1,38 @@
--- `embed::flat::fill_arrows` meets its contract: the invariant is the contract's own record, at i. Assumes nothing.
-use Prim.Native.Nat.{_≤_, _-_}
-use native.Mathlib.Omega.{arith}
-use Rattle.lists.specs.Filled.{Filled}
-use Rattle.embed.specs.Chart.{arrowAt}
-use Rattle.embed.proofs.Filling.{filled-none, filled-more, filled-all}
+-- `embed::flat::fill_arrows` meets its contract, from what `put_arrows` ensures. Assumes nothing.
+use Rattle.embed.proofs.Numbering.{arrows-drawn}
+use borrow.Author.Needs.{needs}
 use Rattle.embed.proofs.flat.fill_arrows.Statement.{statement}
 use Rattle.embed.proofs.flat.fill_arrows.Tie as tie
 
-abbrev Inv-loop : tie.InvT-loop
-Inv-loop out₀ d top i₀ out i = (i ≤ top) × Filled out₀ (arrowAt d) i out
+slice-aggregate-put-arrows : tie.Need-slice-aggregate-put-arrows
+slice-aggregate-put-arrows c = search needs
 
-abbrev μ-loop : tie.MeasureT-loop
-μ-loop out₀ d top i₀ out i = top - i
+slice-aggregate-put-arrows-2 : tie.Need-slice-aggregate-put-arrows-2
+slice-aggregate-put-arrows-2 c = search needs
 
-loop-holds : tie.Need-loop-holds Inv-loop μ-loop
-loop-holds c = (omega arith, filled-none _ _)
+slice-aggregate-put-arrows-3 : tie.Need-slice-aggregate-put-arrows-3
+slice-aggregate-put-arrows-3 c = search needs
 
-arrow-number-at-requires : tie.Need-arrow-number-at-requires Inv-loop μ-loop
-arrow-number-at-requires c κs = omega arith
+slice-aggregate-put-arrows-4 : tie.Need-slice-aggregate-put-arrows-4
+slice-aggregate-put-arrows-4 c = search needs
 
-mul-out : tie.Need-mul-out Inv-loop μ-loop
-mul-out c = omega arith
+put-arrows-requires : tie.Need-put-arrows-requires
+put-arrows-requires c κs = search needs
 
-slice-write-out : tie.Need-slice-write-out Inv-loop μ-loop
-slice-write-out c = omega (arith, c .before .before .loop .inv .1 .as-long)
+same-length : tie.Need-same-length
+same-length c = search needs
 
-add-i : tie.Need-add-i Inv-loop μ-loop
-add-i c = omega arith
-
-loop-less : tie.Need-loop-less Inv-loop μ-loop
-loop-less c = omega arith
-
-loop-again : tie.Need-loop-again Inv-loop μ-loop
-loop-again c = (omega arith, filled-more _ _ _ _ _ (omega arith) (c .arrow-number-at .ensures) (c .before .before .loop .inv .1))
-
-same-length : tie.Need-same-length Inv-loop μ-loop
-same-length c = c .before .loop .inv .1 .as-long
-
-returns : tie.Need-returns Inv-loop μ-loop
-returns c = filled-all _ _ _ _ _ (c .before .loop .inv .0) (c .loop-test .left) (c .before .loop .inv .1)
+returns : tie.Need-returns
+returns c = arrows-drawn _ _ _ _ (c .before .before .put-arrows .ensures)
 
 pub fill-arrows-spec : {M : Type 1} → statement M
 fill-arrows-spec =
     tie.close
     (tie.spec
-    Inv-loop
-    μ-loop
-    loop-holds
-    arrow-number-at-requires
-    mul-out
-    slice-write-out
-    add-i
-    loop-less
-    loop-again
+    slice-aggregate-put-arrows
+    slice-aggregate-put-arrows-2
+    slice-aggregate-put-arrows-3
+    slice-aggregate-put-arrows-4
+    put-arrows-requires
     same-length
     returns)

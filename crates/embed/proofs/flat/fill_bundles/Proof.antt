@@ -1,57 +1,42 @@
--- `embed::flat::fill_bundles` meets its contract: the invariant is the contract's own record, at i. Assumes nothing.
-use Prim.Native.Nat.{_≤_, _-_}
-use native.Mathlib.Omega.{arith}
-use Rattle.lists.specs.Filled.{Filled}
-use Rattle.embed.specs.Chart.{bundleNumberAt}
-use Rattle.embed.proofs.Filling.{filled-none, filled-more, filled-all}
+-- `embed::flat::fill_bundles` meets its contract, from what `put_bundles` ensures. Assumes nothing.
+use Rattle.embed.proofs.Numbering.{bundles-drawn}
+use borrow.Author.Needs.{needs}
 use Rattle.embed.proofs.flat.fill_bundles.Statement.{statement}
 use Rattle.embed.proofs.flat.fill_bundles.Tie as tie
 
-abbrev Inv-loop : tie.InvT-loop
-Inv-loop out₀ d top i₀ out i = (i ≤ top) × Filled out₀ (bundleNumberAt d) i out
+slice-aggregate-put-bundles : tie.Need-slice-aggregate-put-bundles
+slice-aggregate-put-bundles c = search needs
 
-abbrev μ-loop : tie.MeasureT-loop
-μ-loop out₀ d top i₀ out i = top - i
+slice-aggregate-put-bundles-2 : tie.Need-slice-aggregate-put-bundles-2
+slice-aggregate-put-bundles-2 c = search needs
 
-loop-holds : tie.Need-loop-holds Inv-loop μ-loop
-loop-holds c = (omega arith, filled-none _ _)
+slice-aggregate-put-bundles-3 : tie.Need-slice-aggregate-put-bundles-3
+slice-aggregate-put-bundles-3 c = search needs
 
-bundle-number-at-requires : tie.Need-bundle-number-at-requires Inv-loop μ-loop
-bundle-number-at-requires c κs = omega arith
+slice-aggregate-put-bundles-4 : tie.Need-slice-aggregate-put-bundles-4
+slice-aggregate-put-bundles-4 c =
+    let bundles = c .before .before .before .before .before .before .before .before .before .before .good .1 .0 .1 .1 .1 .1 .1 .1 .1 .1 .1 .1 .1 .1 .1 .1 .1 .1 .1 .1 in
+    search needs
 
-mul-out : tie.Need-mul-out Inv-loop μ-loop
-mul-out c = omega arith
+put-bundles-requires : tie.Need-put-bundles-requires
+put-bundles-requires c κs =
+    let bundles = c .before .before .before .before .before .before .before .before .before .before .good .1 .0 .1 .1 .1 .1 .1 .1 .1 .1 .1 .1 .1 .1 .1 .1 .1 .1 .1 .1 in
+    search needs
 
-slice-write-out : tie.Need-slice-write-out Inv-loop μ-loop
-slice-write-out c = omega (arith, c .before .before .loop .inv .1 .as-long)
+same-length : tie.Need-same-length
+same-length c = search needs
 
-add-i : tie.Need-add-i Inv-loop μ-loop
-add-i c = omega arith
-
-loop-less : tie.Need-loop-less Inv-loop μ-loop
-loop-less c = omega arith
-
-loop-again : tie.Need-loop-again Inv-loop μ-loop
-loop-again c = (omega arith, filled-more _ _ _ _ _ (omega arith) (c .bundle-number-at .ensures) (c .before .before .loop .inv .1))
-
-same-length : tie.Need-same-length Inv-loop μ-loop
-same-length c = c .before .loop .inv .1 .as-long
-
-returns : tie.Need-returns Inv-loop μ-loop
-returns c = filled-all _ _ _ _ _ (c .before .loop .inv .0) (c .loop-test .left) (c .before .loop .inv .1)
+returns : tie.Need-returns
+returns c = bundles-drawn _ _ _ _ (c .before .before .put-bundles .ensures)
 
 pub fill-bundles-spec : {M : Type 1} → statement M
 fill-bundles-spec =
     tie.close
     (tie.spec
-    Inv-loop
-    μ-loop
-    loop-holds
-    bundle-number-at-requires
-    mul-out
-    slice-write-out
-    add-i
-    loop-less
-    loop-again
+    slice-aggregate-put-bundles
+    slice-aggregate-put-bundles-2
+    slice-aggregate-put-bundles-3
+    slice-aggregate-put-bundles-4
+    put-bundles-requires
     same-length
     returns)
