@@ -22,6 +22,10 @@ stateNumbers = 514
 unfoldable pub sessionOf : List ℕ → Session
 sessionOf s = record { vertices = getD s 0 0; count = getD s 1 0; edges = take 256 (drop 2 s); reach = take 256 (drop 258 s) }
 
+-- a session by its parts
+unfoldable pub sessionBy : ℕ → ℕ → List ℕ → List ℕ → Session
+sessionBy vertices count edges reach = record { vertices = vertices; count = count; edges = edges; reach = reach }
+
 -- number i of a session
 unfoldable pub stateNumber : Session → ℕ → ℕ
 stateNumber s i =

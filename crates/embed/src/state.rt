@@ -2,7 +2,7 @@
 ghost use mathlib.Core.Path.{_≡_};
 ghost use Prim.Native.Nat.{_+_, _<_, _≤_};
 ghost use lib.ListN.{length, take, drop};
-ghost use Rattle.embed.specs.State.{sessionOf, stateNumber, Stored, toldBy};
+ghost use Rattle.embed.specs.State.{sessionOf, sessionBy, stateNumber, Stored, toldBy};
 use crate::Leading;
 use editing::Session;
 
@@ -38,21 +38,27 @@ pub(crate) fn session_of(state: &[u64]) -> Session
     }
 }
 
-// Number i of a session.
-fn state_number(s: Session, i: usize) -> u64
+// Number i of a session, by its parts.
+fn state_number(
+    vertices: usize,
+    count: usize,
+    edges: &[u64; 256],
+    reach: &[u64; 256],
+    i: usize,
+) -> u64
     requires { ⌜ i < 514 ⌝ }
-    ensures { λ r. ⌜ r ≡ stateNumber s i ⌝ }
+    ensures { λ r. ⌜ r ≡ stateNumber (sessionBy vertices count (now (edges .entry)) (now (reach .entry))) i ⌝ }
 {
     if i == 0 {
-        return s.vertices as u64;
+        return vertices as u64;
     }
     if i == 1 {
-        return s.count as u64;
+        return count as u64;
     }
     if i < 258 {
-        return s.edges[i - 2];
+        return edges[i - 2];
     }
-    s.reach[i - 258]
+    reach[i - 258]
 }
 
 // Writes a session into a list.
@@ -60,8 +66,10 @@ pub(crate) fn fill_state(out: &mut [u64], s: Session)
     requires { ⌜ 514 ≤ length (now out) ⌝ }
     ensures { λ _. ⌜ Stored (now (out .entry)) s (now (out .exit)) ⌝ }
 {
+    let edges = s.edges;
+    let reach = s.reach;
     for i in 0..STATE_NUMBERS {
-        out[i] = state_number(s, i);
+        out[i] = state_number(s.vertices, s.count, &edges, &reach, i);
     }
 }
 

@@ -3,17 +3,17 @@ use Prim.Native.Nat.{_-_, _≤_}
 use native.Mathlib.Omega.{arith}
 use borrow.Author.Needs.{needs}
 use Rattle.lists.specs.Filled.{Filled}
-use Rattle.embed.specs.State.{stateNumber}
+use Rattle.embed.specs.State.{sessionBy, stateNumber}
 use Rattle.embed.proofs.Filling.{filled-none, filled-more, filled-all}
 use Rattle.embed.proofs.Spelling.{stored}
 use Rattle.embed.proofs.state.fill_state.Statement.{statement}
 use Rattle.embed.proofs.state.fill_state.Tie as tie
 
 abbrev Inv-loop : tie.InvT-loop
-Inv-loop out₀ s i₀ out i = (i ≤ 514) × Filled out₀ (stateNumber s) i out
+Inv-loop out₀ s edges reach i₀ out i = (i ≤ 514) × Filled out₀ (stateNumber (sessionBy (s .vertices) (s .count) edges reach)) i out
 
 abbrev μ-loop : tie.MeasureT-loop
-μ-loop out₀ s i₀ out i = 514 - i
+μ-loop out₀ s edges reach i₀ out i = 514 - i
 
 loop-holds : tie.Need-loop-holds Inv-loop μ-loop
 loop-holds c = (omega arith, filled-none _ _)
@@ -25,7 +25,7 @@ mul-out : tie.Need-mul-out Inv-loop μ-loop
 mul-out c = omega arith
 
 slice-write-out : tie.Need-slice-write-out Inv-loop μ-loop
-slice-write-out c = omega (arith, c .before .before .loop .inv .1 .as-long)
+slice-write-out c = omega (arith, c .before .before .before .before .loop .inv .1 .as-long)
 
 add-i : tie.Need-add-i Inv-loop μ-loop
 add-i c = omega arith
@@ -34,13 +34,14 @@ loop-less : tie.Need-loop-less Inv-loop μ-loop
 loop-less c = omega arith
 
 loop-again : tie.Need-loop-again Inv-loop μ-loop
-loop-again c = (omega arith, filled-more _ _ _ _ _ (omega arith) (c .state-number .ensures) (c .before .before .loop .inv .1))
+loop-again c = (omega arith, filled-more _ _ _ _ _ (omega arith) (c .state-number .ensures) (c .before .before .before .before .loop .inv .1))
 
 same-length : tie.Need-same-length Inv-loop μ-loop
 same-length c = c .before .loop .inv .1 .as-long
 
 returns : tie.Need-returns Inv-loop μ-loop
-returns c = stored _ _ _ (c .before .before .before .pre) (search needs) (search needs) (filled-all _ _ _ _ _ (c .before .loop .inv .0) (c .loop-test .left) (c .before .loop .inv .1))
+unfolding sessionBy
+returns c = stored _ _ _ (c .before .before .before .before .before .pre) (search needs) (search needs) (filled-all _ _ _ _ _ (c .before .loop .inv .0) (c .loop-test .left) (c .before .loop .inv .1))
 
 pub fill-state-spec : {M : Type 1} → statement M
 fill-state-spec =

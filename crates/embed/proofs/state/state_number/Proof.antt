@@ -1,16 +1,16 @@
 -- `embed::state::state_number` meets its contract: each return rewrites with the tests that led there. Assumes nothing.
 use borrow.Author.Tests.{eq-eqb, ne-eqb, lt-ltb, le-ltb}
-use Rattle.embed.specs.State.{stateNumber}
+use Rattle.embed.specs.State.{sessionBy, stateNumber}
 use borrow.Author.Needs.{needs}
 use Rattle.embed.proofs.state.state_number.Statement.{statement}
 use Rattle.embed.proofs.state.state_number.Tie as tie
 
 returns : tie.Need-returns
-unfolding stateNumber
+unfolding stateNumber sessionBy
 returns c = simp (eq-eqb _ _ (c .if1 .taken))
 
 returns-2 : tie.Need-returns-2
-unfolding stateNumber
+unfolding stateNumber sessionBy
 returns-2 c = simp (ne-eqb _ _ (c .before .if1 .left), eq-eqb _ _ (c .if2 .taken))
 
 sub-result : tie.Need-sub-result
@@ -23,7 +23,7 @@ element-copy-out-result : tie.Need-element-copy-out-result
 element-copy-out-result c = search needs
 
 returns-3 : tie.Need-returns-3
-unfolding stateNumber
+unfolding stateNumber sessionBy
 returns-3 c = simp (ne-eqb _ _ (c .before .before .before .if1 .left), ne-eqb _ _ (c .before .before .if2 .left), lt-ltb _ _ (c .before .if3 .taken))
 
 mul-result-2 : tie.Need-mul-result-2
@@ -33,7 +33,7 @@ element-copy-out-result-2 : tie.Need-element-copy-out-result-2
 element-copy-out-result-2 c = search needs
 
 returns-4 : tie.Need-returns-4
-unfolding stateNumber
+unfolding stateNumber sessionBy
 returns-4 c = simp (ne-eqb _ _ (c .before .before .before .if1 .left), ne-eqb _ _ (c .before .before .if2 .left), le-ltb _ _ (c .before .if3 .left))
 
 pub state-number-spec : {M : Type 1} → statement M
