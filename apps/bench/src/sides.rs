@@ -1,40 +1,30 @@
 //! The two sides, each with lists that are made once and lent to every call.
 
 use ceviloneth::{raw, Lists, STATE_NUMBERS};
-use reference::bundles::Bundle;
-use reference::chart::{draw_into, EdgeEntry, VertexEntry};
+use reference::chart::Room;
 use reference::geometry::Place;
-use reference::record::{MAX_EDGES, MAX_VERTICES};
+use reference::record::MAX_VERTICES;
 use reference::session::{Answer, Call, Session};
 use reference::strokes::Polyline;
 use std::hint::black_box;
 
-/// The lists of the second implementation.
+/// The second implementation with lists of its own.
+#[derive(Default)]
 pub struct Second {
-    vertices: Vec<VertexEntry>,
-    edges: Vec<EdgeEntry>,
-    bundles: Vec<Bundle>,
+    own: Room,
 }
 
 impl Second {
     /// New lists.
     pub fn new() -> Second {
-        Second {
-            vertices: vec![VertexEntry::default(); MAX_VERTICES],
-            edges: vec![EdgeEntry::default(); MAX_EDGES],
-            bundles: vec![Bundle::default(); 2 * MAX_VERTICES],
-        }
+        Second::default()
     }
 
     /// Draws all records.
     pub fn draw(&mut self, records: &[Vec<u8>]) {
         for record in records {
-            let lists = reference::chart::Lists {
-                vertices: &mut self.vertices,
-                edges: &mut self.edges,
-                bundles: &mut self.bundles,
-            };
-            black_box(draw_into(black_box(record), lists));
+            let lengths = self.own.lengths();
+            black_box(self.own.draw(black_box(record), lengths));
         }
     }
 }

@@ -2,9 +2,9 @@
 
 use ceviloneth::{raw, ARROW_NUMBERS, BUNDLE_NUMBERS, WORD_NUMBERS};
 use reference::bundles::Bundle;
-use reference::chart::{draw_into, Counts, EdgeEntry, Lists, VertexEntry};
+use reference::chart::{Counts, EdgeEntry, VertexEntry};
 use reference::kinds::Kind;
-use reference::record::{Record, MAX_EDGES, MAX_VERTICES};
+use reference::record::Record;
 use reference::refusal::Refusal;
 
 /// Numbers of an entry of the three lists: words, arrows, bundles.
@@ -86,33 +86,28 @@ pub fn proved(record: &[u8], mut lists: [Vec<u16>; 3]) -> Answer {
     }
 }
 
-/// The second implementation with lists of its own, long enough for every chart.
+/// The second implementation with lists of its own.
+#[derive(Default)]
 pub struct Second {
-    vertices: Vec<VertexEntry>,
-    edges: Vec<EdgeEntry>,
-    bundles: Vec<Bundle>,
+    own: reference::chart::Room,
 }
 
 impl Second {
     /// New lists.
     pub fn new() -> Second {
-        Second {
-            vertices: vec![VertexEntry::default(); MAX_VERTICES],
-            edges: vec![EdgeEntry::default(); MAX_EDGES],
-            bundles: vec![Bundle::default(); 2 * MAX_VERTICES],
-        }
+        Second::default()
     }
 
     /// What it answers, with the lists that it began with.
     pub fn answer(&mut self, record: &[u8], room: Room) -> (Answer, [Vec<u16>; 3]) {
-        let most = [self.vertices.len(), self.edges.len(), self.bundles.len()];
-        let (mut refusal, mut counts) = self.draw(record, most);
+        let most = self.own.lengths();
+        let (mut refusal, mut counts) = self.own.draw(record, most);
         let sizes = sizes(record, refusal, &counts);
         let entries = if refusal.is_none() { sizes } else { [2; 3] };
         let before = room.lists([0, 1, 2].map(|list| entries[list] * NUMBERS[list]));
         let fitting = [0, 1, 2].map(|list| before[list].len() / NUMBERS[list]);
         if refusal.is_none() && (0..3).any(|list| fitting[list] < sizes[list]) {
-            (refusal, counts) = self.draw(record, [0, 1, 2].map(|i| fitting[i].min(most[i])));
+            (refusal, counts) = self.own.draw(record, [0, 1, 2].map(|i| fitting[i].min(most[i])));
         }
         let written = if refusal.is_none() { sizes } else { [0; 3] };
         let [words, arrows, bundles] = written;
@@ -132,23 +127,14 @@ impl Second {
         (answer, before)
     }
 
-    fn draw(&mut self, record: &[u8], lengths: [usize; 3]) -> (Option<Refusal>, Counts) {
-        let lists = Lists {
-            vertices: &mut self.vertices[..lengths[0]],
-            edges: &mut self.edges[..lengths[1]],
-            bundles: &mut self.bundles[..lengths[2]],
-        };
-        draw_into(record, lists)
-    }
-
     /// The lists with so many entries written from the start.
     fn written(&self, entries: [usize; 3], mut lists: [Vec<u16>; 3]) -> [Vec<u16>; 3] {
         let [words, arrows, bundles] = &mut lists;
-        write(words, self.vertices[..entries[0]].iter().map(word_numbers));
-        write(arrows, self.edges[..entries[1]].iter().map(arrow_numbers));
+        write(words, self.own.vertices[..entries[0]].iter().map(word_numbers));
+        write(arrows, self.own.edges[..entries[1]].iter().map(arrow_numbers));
         write(
             bundles,
-            self.bundles[..entries[2]].iter().map(bundle_numbers),
+            self.own.bundles[..entries[2]].iter().map(bundle_numbers),
         );
         lists
     }

@@ -93,7 +93,8 @@ pub record Untouched (vs : List VertexEntry) (es : List EdgeEntry) (bs : List Bu
   pub tracks : (l : ℕ) → l < 128 → getD (r .tracks) l 0 ≡ 0
 
 module _ (d : Drawn) (ok : Sound d) where
-  lent-quiet : (v e b : ℕ) → (lent v e b d .refusal ≡ 0 → ⊥) → lent v e b d .graph ≡ nothing
+  -- what is refused has no graph, short lists too
+  pub lent-quiet : (v e b : ℕ) → (lent v e b d .refusal ≡ 0 → ⊥) → lent v e b d .graph ≡ nothing
   lent-quiet v e b = go (short? v e b d) refl
     where
       go : (t : Bool) → short? v e b d ≡ t → (lent v e b d .refusal ≡ 0 → ⊥) → lent v e b d .graph ≡ nothing

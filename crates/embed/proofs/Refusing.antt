@@ -1,19 +1,15 @@
 -- What a caller knows of a refused chart: every list is as it was, and every count is 0. Assumes nothing.
 use mathlib.Core.Path.{_≡_, refl, subst, _∙_}
-use mathlib.Core.Bool.{Bool, true, false}
 use mathlib.Core.List.{List}
 use Prim.Native.Nat.{ℕ, _/_, _<_}
 use native.Mathlib.Omega.{arith}
 use lib.ListN.{length, getD}
 use Rattle.lists.proofs.Written.{untouched}
 use Rattle.record.specs.Checks.{Content}
-use Rattle.record.specs.Reading.{nothing}
 use Rattle.outline.specs.Chart.{planOf}
 use Rattle.drawing.specs.Promise.{recordDrawn}
-use Rattle.charts.specs.Promise.{short?, lent}
 use Rattle.charts.proofs.Nothing.{empty}
-use Rattle.charts.proofs.Refusals.{record-sound}
-use Rattle.charts.proofs.Shortage.{lent-short, lent-whole}
+use Rattle.charts.proofs.Refusals.{record-sound, lent-quiet}
 use Rattle.embed.specs.declared.ChartCounts.{ChartCounts}
 use Rattle.embed.specs.Chart.{Numbered, HandedFlat}
 
@@ -31,16 +27,9 @@ pub record Untouched (ws es bs : List ℕ) (r : ChartCounts) (ws′ es′ bs′ 
   pub side-columns : (l : ℕ) → l < 128 → getD (r .«side_columns») l 0 ≡ 0
 
 module _ (b : List ℕ) where
-  quiet : (v e k : ℕ) → (lent v e k (recordDrawn b) .refusal ≡ 0 → ⊥) → lent v e k (recordDrawn b) .graph ≡ nothing
-  quiet v e k = go (short? v e k (recordDrawn b)) refl
-    where
-      go : (t : Bool) → short? v e k (recordDrawn b) ≡ t → (lent v e k (recordDrawn b) .refusal ≡ 0 → ⊥) → lent v e k (recordDrawn b) .graph ≡ nothing
-      go true h = rw (lent-short v e k (recordDrawn b) h) (λ ne. refl)
-      go false h = rw (lent-whole v e k (recordDrawn b) h) (record-sound b .quiet)
-
   pub refused-untouched : (ws ws′ es es′ bs bs′ : List ℕ) (r : ChartCounts) → HandedFlat b ws es bs r ws′ es′ bs′ → (r .refusal ≡ 0 → ⊥) → Untouched ws es bs r ws′ es′ bs′
   refused-untouched ws ws′ es es′ bs bs′ r h ne =
-      let none = quiet (length ws / 5) (length es / 5) (length bs / 4) (λ z. ne (h .refusal ∙ z)) in
+      let none = lent-quiet (recordDrawn b) (record-sound b) (length ws / 5) (length es / 5) (length bs / 4) (λ z. ne (h .refusal ∙ z)) in
       let l = subst (λ (c : Content). Numbered c (planOf c) ws es bs r ws′ es′ bs′) none (h .numbered) in
       record {
         word-list = untouched _ _ _ _ refl (l .word-list);

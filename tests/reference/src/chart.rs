@@ -7,7 +7,7 @@ use crate::geometry::Place;
 use crate::kinds::{kind, Kind};
 use crate::lines::Channels;
 use crate::marks::is_transitive;
-use crate::record::{Edge, Record, MAX_VERTICES};
+use crate::record::{Edge, Record, MAX_EDGES, MAX_VERTICES};
 use crate::refusal::Refusal;
 use crate::rows;
 
@@ -188,6 +188,48 @@ pub struct Lists<'a> {
     pub edges: &'a mut [EdgeEntry],
     /// Takes the bundles.
     pub bundles: &'a mut [Bundle],
+}
+
+/// Lists of one's own, long enough for every chart, to be lent again and again.
+pub struct Room {
+    /// An entry for each vertex.
+    pub vertices: Vec<VertexEntry>,
+    /// An entry for each edge.
+    pub edges: Vec<EdgeEntry>,
+    /// The bundles, at most two a vertex.
+    pub bundles: Vec<Bundle>,
+}
+
+impl Room {
+    /// Empty entries, as many as any chart needs.
+    pub fn new() -> Room {
+        Room {
+            vertices: vec![VertexEntry::default(); MAX_VERTICES],
+            edges: vec![EdgeEntry::default(); MAX_EDGES],
+            bundles: vec![Bundle::default(); 2 * MAX_VERTICES],
+        }
+    }
+
+    /// How many entries each list has.
+    pub fn lengths(&self) -> [usize; 3] {
+        [self.vertices.len(), self.edges.len(), self.bundles.len()]
+    }
+
+    /// Draws a record into the first entries of the lists, so many of each.
+    pub fn draw(&mut self, record: &[u8], lengths: [usize; 3]) -> (Option<Refusal>, Counts) {
+        let lists = Lists {
+            vertices: &mut self.vertices[..lengths[0]],
+            edges: &mut self.edges[..lengths[1]],
+            bundles: &mut self.bundles[..lengths[2]],
+        };
+        draw_into(record, lists)
+    }
+}
+
+impl Default for Room {
+    fn default() -> Room {
+        Room::new()
+    }
 }
 
 /// Draws the record in `bytes` into lent lists; entries past the needed ones stay as they are.
