@@ -3,3 +3,6 @@ pub mod Sets
 pub mod Tables
 pub mod Images
 pub mod Members
+pub mod Clearing
+pub mod Visiting
+pub mod Pairing

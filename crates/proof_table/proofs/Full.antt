@@ -19,8 +19,9 @@ use Rattle.reach.proofs.Decide.{reachable-decided}
 use Rattle.record.specs.declared.layout.Fields.{Fields}
 use Rattle.record.specs.declared.layout.Layout.the-variants.{Good}
 use Rattle.record.specs.Layout.{sizeAt, fieldAt, afterEdges, withEdges, withVertices, layoutOf}
-use Rattle.record.specs.Content.{alternate, tailsOf, headsOf}
-use Rattle.record.specs.Checks.{edgesOf, alike?, duplicate?, size?, stranger?, double?, ring?, repeated?, lacking?, unled?, looseChecks, laterChecks, firstOf, refusalOf}
+use Rattle.reach.specs.Ends.{alternate, tailsOf, headsOf}
+use Rattle.reach.specs.Ends.{alike?, duplicate?}
+use Rattle.record.specs.Checks.{edgesOf, size?, stranger?, double?, ring?, repeated?, lacking?, unled?, looseChecks, laterChecks, firstOf, refusalOf}
 use Rattle.record.specs.Reading.{contentOf, recordRefusal, said}
 use Rattle.proof_table.specs.Table.{values, pairs, fullTail, fullHead, full, fullRecord}
 

@@ -15,8 +15,9 @@ use Rattle.matching.specs.Chains.{successorFrom, successor, chain, begins, begu
 use Rattle.matching.specs.Lists.{has, placeFrom, linked, every, channelFrom, channelOf, positionOf}
 use Rattle.channels.specs.Given.{front, lines, filled, linesOf, unknown?, repeats?, lacks?, broken?}
 use Rattle.record.specs.Layout.{sizeAt, fieldAt, lined, withLines, afterEdges, withEdges, withVertices, layoutOf}
-use Rattle.record.specs.Content.{alternate, tailsOf, headsOf}
-use Rattle.record.specs.Checks.{Content, edgesOf, alike?, duplicate?, size?, stranger?, double?, ring?, repeated?, lacking?, unled?, looseChecks, laterChecks, firstOf, refusalOf}
+use Rattle.reach.specs.Ends.{alternate, tailsOf, headsOf}
+use Rattle.reach.specs.Ends.{alike?, duplicate?}
+use Rattle.record.specs.Checks.{Content, edgesOf, size?, stranger?, double?, ring?, repeated?, lacking?, unled?, looseChecks, laterChecks, firstOf, refusalOf}
 use Rattle.record.specs.Reading.{contentOf, recordRefusal, said}
 use Rattle.layers.specs.Rows.{above, rowWithin}
 use Rattle.reduction.specs.Reduction.{transitive?, reducedCount}

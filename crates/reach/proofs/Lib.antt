@@ -7,3 +7,4 @@ pub mod Composing
 pub mod Refusing
 pub mod Closures
 pub mod Extending
+pub mod Ends

@@ -3,3 +3,4 @@ pub mod Refusal
 pub mod Closure
 pub mod Steps
 pub mod Examples
+pub mod Ends

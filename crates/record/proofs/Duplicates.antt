@@ -12,7 +12,7 @@ use Rattle.counting.proofs.Truth.{and-intro, and-elim, true-or-false}
 use Rattle.counting.proofs.Somes.{some-found, some-which}
 use Rattle.masks.specs.Sets.{at}
 use Rattle.reach.specs.Steps.{Marked}
-use Rattle.record.specs.Checks.{alike?}
+use Rattle.reach.specs.Ends.{alike?}
 
 module _ (w : ℕ) (tails heads : List ℕ) (i : ℕ) (t : List ℕ) (seen : Marked w tails heads i t) where
   -- its bit is there: an edge before it is alike

@@ -18,7 +18,8 @@ use Rattle.matching.specs.Lists.{linked, every, allLinked}
 use Rattle.channels.specs.Given.{linesOf, verticesOf, unknown?, repeats?, lacks?, broken?}
 use Rattle.channels.specs.Table.{leadsIn}
 use Rattle.channels.proofs.Graphs.{table-same}
-use Rattle.record.specs.Checks.{Content, content, duplicate?, size?, stranger?, double?, ring?, repeated?, lacking?, unled?, linesRefusal, looseChecks, laterChecks, firstOf, looseRefusal, refusalOf, refusedBy, Judged}
+use Rattle.reach.specs.Ends.{duplicate?}
+use Rattle.record.specs.Checks.{Content, content, size?, stranger?, double?, ring?, repeated?, lacking?, unled?, linesRefusal, looseChecks, laterChecks, firstOf, looseRefusal, refusalOf, refusedBy, Judged}
 
 zero-or-not : (k : ℕ) → (k ≡ 0) ⊎ (k ≡ 0 → ⊥)
 zero-or-not k = go (ℕ-discrete k 0)

@@ -11,7 +11,9 @@ use lib.Seq.{ext-getD, length-take-le, getD-take, getD-drop, getD-set-same, getD
 use Rattle.counting.proofs.Truth.{lt-or-le}
 use Rattle.counting.proofs.Zeros.{zeros}
 use Rattle.record.specs.declared.edges.Edges.{Edges}
-use Rattle.record.specs.Content.{alternate, tailsOf, headsOf, Edged}
+use Rattle.reach.proofs.Ends.{alternate-at, alternate-length}
+use Rattle.reach.specs.Ends.{alternate, tailsOf, headsOf}
+use Rattle.record.specs.Content.{Edged}
 
 -- ---- one edge after the other
 
@@ -40,20 +42,6 @@ edged-more b start m tails heads h e = record {
 }
 
 -- ---- the pairs of a list of bytes
-
-alternate-at : (s : List ℕ) (i : ℕ) → getD (alternate s) i 0 ≡ getD s (2 * i) 0
-unfolding alternate
-alternate-at [] i = refl
-alternate-at (x ∷ []) zero = refl
-alternate-at (x ∷ []) (suc i) = ap (λ (j : ℕ). getD (x ∷ []) j 0) (let e : suc (suc (2 * i)) ≡ 2 * suc i = omega arith in e)
-alternate-at (x ∷ y ∷ s) zero = refl
-alternate-at (x ∷ y ∷ s) (suc i) = alternate-at s i ∙ ap (λ (j : ℕ). getD (x ∷ y ∷ s) j 0) (let e : suc (suc (2 * i)) ≡ 2 * suc i = omega arith in e)
-
-alternate-length : (s : List ℕ) → length (alternate s) ≡ (length s + 1) / 2
-unfolding alternate
-alternate-length [] = refl
-alternate-length (x ∷ []) = refl
-alternate-length (x ∷ y ∷ s) = let h = alternate-length s in omega arith
 
 -- the first m of a are every second of s
 alternate-taken : (m : ℕ) (a s : List ℕ) → m ≤ length a → (length s + 1) / 2 ≡ m → ((i : ℕ) → i < m → getD a i 0 ≡ getD s (2 * i) 0) → take m a ≡ alternate s

@@ -21,7 +21,8 @@ use Rattle.record.specs.declared.edges.Edges.{Edges}
 use Rattle.record.specs.declared.layout.Layout.the-variants.{Good}
 use Rattle.record.specs.declared.reading.Reading.{Reading}
 use Rattle.record.specs.Layout.{lined, layoutOf}
-use Rattle.record.specs.Content.{tailsOf, headsOf, Edged}
+use Rattle.reach.specs.Ends.{tailsOf, headsOf}
+use Rattle.record.specs.Content.{Edged}
 use Rattle.record.specs.Checks.{Content, content, edgesOf, size?, looseChecks, firstOf, looseRefusal, refusalOf, refusedBy}
 use Rattle.record.specs.Reading.{contentOf, nothing, refusalIn, recordRefusal, contentIn, said, Held, Reads, Copied, Unread}
 use Rattle.record.proofs.Pairs.{pair-lengths, edged-tails, edged-heads, edged-entries}

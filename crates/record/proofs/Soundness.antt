@@ -21,7 +21,8 @@ use Rattle.reach.proofs.Decide.{reachable-decided}
 use Rattle.reach.proofs.Routes.{begins-below}
 use Rattle.channels.specs.Given.{linesOf, verticesOf, unknown?, broken?}
 use Rattle.channels.proofs.Checks.{unknown-within, repeats-once, once-repeats, lacks-has, has-lacks, broken-linked}
-use Rattle.record.specs.Checks.{Content, edgesOf, alike?, duplicate?, size?, stranger?, double?, ring?, repeated?, lacking?, unled?, looseChecks, laterChecks, firstOf, refusalOf}
+use Rattle.reach.specs.Ends.{alike?, duplicate?}
+use Rattle.record.specs.Checks.{Content, edgesOf, size?, stranger?, double?, ring?, repeated?, lacking?, unled?, looseChecks, laterChecks, firstOf, refusalOf}
 use Rattle.record.specs.declared.layout.Layout.{Layout}
 use Rattle.record.specs.declared.layout.Layout.the-variants.{Good, Bad}
 use Rattle.record.specs.declared.reading.Reading.{Reading}

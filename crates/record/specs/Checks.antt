@@ -8,6 +8,7 @@ use lib.ListN.{getD, replicate}
 use Rattle.counting.specs.Count.{choose, some}
 use Rattle.reach.specs.Graph.{edgeCount}
 use Rattle.reach.specs.Refusal.{outsized?, strange?}
+use Rattle.reach.specs.Ends.{duplicate?}
 use Rattle.reach.specs.Closure.{Closure, reachable?}
 use Rattle.channels.specs.Given.{linesOf, verticesOf, unknown?, repeats?, lacks?, broken?}
 use Rattle.record.specs.declared.checks.Verdict.{Verdict}
@@ -25,14 +26,6 @@ content n tails heads given field = record { vertices = n; tails = tails; heads 
 
 abbrev pub edgesOf : Content → ℕ
 edgesOf c = edgeCount (c .tails) (c .heads)
-
--- edges j and i have the same ends
-unfoldable pub alike? : List ℕ → List ℕ → ℕ → ℕ → Bool
-alike? tails heads i j = eqb (getD tails j 0) (getD tails i 0) && eqb (getD heads j 0) (getD heads i 0)
-
--- of m edges one stands twice: an edge before it has the same ends
-unfoldable pub duplicate? : ℕ → List ℕ → List ℕ → Bool
-duplicate? m tails heads = some m (λ i. some i (alike? tails heads i))
 
 -- ---- one check a refusal: whether it fails
 

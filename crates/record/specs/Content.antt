@@ -1,23 +1,10 @@
 -- What a record says, once its fields stand as they must. Assumes nothing.
 use mathlib.Core.Path.{_≡_}
-use mathlib.Core.List.{List, [], _∷_}
+use mathlib.Core.List.{List}
 use Prim.Native.Nat.{ℕ, _+_, _*_, _≤_, _<_}
 use lib.ListN.{length, getD, take, drop}
 use Rattle.record.specs.declared.layout.Fields.{Fields}
 use Rattle.record.specs.declared.edges.Edges.{Edges}
-
--- every second element, from the first on
-unfoldable pub alternate : List ℕ → List ℕ
-alternate [] = []
-alternate (x ∷ []) = x ∷ []
-alternate (x ∷ y ∷ s) = x ∷ alternate s
-
--- edges are two bytes each, tail and head (document 01: from and to), and their numbers follow the order
-unfoldable pub tailsOf : List ℕ → List ℕ
-tailsOf s = alternate s
-
-unfoldable pub headsOf : List ℕ → List ℕ
-headsOf s = alternate (drop 1 s)
 
 -- the bytes of the edges
 unfoldable pub edgeBytes : List ℕ → Fields → List ℕ

@@ -14,7 +14,8 @@ use Rattle.record.specs.declared.reading.Graph.{Graph}
 use Rattle.record.specs.declared.reading.Reading.{Reading}
 use Rattle.record.specs.declared.reading.Loose.{Loose}
 use Rattle.record.specs.Layout.{layoutOf}
-use Rattle.record.specs.Content.{tailsOf, headsOf, Edged}
+use Rattle.reach.specs.Ends.{tailsOf, headsOf}
+use Rattle.record.specs.Content.{Edged}
 use Rattle.record.specs.Checks.{Content, content, edgesOf, looseRefusal, refusalOf, refusedBy}
 
 -- the vertices, edges and given channels of a record whose fields stand as they must

@@ -5,7 +5,7 @@ ghost use lib.ListN.{length};
 ghost use Rattle.reach.specs.Graph.{edgeCount};
 ghost use Rattle.reach.specs.Steps.{Within};
 ghost use Rattle.record.specs.Content.{Edged};
-ghost use Rattle.record.specs.Checks.{duplicate?};
+ghost use Rattle.reach.specs.Ends.{duplicate?};
 use crate::wide;
 
 // The edges of a record, entry i for edge i, and 0 past the last.

@@ -5,7 +5,8 @@ use native.Mathlib.Omega.{arith}
 use Rattle.reach.specs.Graph.{edgeCount}
 use Rattle.reach.specs.Steps.{Within}
 use Rattle.reach.proofs.Refusing.{accepted-within, within-more}
-use Rattle.record.specs.Checks.{content, duplicate?, looseRefusal, Judged}
+use Rattle.reach.specs.Ends.{duplicate?}
+use Rattle.record.specs.Checks.{content, looseRefusal, Judged}
 use Rattle.record.proofs.Judging.{judged-refused, loose-early, loose-late}
 use borrow.Author.Needs.{needs}
 use Rattle.record.proofs.checks.check_loose.Statement.{statement}

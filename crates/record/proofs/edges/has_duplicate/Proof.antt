@@ -13,7 +13,7 @@ use Rattle.masks.specs.Sets.{at, inserted}
 use Rattle.masks.proofs.Tables.{Put, put-law}
 use Rattle.reach.specs.Steps.{Marked}
 use Rattle.reach.proofs.Marking.{marked-none, marked-more}
-use Rattle.record.specs.Checks.{alike?, duplicate?}
+use Rattle.reach.specs.Ends.{alike?, duplicate?}
 use Rattle.record.proofs.Duplicates.{seen-before, not-seen}
 use borrow.Author.Needs.{needs}
 use Rattle.record.proofs.edges.has_duplicate.Statement.{statement}
