@@ -3,9 +3,10 @@
 
     charts.py [SEED [COUNT]]
 
-Each record is given to target/bin/chart, the samples also in pieces and with a stack of 256 KiB. Listings are those of the samples' and
-the vectors' files, else the second implementation's. The seed is printed, and of the first record with another listing the bytes and the
-first lines that differ. The last line says how many were compared; the exit status is 1 at a difference.
+Each record is given to target/bin/chart, the samples also in pieces. The samples and the records that take most of the stack are given to
+it with a stack of 160 KiB. Listings are those of the samples' and the vectors' files, else the second implementation's. The seed is
+printed, and of the first record with another listing the bytes and the first lines that differ. The last line says how many were
+compared; the exit status is 1 at a difference.
 """
 import resource
 import subprocess
@@ -13,10 +14,10 @@ import sys
 import time
 
 sys.dont_write_bytecode = True
-from records import EDGES, ROOT, build, listing, random_records, vectors
+from records import EDGES, ROOT, WORST, build, listing, random_records, vectors
 
 PROGRAM = ROOT / 'target' / 'bin' / 'chart'
-STACK = 256 * 1024
+STACK = 160 * 1024
 
 
 def output(status, text):
@@ -59,6 +60,8 @@ def cases(seed, count):
         yield printed_on_small_stack, f'{name}, on a small stack', record, lines
     for name, record, _ in EDGES:
         yield printed, name, record, listing(record)
+    for name, record in WORST:
+        yield printed_on_small_stack, f'{name}, on a small stack', record, listing(record)
     for name, record, lines in [*vectors(), *random_records(seed, count)]:
         yield printed, name, record, lines
 
@@ -85,7 +88,7 @@ def main():
         compared += 1
         drawn += lines.startswith(b'chart')
     print(f'{compared} listings compared, {drawn} of charts and {compared - drawn} of refusals: all agree')
-    return 0 if compared >= int(count) + len(EDGES) + 67 + 3 * 8 else 1
+    return 0 if compared >= int(count) + len(EDGES) + len(WORST) + 67 + 3 * 8 else 1
 
 
 sys.exit(main())

@@ -57,6 +57,24 @@ EDGES = [
 ]
 
 
+def line(order):
+    """Arrows that make one line of the words in this order."""
+    return list(zip(order, order[1:]))
+
+
+# what takes most of the stack or of the tables: searches that wait for each other (of the first, 127), most arrows, bundles, lines
+WORST = [
+    ('the deepest search', graph(128, line([125, 124, *range(124), 126, 127]))),
+    ('a search through 64 words at every step', graph(128, [(u, v) for u in range(64) for v in range(64, 128 - u)])),
+    ('a line from the highest word down', graph(128, line(range(127, -1, -1)))),
+    ('a line with arrows up to 32 on', graph(128, [(u, u + step) for step in range(1, 33) for u in range(128 - step)])),
+    ('each word of a half to each of the other', graph(128, [(u, v) for u in range(64) for v in range(64, 128)])),
+    ('4,096 arrows', graph(128, dense(4096))),
+    ('4,096 arrows and a house line', graph(128, line(range(128)) + [(u, v) for v in range(128) for u in range(v - 1)][:3969], [range(128)])),
+    ('128 house lines', graph(128, [], [[word] for word in range(128)])),
+]
+
+
 def build():
     """Builds the second implementation."""
     subprocess.run(['cargo', 'build', '--release', '--quiet', '--offline'], cwd=REFERENCE, check=True)

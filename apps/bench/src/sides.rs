@@ -1,12 +1,55 @@
-//! The two sides, each with lists that are made once and lent to every call.
+//! The sides that are timed, each with lists that are made once and lent to every call.
 
-use ceviloneth::{raw, Lists, STATE_NUMBERS};
+use crate::inputs::{Input, ROOM};
+use ceviloneth::raw::ChartCounts;
+use ceviloneth::{raw, ARROW_NUMBERS, BUNDLE_NUMBERS, STATE_NUMBERS, WORD_NUMBERS};
 use reference::chart::Room;
 use reference::geometry::Place;
 use reference::record::MAX_VERTICES;
 use reference::session::{Answer, Call, Session};
 use reference::strokes::Polyline;
 use std::hint::black_box;
+
+/// A chart call that fills lent lists of numbers.
+type ChartCall = fn(&[u8], &mut [u16], &mut [u16], &mut [u16]) -> ChartCounts;
+
+/// The proved library or the peer, called in the same way.
+pub struct Side {
+    call: ChartCall,
+    lists: [Vec<u16>; 3],
+}
+
+impl Side {
+    /// The proved library.
+    pub fn proved() -> Side {
+        Side::new(raw::chart)
+    }
+
+    /// The peer.
+    pub fn peer() -> Side {
+        Side::new(peer::chart)
+    }
+
+    fn new(call: ChartCall) -> Side {
+        let lists = ROOM.map(|numbers| vec![0; numbers]);
+        Side { call, lists }
+    }
+
+    /// Draws all records of an input.
+    pub fn draw(&mut self, input: &Input) {
+        self.draw_each(&input.records, input.room);
+    }
+
+    /// Draws records with lists of so many numbers.
+    pub fn draw_each(&mut self, records: &[Vec<u8>], room: [usize; 3]) {
+        let [words, arrows, bundles] = &mut self.lists;
+        let words = &mut words[..room[0]];
+        let (arrows, bundles) = (&mut arrows[..room[1]], &mut bundles[..room[2]]);
+        for record in records {
+            black_box((self.call)(black_box(record), words, arrows, bundles));
+        }
+    }
+}
 
 /// The second implementation with lists of its own.
 #[derive(Default)]
@@ -20,19 +63,17 @@ impl Second {
         Second::default()
     }
 
-    /// Draws all records.
-    pub fn draw(&mut self, records: &[Vec<u8>]) {
-        for record in records {
-            let lengths = self.own.lengths();
-            black_box(self.own.draw(black_box(record), lengths));
+    /// Draws all records of an input.
+    pub fn draw(&mut self, input: &Input) {
+        let [words, arrows, bundles] = input.room;
+        let entries = [
+            words / WORD_NUMBERS,
+            arrows / ARROW_NUMBERS,
+            bundles / BUNDLE_NUMBERS,
+        ];
+        for record in &input.records {
+            black_box(self.own.draw(black_box(record), entries));
         }
-    }
-}
-
-/// Draws all records with the proved library.
-pub fn draw(lists: &mut Lists, records: &[Vec<u8>]) {
-    for record in records {
-        let _ = black_box(lists.check(black_box(record)));
     }
 }
 

@@ -1,6 +1,7 @@
 //! What each side answers for a record and lent lists, in one form.
 
-use ceviloneth::{raw, ARROW_NUMBERS, BUNDLE_NUMBERS, WORD_NUMBERS};
+use ceviloneth::raw::{self, ChartCounts};
+use ceviloneth::{ARROW_NUMBERS, BUNDLE_NUMBERS, WORD_NUMBERS};
 use reference::bundles::Bundle;
 use reference::chart::{Counts, EdgeEntry, VertexEntry};
 use reference::kinds::Kind;
@@ -64,25 +65,50 @@ impl Answer {
     }
 }
 
-/// What the proved library answers with these lists.
-pub fn proved(record: &[u8], mut lists: [Vec<u16>; 3]) -> Answer {
-    let [words, arrows, bundles] = &mut lists;
-    let counts = raw::chart(record, words, arrows, bundles);
-    let (rows, lines) = (usize::from(counts.rows), usize::from(counts.lines));
-    let (firm, width) = (usize::from(counts.firm), usize::from(counts.width));
-    Answer {
-        refusal: counts.refusal,
-        counts: [
-            counts.words,
-            counts.arrows,
-            counts.bundles,
-            rows,
-            lines,
-            firm,
-            width,
-        ],
-        side_columns: counts.side_columns.map(usize::from).to_vec(),
-        lists,
+/// A chart call that fills lent lists of numbers.
+type ChartCall = fn(&[u8], &mut [u16], &mut [u16], &mut [u16]) -> ChartCounts;
+
+/// Whoever is compared with the second implementation.
+#[derive(Clone, Copy)]
+pub struct Voice {
+    /// What a difference is reported under.
+    pub name: &'static str,
+    call: ChartCall,
+}
+
+/// The proved library and the peer: a fault that all three share would have to be made three times.
+pub const VOICES: [Voice; 2] = [
+    Voice {
+        name: "proved library",
+        call: raw::chart,
+    },
+    Voice {
+        name: "peer",
+        call: peer::chart,
+    },
+];
+
+impl Voice {
+    /// What it answers with these lists.
+    pub fn answer(self, record: &[u8], mut lists: [Vec<u16>; 3]) -> Answer {
+        let [words, arrows, bundles] = &mut lists;
+        let counts = (self.call)(record, words, arrows, bundles);
+        let (rows, lines) = (usize::from(counts.rows), usize::from(counts.lines));
+        let (firm, width) = (usize::from(counts.firm), usize::from(counts.width));
+        Answer {
+            refusal: counts.refusal,
+            counts: [
+                counts.words,
+                counts.arrows,
+                counts.bundles,
+                rows,
+                lines,
+                firm,
+                width,
+            ],
+            side_columns: counts.side_columns.map(usize::from).to_vec(),
+            lists,
+        }
     }
 }
 
@@ -107,7 +133,9 @@ impl Second {
         let before = room.lists([0, 1, 2].map(|list| entries[list] * NUMBERS[list]));
         let fitting = [0, 1, 2].map(|list| before[list].len() / NUMBERS[list]);
         if refusal.is_none() && (0..3).any(|list| fitting[list] < sizes[list]) {
-            (refusal, counts) = self.own.draw(record, [0, 1, 2].map(|i| fitting[i].min(most[i])));
+            (refusal, counts) = self
+                .own
+                .draw(record, [0, 1, 2].map(|i| fitting[i].min(most[i])));
         }
         let written = if refusal.is_none() { sizes } else { [0; 3] };
         let [words, arrows, bundles] = written;
@@ -130,8 +158,14 @@ impl Second {
     /// The lists with so many entries written from the start.
     fn written(&self, entries: [usize; 3], mut lists: [Vec<u16>; 3]) -> [Vec<u16>; 3] {
         let [words, arrows, bundles] = &mut lists;
-        write(words, self.own.vertices[..entries[0]].iter().map(word_numbers));
-        write(arrows, self.own.edges[..entries[1]].iter().map(arrow_numbers));
+        write(
+            words,
+            self.own.vertices[..entries[0]].iter().map(word_numbers),
+        );
+        write(
+            arrows,
+            self.own.edges[..entries[1]].iter().map(arrow_numbers),
+        );
         write(
             bundles,
             self.own.bundles[..entries[2]].iter().map(bundle_numbers),

@@ -10,9 +10,7 @@ pub fn edges(tester: &mut Tester) -> Outcome {
         let before = tester.seen[expected];
         tester.record(&bytes, Room([5, 3, 2]))?;
         if tester.seen[expected] != before + 1 {
-            return Err(format!(
-                "{name}: both sides agree, but the paper says {expected}"
-            ));
+            return Err(format!("{name}: all agree, but the paper says {expected}"));
         }
     }
     Ok(())

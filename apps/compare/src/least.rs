@@ -8,7 +8,7 @@ use reference::lawful::{
 };
 use reference::record::Record;
 
-/// Compares the two, so that one chart speaks for both, and tries all lawful charts.
+/// Compares all voices, so that one chart speaks for them, and tries all lawful charts.
 pub fn least(tester: &mut Tester) -> Outcome {
     for size in 1..=4 {
         let links = least_links(size);

@@ -1,4 +1,5 @@
-//! Compares the proved library with the second implementation on every number handed over.
+//! Compares the proved library and the peer with the second implementation on every number handed
+//! over.
 
 mod answers;
 mod edges;
@@ -17,7 +18,8 @@ const HELP: &str = "usage: compare [--quick] [--seed NUMBER]
 
 Compares the proved library with the second implementation: all small graphs, the paper's edges,
 damaged and random records, lists of every length, sessions, strokes; and tries by brute force
-whether a small graph has a smaller lawful chart. --quick does less of what chance makes.
+whether a small graph has a smaller lawful chart. Every chart is also drawn by the peer
+(tests/peer), which must agree. --quick does less of what chance makes.
 
 Exit status: 0 all agree; 1 a difference, printed with the smallest record found; 2 wrong use.
 ";

@@ -1,11 +1,11 @@
 //! Compares record by record, and makes the first difference small.
 
-use crate::answers::{proved, Answer, Room, Second};
+use crate::answers::{Answer, Room, Second, Voice, VOICES};
 use reference::hex::to_hex;
 use reference::listing::listing;
 use reference::shrink::shrink;
 
-/// Both sides, and what was seen so far.
+/// The second implementation, and what was seen so far.
 pub struct Tester {
     second: Second,
     /// How many records were compared.
@@ -27,35 +27,39 @@ impl Tester {
         }
     }
 
-    /// Compares the two on one record with lists of a length.
+    /// Compares all voices on one record with lists of a length.
     pub fn record(&mut self, bytes: &[u8], room: Room) -> Outcome {
-        let (expected, found) = self.both(bytes, room);
+        let (expected, lists) = self.second.answer(bytes, room);
         self.compared += 1;
         self.seen[usize::from(expected.refusal)] += 1;
-        if found == expected {
-            return Ok(());
+        for voice in VOICES {
+            if voice.answer(bytes, lists.clone()) != expected {
+                return Err(self.smallest(voice, bytes, room));
+            }
         }
-        Err(self.smallest(bytes, room))
+        Ok(())
     }
 
-    fn both(&mut self, bytes: &[u8], room: Room) -> (Answer, Answer) {
+    /// What the second implementation and a voice answer.
+    fn both(&mut self, voice: Voice, bytes: &[u8], room: Room) -> (Answer, Answer) {
         let (expected, lists) = self.second.answer(bytes, room);
-        (expected, proved(bytes, lists))
+        (expected, voice.answer(bytes, lists))
     }
 
     /// The smallest record found on which the two differ, and how.
-    fn smallest(&mut self, bytes: &[u8], room: Room) -> String {
+    fn smallest(&mut self, voice: Voice, bytes: &[u8], room: Room) -> String {
         let small = shrink(bytes, |bytes| {
-            let (expected, found) = self.both(bytes, room);
+            let (expected, found) = self.both(voice, bytes, room);
             expected != found
         });
-        let (expected, found) = self.both(&small, room);
+        let (expected, found) = self.both(voice, &small, room);
         let difference = found.difference(&expected).unwrap_or_default();
         format!(
-            "record {}\nlists longer than needed by {:?}\nproved library differs: {difference}\n\
+            "record {}\nlists longer than needed by {:?}\n{} differs: {difference}\n\
              second implementation:\n{}",
             to_hex(&small),
             room.0,
+            voice.name,
             listing(&small)
         )
     }

@@ -1,13 +1,15 @@
 //! Checks records whole, arrows included, before a dictionary is installed.
 
+mod checking;
 mod files;
 mod progress;
 
-use ceviloneth::{Lists, Refusal};
+use ceviloneth::Refusal;
+use checking::check_in_order;
 use files::Files;
 use progress::Progress;
-use std::fs::{self, File};
-use std::io::{self, Read, Write};
+use std::fs;
+use std::io::{self, Write};
 use std::path::{Path, PathBuf};
 use std::process::ExitCode;
 
@@ -15,16 +17,13 @@ const HELP: &str = "usage: install-check [--list FILE] PATH...
 
 Checks record files whole: layout, sizes, arrows and house lines, and that the chart can be drawn.
 PATH is a record file, or a folder, of which every file is checked, and those of its folders too.
---list FILE names a text file with one PATH a line.
+--list FILE names a text file with one PATH a line. Many files are checked on every core.
 
 For each refused record it prints its name, the number and the word of the refusal, then a summary:
   1 layout, 2 size, 3 stranger, 4 double, 5 ring, 6 cover, 7 broken
 
 Exit status: 0 all are sound; 1 some were refused; 2 a file can't be read, or wrong use.
 ";
-
-/// A longer file is refused like one of this length, so no more of it is read.
-const LONGEST: u64 = 65_536;
 
 fn main() -> ExitCode {
     let arguments: Vec<_> = std::env::args_os().skip(1).collect();
@@ -81,28 +80,20 @@ fn check_all(paths: &[PathBuf]) -> Result<u8, String> {
         tally.unread(path, error);
     }
     let mut progress = Progress::new(files.found.len());
-    let mut lists = Lists::new();
-    for (done, path) in files.found.iter().enumerate() {
-        progress.at(done);
-        let verdict = read(path).map(|record| lists.check(&record));
-        if !matches!(verdict, Ok(Ok(_))) {
+    check_in_order(&files.found, |place, verdict| {
+        progress.at(place);
+        if !matches!(verdict, Ok(Ok(()))) {
             progress.clear();
         }
         match verdict {
-            Ok(Ok(_)) => tally.sound += 1,
-            Ok(Err(refusal)) => tally.refused(path, refusal)?,
-            Err(error) => tally.unread(path, &error),
+            Ok(Ok(())) => tally.sound += 1,
+            Ok(Err(refusal)) => tally.refused(&files.found[place], refusal)?,
+            Err(error) => tally.unread(&files.found[place], &error),
         }
-    }
+        Ok(())
+    })?;
     progress.clear();
     tally.summary()
-}
-
-/// The bytes of a file, as far as they matter.
-fn read(path: &Path) -> io::Result<Vec<u8>> {
-    let mut bytes = Vec::new();
-    File::open(path)?.take(LONGEST).read_to_end(&mut bytes)?;
-    Ok(bytes)
 }
 
 /// What was found so far.

@@ -2,7 +2,7 @@
 
 use std::fs;
 use std::path::{Path, PathBuf};
-use std::process::{Command, Output};
+use std::process::{Command, Output, Stdio};
 
 const SOUND: &[u8] = &[1, 0, 1, 2, 2, 0, 2, 0, 1];
 const RING: &[u8] = &[1, 0, 1, 1, 2, 0, 2, 0, 0];
@@ -61,6 +61,58 @@ fn refused_records_are_named_with_number_and_word() {
     assert!(said.contains("torn: refused 1 layout"), "{said}");
     assert!(said.contains("long: refused 1 layout"), "{said}");
     assert!(said.ends_with("4 checked: 1 sound, 3 refused; 0 can't be read\n"));
+}
+
+/// So many that several threads share the work; what is said follows the files' order all the same.
+#[test]
+fn many_files_are_told_in_order() {
+    let folder = folder("many");
+    let mut expected = String::new();
+    let (mut sound, mut refused) = (0, 0);
+    for number in 0..3000 {
+        let name = format!("entry-{number:04}");
+        let (bytes, reason) = match number % 7 {
+            2 => (RING, Some("5 ring")),
+            5 => (&SOUND[..number % 9], Some("1 layout")),
+            _ => (SOUND, None),
+        };
+        let path = put(&folder, &name, bytes);
+        match reason {
+            None => sound += 1,
+            Some(reason) => {
+                refused += 1;
+                expected += &format!("{}: refused {reason}\n", path.display());
+            }
+        }
+    }
+    let output = run(&[&folder]);
+    assert_eq!(status(&output), Some(1));
+    assert!(output.stderr.is_empty());
+    let said = text(&output.stdout);
+    let (lines, summary) = said.trim_end().rsplit_once('\n').expect("lines");
+    let short = |line: &str| line.split(" (").next().unwrap_or_default().to_string() + "\n";
+    assert_eq!(lines.lines().map(short).collect::<String>(), expected);
+    let counts = format!("3000 checked: {sound} sound, {refused} refused; 0 can't be read");
+    assert_eq!(summary, counts);
+}
+
+/// A reader that goes away ends the check with a word, whatever the threads still do.
+#[test]
+fn a_closed_output_ends_the_check() {
+    let folder = folder("closed");
+    for number in 0..2000 {
+        put(&folder, &number.to_string(), RING);
+    }
+    let mut child = Command::new(env!("CARGO_BIN_EXE_install-check"))
+        .arg(&folder)
+        .stdout(Stdio::piped())
+        .stderr(Stdio::piped())
+        .spawn()
+        .expect("the program runs");
+    drop(child.stdout.take());
+    let output = child.wait_with_output().expect("it ends");
+    assert_eq!(status(&output), Some(2));
+    assert!(text(&output.stderr).starts_with("install-check: standard output: "));
 }
 
 #[test]

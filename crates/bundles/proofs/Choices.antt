@@ -13,8 +13,7 @@ use lib.ListN.{getD}
 use Rattle.counting.specs.Count.{choose}
 use Rattle.counting.proofs.Truth.{true-or-false, lt-or-le, and-intro, and-elim, or-elim, or-neither}
 use Rattle.bundles.specs.Bundles.{before, best, better}
-use Rattle.bundles.specs.Steps.{endOf, loadAt, Finds, Picks}
-use Rattle.bundles.specs.declared.End.{End}
+use Rattle.bundles.specs.Steps.{endOf, loadAt, Finds}
 use Rattle.counting.proofs.Choosing.{choose-yes, choose-no}
 
 -- x edges at position p, and y at position q
@@ -49,6 +48,10 @@ module _ (position f : ℕ → ℕ) where
   unfolding best
   best-first = ⊎-elim (λ p. p .1) (λ p. p .1) (best-cases 0)
 
+  best-none : best position 0 f ≡ 0
+  unfolding best
+  best-none = refl
+
   pub best-below : (n : ℕ) → 0 < n → best position n f < n
   best-below zero l = absurd (not-suc-le-zero l)
   best-below (suc zero) l = subst (λ (x : ℕ). x < 1) (sym best-first) (omega arith)
@@ -72,6 +75,28 @@ module _ (position f : ℕ → ℕ) where
       ⊎-elim
       (λ h. let i = best-most j u h in (omega arith, λ y. let k = i .1 (omega arith) in omega arith))
       (λ h. let q : u ≡ j = omega arith in let fu = ap f q in let pu = ap position q in (omega arith, λ y. let k = b .1 (omega arith) in omega arith))
+      (lt-or-le u j))
+      (best-cases j)
+
+  -- and of equals of one position none has a lower number
+  pub best-least : (n u : ℕ) → u < n → f u ≡ f (best position n f) → position u ≡ position (best position n f) → best position n f ≤ u
+  best-least zero u l a b = absurd (not-suc-le-zero l)
+  best-least (suc j) u l a b =
+      ⊎-elim
+      (λ p. let c = before-yes j (best position j f) (p .0) in
+      let be = p .1 in let fe = ap f (p .1) in let pe = ap position (p .1) in
+      ⊎-elim
+      (λ h. let i = best-most j u h in
+      absurd (⊎-elim (λ z. omega arith) (λ z. let y = z .0 in let x = z .1 in let k = i .1 (omega arith) in omega arith) c))
+      (λ h. omega arith)
+      (lt-or-le u j))
+      (λ p. let be = p .1 in let fe = ap f (p .1) in let pe = ap position (p .1) in
+      ⊎-elim
+      (λ h. let i = best-least j u h (omega arith) (omega arith) in omega arith)
+      (λ h. ⊎-elim
+      (λ k. let q = best-below j k in omega arith)
+      (λ k. let q : best position j f ≡ best position 0 f = ap (λ (x : ℕ). best position x f) (let z : j ≡ 0 = omega arith in z) in let w = best-none in omega arith)
+      (lt-or-le 0 j))
       (lt-or-le u j))
       (best-cases j)
 
@@ -175,9 +200,6 @@ module _ (position : ℕ → ℕ) (f : ℕ → ℕ) where
 -- ---- the same as the code's loop takes it: x edges wait at v, and t is the answer of the test
 
 module _ (position f : ℕ → ℕ) (v a m : ℕ) where
-  pub finds-skip′ : f v ≡ 0 → Finds position v f a m → Finds position (v + 1) f a m
-  finds-skip′ z o = subst (λ (k : ℕ). Finds position k f a m) (sym (add-one v)) (finds-skip position f v a m o z)
-
   module _ (x : ℕ) {t : Bool} (load : f v ≡ x) (test : t ≡ (ltb m x || (eqb m x && ltb (position v) (position a)))) where
     as-load : t ≡ (ltb m (f v) || (eqb m (f v) && ltb (position v) (position a)))
     as-load = test ∙ ap (λ (y : ℕ). ltb m y || (eqb m y && ltb (position v) (position a))) (sym load)
@@ -195,21 +217,3 @@ module _ (channel load : List ℕ) (c : ℕ) (d : Bool) (v : ℕ) where
 
   pub other : (getD channel v 0 ≡ c → ⊥) → loadAt c channel load d v ≡ 0
   other h = choose-no (eqb (getD channel v 0) c) (λ _. getD load (endOf d v) 0) (λ _. 0) (ne-eqb (getD channel v 0) c h)
-
--- ---- of both directions
-
-module _ (position : ℕ → ℕ) (n : ℕ) (f : Bool → ℕ → ℕ) (i o : End) (into : i .into ≡ true) (out : o .into ≡ false)
-    (a : Finds position n (f true) (i .vertex) (i .load)) (b : Finds position n (f false) (o .vertex) (o .load)) where
-  pub picks-out : i .load < o .load → Picks position n f o
-  picks-out l = record {
-    found = subst (λ (d : Bool). Finds position n (f d) (o .vertex) (o .load)) (sym out) b;
-    into = λ e. absurd (true≢false (sym e ∙ out));
-    out-of = λ e h. let m = a .most h in omega arith;
-  }
-
-  pub picks-into : o .load ≤ i .load → Picks position n f i
-  picks-into l = record {
-    found = subst (λ (d : Bool). Finds position n (f d) (i .vertex) (i .load)) (sym into) a;
-    into = λ e h. let m = b .most h in omega arith;
-    out-of = λ e. absurd (true≢false (sym into ∙ e));
-  }

@@ -20,8 +20,7 @@ use Rattle.masks.specs.Sets.{member, member?}
 use Rattle.masks.proofs.Sets.{member-lt}
 use Rattle.bundles.specs.Bundles.{Bundle, gathers, taken, along, waits, waitsAt, lowest, highest, made}
 use Rattle.bundles.specs.Promise.{empty, numberFrom, Listed}
-use Rattle.bundles.specs.Steps.{endOf, Sets, sideIn, Filled, loadIn, openAt, Room, Added, Column, Holds, Stands}
-use Rattle.bundles.specs.declared.State.{State}
+use Rattle.bundles.specs.Steps.{endOf, Sets, sideIn, Filled, Loaded, openAt, State, state, Room, Added, Column, Holds, Stands}
 use Rattle.counting.proofs.Booleans.{and-no, and-yes}
 use Rattle.bundles.proofs.Ends.{end-below, same-end, other-end}
 use Rattle.counting.proofs.Choosing.{choose-yes, choose-no}
@@ -58,6 +57,11 @@ module _ (n : ℕ) (small : n ≤ 128) (sets : List ℕ) where
 
 -- ---- at the start
 
+numbers : (k i : ℕ) → i < k → _≡_ {A = ℕ} (getD (replicate k 256) i 0) 256
+numbers zero i h = absurd (omega arith)
+numbers (suc k) zero h = refl
+numbers (suc k) (suc i) h = numbers k i (omega arith)
+
 indicator-member : (x : ℕ) → x < 2 → x ≡ indicator (eqb x 1)
 indicator-member x l = ⊎-elim (λ e. rw e) (λ e. rw e) (two-cases x l)
 
@@ -71,8 +75,9 @@ module _ (n : ℕ) (small : n ≤ 128) (side : ℕ → ℕ → Bool) (inside : (
   nothing-taken true v w = sym (and-yes (side w v))
   nothing-taken false v w = sym (and-yes (side v w))
 
-  pub stands-none : (sets load : List ℕ) → Sets side sets → Filled 256 (loadIn sets) 256 load
-      → Stands n side [] (record { count = 0; channel = replicate 256 0; first = replicate 256 0; last = replicate 256 0; number = replicate 256 256; load = load })
+  -- no bundle yet
+  pub stands-none : (sets load : List ℕ) → Sets side sets → Loaded sets load
+      → Stands n side [] (state 0 (replicate 256 0) (replicate 256 0) (replicate 256 0) (replicate 256 256) load)
   unfolding numberFrom count
   stands-none sets load s l = record {
     holds = record {
@@ -81,18 +86,13 @@ module _ (n : ℕ) (small : n ≤ 128) (side : ℕ → ℕ → Bool) (inside : (
       channel = record { value = zeros 256 };
       first = record { value = zeros 256 };
       last = record { value = zeros 256 };
-      number = λ d v h. all 256 (endOf d v) (end-below d v h);
+      number = λ d v h. numbers 256 (endOf d v) (end-below d v h);
     };
-    load = λ d v h. l .value (endOf d v) (end-below d v h)
+    load = λ d v h. l .value d v h
         ∙ sum-ext 128 (member sets (2 * endOf d v)) (λ w. indicator (along d side v w)) (λ w m. indicator-member (member sets (2 * endOf d v) w) (member-lt sets (2 * endOf d v) w) ∙ ap indicator (s .has d v w h m))
         ∙ sum-less n 128 (λ w. indicator (along d side v w)) small (λ w a b. ap indicator (along-inside d v w a))
         ∙ sum-ext n (λ w. indicator (along d side v w)) (λ w. indicator (waitsAt side [] d v w)) (λ w m. ap indicator (nothing-taken d v w));
   }
-    where
-      all : (k i : ℕ) → i < k → _≡_ {A = ℕ} (getD (replicate k 256) i 0) 256
-      all zero i h = absurd (omega arith)
-      all (suc k) zero h = refl
-      all (suc k) (suc i) h = all k i (omega arith)
 
 -- ---- after a bundle
 
@@ -142,6 +142,7 @@ module _ (n : ℕ) (small : n ≤ 128) (side : ℕ → ℕ → Bool) (inside : (
     sized = o .holds .sized;
     count = (let e = o .holds .counted in omega arith);
     vertex = omega arith;
+    masks = s .size;
     long = h;
     counted = λ w l t. let e = o .load (not d) w l in
         let i = ap indicator (sym (turned side bs d w v) ∙ sym (open-waits w l) ∙ t) in
@@ -241,10 +242,11 @@ module _ (n : ℕ) (small : n ≤ 128) (side : ℕ → ℕ → Bool) (inside : (
 
 -- ---- at the end
 
-pub holds-listed : (n : ℕ) (bs : List Bundle) (s : State) (into out : List ℕ) → length bs ≤ 2 * n → Holds bs s → Filled 128 (λ v. getD (s .number) (endOf true v) 0) 128 into → Filled 128 (λ v. getD (s .number) (endOf false v) 0) 128 out
-    → Listed n bs (record { count = s .count; channel = s .channel; first = s .first; last = s .last; into = into; «out_of» = out })
-holds-listed n bs s into out few h i o = record {
-  counted = h .counted;
+pub holds-listed : (n : ℕ) (bs : List Bundle) (s : State) (count : ℕ) (into out : List ℕ) → length bs ≤ 2 * n → count ≡ s .count → Holds bs s
+    → Filled 128 (λ v. getD (s .number) (endOf true v) 0) 128 into → Filled 128 (λ v. getD (s .number) (endOf false v) 0) 128 out
+    → Listed n bs (record { count = count; channel = s .channel; first = s .first; last = s .last; into = into; «out_of» = out })
+holds-listed n bs s count into out few e h i o = record {
+  counted = e ∙ h .counted;
   few = few;
   channel = h .channel .value;
   first = h .first .value;
@@ -252,4 +254,18 @@ holds-listed n bs s into out few h i o = record {
   into = λ v l. i .value v l ∙ h .number true v l;
   out-of = λ v l. o .value v l ∙ h .number false v l;
   sizes = (h .sized .channel, h .sized .first, h .sized .last, i .size, o .size);
+}
+
+-- no bundle at all
+pub nothing-listed : (n : ℕ) → Listed n [] (record { count = 0; channel = replicate 256 0; first = replicate 256 0; last = replicate 256 0; into = replicate 128 256; «out_of» = replicate 128 256 })
+unfolding numberFrom
+nothing-listed n = record {
+  counted = refl;
+  few = omega arith;
+  channel = zeros 256;
+  first = zeros 256;
+  last = zeros 256;
+  into = λ v l. numbers 128 v l;
+  out-of = λ v l. numbers 128 v l;
+  sizes = (refl, refl, refl, refl, refl);
 }

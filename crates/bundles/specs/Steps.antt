@@ -1,18 +1,21 @@
 -- What the private steps leave behind. An end is a vertex with a direction: number v for the edges into v, 128 + v for those out of v.
 -- Assumes nothing.
 use mathlib.Core.Path.{_≡_}
-use mathlib.Core.Logic.{_≢_}
-use mathlib.Core.Bool.{Bool, true, false, not, _&&_}
+use mathlib.Core.Logic.{_≢_, _⊎_}
+use mathlib.Core.Bool.{Bool, true, false, not, _&&_, _||_}
 use mathlib.Core.List.{List}
 use Prim.Native.Nat.{ℕ, _+_, _*_, _≤_, _<_, min, max}
 use lib.Dec.{eqb, ltb}
 use lib.ListN.{length, getD, set}
 use Rattle.counting.specs.Count.{choose, indicator, sum, count}
+use Rattle.masks.specs.Bits.{bit}
 use Rattle.masks.specs.Sets.{member, member?}
+use Rattle.masks.specs.Pairs.{inPair}
 use Rattle.bundles.specs.Bundles.{Bundle, along, waitsAt, best, lowest, highest}
+use Rattle.bundles.specs.Sides.{adjacent?, tableSide?}
 use Rattle.bundles.specs.Promise.{noBundle, empty, numberFrom}
-use Rattle.bundles.specs.declared.State.{State}
 use Rattle.bundles.specs.declared.End.{End}
+use Rattle.bundles.specs.declared.Ties.{Ties}
 use Rattle.bundles.specs.declared.Span.{Span}
 
 -- the number of an end: of the edges into v, or out of v
@@ -38,6 +41,41 @@ pub record Filled (most : ℕ) (f : ℕ → ℕ) (j : ℕ) (r : List ℕ) : Type
 abbrev pub loadIn : List ℕ → ℕ → ℕ
 loadIn sets e = sum 128 (member sets (2 * e))
 
+-- these numbers at each end
+pub record Loaded (sets load : List ℕ) : Type 0 where
+  pub size : length load ≡ 256
+  pub value : (d : Bool) (v : ℕ) → v < 128 → getD load (endOf d v) 0 ≡ loadIn sets (endOf d v)
+
+-- of each channel below 128, two masks have those of the first j vertices that are in it
+pub record Owned (channel : List ℕ) (j : ℕ) (own : List ℕ) : Type 0 where
+  pub size : length own ≡ 256
+  pub only : (c v : ℕ) → c < 128 → v < 128 → member own (2 * c) v ≡ 1 → (v < j) × (getD channel v 0 ≡ c)
+  pub all : (c v : ℕ) → c < 128 → v < j → getD channel v 0 ≡ c → member own (2 * c) v ≡ 1
+
+-- the path-transitive edges in the first 128 channels
+unfoldable pub lowSide : ℕ → List ℕ → List ℕ → List ℕ → ℕ → ℕ → Bool
+lowSide n edges channel position u v =
+    tableSide? n edges (λ w. getD channel w 0) (λ w. getD position w 0) u v && ltb (getD channel u 0) 128
+
+-- of the edges by `side`, those out of the vertices before u, and those from u to a vertex before k
+unfoldable pub upTo : (ℕ → ℕ → Bool) → ℕ → ℕ → ℕ → ℕ → Bool
+upTo side u k a b = side a b && (ltb a u || (eqb a u && ltb b k))
+
+-- these are in the masks, and counted
+pub record Marked (side : ℕ → ℕ → Bool) (u k : ℕ) (sets load : List ℕ) : Type 0 where
+  pub sides : Sets (upTo side u k) sets
+  pub loads : Loaded sets load
+
+-- a mask has the vertices from `base` on that edges lead to from u, with some that are next to it; the edges before these are marked
+pub record Marking (mask base u : ℕ) (position sets load : List ℕ) : Type 0 where
+  pub side : ℕ → ℕ → Bool
+  pub low : base ≤ 64
+  pub tail : u < 128
+  pub long : length position ≡ 128
+  pub edges : (j : ℕ) → j < 64 → side u (base + j) ≡ (eqb (bit mask j) 1 && not
+      (adjacent? (getD position u 0) (getD position (base + j) 0)))
+  pub marked : Marked side u base sets load
+
 -- ---- the choice
 
 -- how many edges wait at an end of v, as a vertex of channel c
@@ -56,20 +94,98 @@ pub record Picks (position : ℕ → ℕ) (n : ℕ) (f : Bool → ℕ → ℕ) (
   pub into : r .into ≡ true → 0 < n → f false (best position n (f false)) ≤ r .load
   pub out-of : r .into ≡ false → 0 < n → f true (best position n (f true)) < r .load
 
+-- of the n vertices the mask has those at which f is not 0 and some more, vertex base + j for bit j, and f is their load
+pub record Covers (mask base n : ℕ) (f load : ℕ → ℕ) : Type 0 where
+  pub only : (j : ℕ) → j < 64 → bit mask j ≡ 1 → (base + j < n) × (f (base + j) ≡ load (base + j))
+  pub rest : (j : ℕ) → j < 64 → base + j < n → bit mask j ≡ 0 → f (base + j) ≡ 0
+
+-- what was found of the vertices before the mask's becomes what is found with them
+abbrev pub Scanned : ℕ → ℕ → (ℕ → ℕ) → (ℕ → ℕ) → ℕ → ℕ → ℕ → ℕ → Type 0
+Scanned mask base position load vertex₀ load₀ vertex most =
+    (n : ℕ) (f : ℕ → ℕ) → Covers mask base n f load → Finds position (min base n) f vertex₀ load₀ → Finds position
+    (min (base + 64) n) f vertex most
+
+-- the best of the vertices of two masks is that of all
+abbrev pub Best : ℕ → ℕ → (ℕ → ℕ) → (ℕ → ℕ) → ℕ → ℕ → Type 0
+Best low high position load vertex most =
+    (n : ℕ) (f : ℕ → ℕ) → n ≤ 128 → Covers low 0 n f load → Covers high 64 n f load → Finds position n f vertex most
+
+abbrev pub Chosen : ℕ → ℕ → (ℕ → ℕ) → (Bool → ℕ → ℕ) → End → Type 0
+Chosen low high position load r =
+    (n : ℕ) (f : Bool → ℕ → ℕ) → n ≤ 128 → ((d : Bool) → Covers low 0 n (f d) (load d)) → ((d : Bool) → Covers high 64 n (f d) (load d))
+    → Picks position n f r
+
+-- no member of the mask has a load above `most`, and those with so much are in `ties`
+pub record Level (mask base : ℕ) (load : ℕ → ℕ) (most ties : ℕ) : Type 0 where
+  pub sub : (j : ℕ) → j < 64 → bit ties j ≡ 1 → bit mask j ≡ 1
+  pub bound : (j : ℕ) → j < 64 → bit mask j ≡ 1 → load (base + j) ≤ most
+  pub all : (j : ℕ) → j < 64 → bit mask j ≡ 1 → load (base + j) ≡ most → bit ties j ≡ 1
+
+-- unless `most` is what it was before, a member has it
+abbrev pub Attained : ℕ → ℕ → (ℕ → ℕ) → ℕ → ℕ → Type 0
+Attained mask base load least most =
+    (most ≡ least) ⊎ ((j : ℕ) × (j < 64) × (bit mask j ≡ 1) × (load (base + j) ≡ most))
+
+pub record Tied (low high : ℕ) (load : Bool → ℕ → ℕ) (t : Ties) : Type 0 where
+  pub into-low : Level low 0 (load true) (t .most) (t .«into_low»)
+  pub into-high : Level high 64 (load true) (t .most) (t .«into_high»)
+  pub out-low : Level low 0 (load false) (t .most) (t .«out_low»)
+  pub out-high : Level high 64 (load false) (t .most) (t .«out_high»)
+
+-- unless it is 0, an end of a member of two masks has so many edges
+abbrev pub Reached : ℕ → ℕ → (Bool → ℕ → ℕ) → ℕ → Type 0
+Reached low high load most =
+    (most ≡ 0) ⊎ ((d : Bool) × (u : ℕ) × (u < 128) × (inPair low high u ≡ 1) × (load d u ≡ most))
+
+-- of the n vertices, the mask has those of channel c among the 64 from `base` on
+pub record Part (n : ℕ) (channel : List ℕ) (c mask base : ℕ) : Type 0 where
+  pub only : (j : ℕ) → j < 64 → bit mask j ≡ 1 → (base + j < n) × (getD channel (base + j) 0 ≡ c)
+  pub all : (j : ℕ) → j < 64 → base + j < n → getD channel (base + j) 0 ≡ c → bit mask j ≡ 1
+
 -- ---- a bundle
 
 -- an edge at the end that is in no bundle yet, with w at its other end
 unfoldable pub openAt : List ℕ → List ℕ → Bool → ℕ → ℕ → Bool
 openAt sets number into v w = member? sets (2 * endOf into v) w && eqb (getD number (endOf (not into) w) 0) noBundle
 
--- of the vertices below j at the other ends of such edges and v: the rows from the lowest to the highest, and one edge less at each
-pub record Gathered (sets number rows : List ℕ) (into : Bool) (v j : ℕ) (was is : List ℕ) (r : Span) : Type 0 where
-  pub first : r .first ≡ min (lowest j (openAt sets number into v) (λ w. getD rows w 0)) (getD rows v 0)
-  pub last : r .last ≡ max (highest j (openAt sets number into v) (λ w. getD rows w 0)) (getD rows v 0)
+-- the same for the members of one mask of the end's set
+abbrev pub openIn : ℕ → ℕ → List ℕ → Bool → ℕ → Bool
+openIn mask base number into j = eqb (bit mask j) 1 && eqb (getD number (endOf (not into) (base + j)) 0) noBundle
+
+-- of the vertices below j that pass the test: the rows from the lowest to the highest, with one row more, and one edge less at each
+pub record Gathered (test : ℕ → Bool) (rows : List ℕ) (into : Bool) (row j : ℕ) (was is : List ℕ) (first last : ℕ) : Type 0 where
+  pub lowest-row : first ≡ min (lowest j test (λ w. getD rows w 0)) row
+  pub highest-row : last ≡ max (highest j test (λ w. getD rows w 0)) row
   pub size : length is ≡ length was
-  pub fewer : (w : ℕ) → w < j → getD is (endOf (not into) w) 0 + indicator (openAt sets number into v w) ≡ getD was (endOf (not into) w) 0
+  pub fewer : (w : ℕ) → w < j → getD is (endOf (not into) w) 0 + indicator (test w) ≡ getD was (endOf (not into) w) 0
   pub from : (w : ℕ) → j ≤ w → w < 128 → getD is (endOf (not into) w) 0 ≡ getD was (endOf (not into) w) 0
   pub kept : (w : ℕ) → w < 128 → getD is (endOf into w) 0 ≡ getD was (endOf into w) 0
+
+-- what was gathered of the vertices before the mask's becomes what is gathered with them
+abbrev pub Gathers : ℕ → ℕ → List ℕ → List ℕ → Bool → List ℕ → Span → List ℕ → Span → Type 0
+Gathers mask base number rows into was s is r =
+    (test : ℕ → Bool) (row : ℕ) (start : List ℕ) → ((j : ℕ) → j < 64 → test (base + j) ≡ openIn mask base number into j)
+    → Gathered test rows into row base start was (s .first) (s .last) → Gathered test rows into row (base + 64) start is (r .first)
+    (r .last)
+
+-- the bundles so far, and of each end the number of its bundle, or `noBundle`, and how many edges still wait at it
+pub record State : Type 0 where
+  pub count : ℕ
+  pub channel : List ℕ
+  pub first : List ℕ
+  pub last : List ℕ
+  pub number : List ℕ
+  pub load : List ℕ
+
+abbrev pub state : ℕ → List ℕ → List ℕ → List ℕ → List ℕ → List ℕ → State
+state count channel first last number load = record {
+  count = count;
+  channel = channel;
+  first = first;
+  last = last;
+  number = number;
+  load = load;
+}
 
 pub record Sized (s : State) : Type 0 where
   pub channel : length (s .channel) ≡ 256
@@ -83,6 +199,7 @@ pub record Room (sets rows : List ℕ) (into : Bool) (v : ℕ) (s : State) : Typ
   pub sized : Sized s
   pub count : s .count < 256
   pub vertex : v < 128
+  pub masks : length sets ≡ 512
   pub long : length rows ≡ 128
   pub counted : (w : ℕ) → w < 128 → openAt sets (s .number) into v w ≡ true → 0 < getD (s .load) (endOf (not into) w) 0
 
@@ -96,7 +213,8 @@ pub record Added (sets rows : List ℕ) (c : ℕ) (into : Bool) (v : ℕ) (s r :
   pub size : length (r .load) ≡ length (s .load)
   pub gone : getD (r .load) (endOf into v) 0 ≡ 0
   pub kept : (w : ℕ) → w < 128 → w ≢ v → getD (r .load) (endOf into w) 0 ≡ getD (s .load) (endOf into w) 0
-  pub fewer : (w : ℕ) → w < 128 → getD (r .load) (endOf (not into) w) 0 + indicator (openAt sets (s .number) into v w) ≡ getD (s .load) (endOf (not into) w) 0
+  pub fewer : (w : ℕ) → w < 128 → getD (r .load) (endOf (not into) w) 0 + indicator (openAt sets (s .number) into v w) ≡ getD (s .load)
+      (endOf (not into) w) 0
 
 -- ---- the state
 

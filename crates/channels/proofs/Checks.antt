@@ -71,10 +71,6 @@ pub has-lacks : (n : ℕ) (l : List ℕ) → ((v : ℕ) → v < n → has v l �
 unfolding lacks?
 has-lacks n l f = some-none n (λ u. not (has u l)) (λ v h. ap not (f v h))
 
-pub hasnt-lacks : (n : ℕ) (l : List ℕ) (v : ℕ) → v < n → has v l ≡ false → lacks? n l ≡ true
-unfolding lacks?
-hasnt-lacks n l v h e = some-found n (λ u. not (has u l)) v h (ap not e)
-
 pub broken-linked : (leads : ℕ → ℕ → Bool) (ls : List (List ℕ)) → broken? leads ls ≡ false → allLinked leads ls ≡ true
 unfolding broken?
 broken-linked leads ls e = not-false (allLinked leads ls) e
@@ -167,59 +163,11 @@ module _ (field : List ℕ) where
   once-all i k seen o h = once-repeats (verticesOf field) λ v.
       omega (arith, o .often v, indicator-le (member? seen 0 v), ap (times v) (left-end field i k h), times-none v)
 
--- ---- the set of the vertices
-
-has-cons : (v x : ℕ) (l : List ℕ) → has v (x ∷ l) ≡ (eqb x v || has v l)
-unfolding has
-has-cons v x l = refl
-
-or-nothing : (b : Bool) → (b || false) ≡ b
-or-nothing true = refl
-or-nothing false = refl
+-- ---- a vertex that is not led to
 
 and-shift : (a b c : Bool) → ((a && b) && c) ≡ (a && (b && c))
 and-shift true b c = refl
 and-shift false b c = refl
-
-or-swap : (a b c : Bool) → (a || (b || c)) ≡ ((b || a) || c)
-or-swap true true c = refl
-or-swap true false c = refl
-or-swap false true c = refl
-or-swap false false c = refl
-
-module _ (field : List ℕ) where
-  -- the vertices before byte i are the set's
-  pub record Seen (i k : ℕ) (seen : List ℕ) : Type 0 where
-    pub masks : length seen ≡ 4
-    pub all : (v : ℕ) → has v (verticesOf field) ≡ (member? seen 0 v || has v (left field i k))
-
-  pub seen-none : Seen 0 0 (replicate 4 0)
-  seen-none = record { masks = refl; all = λ v. ap (has v) (left-all field) ∙ sym (ap (λ b. b || has v (left field 0 0)) (member-zeros 4 v)) }
-
-  module _ (i : ℕ) (h : i < length field) (k : ℕ) (seen : List ℕ) (o : Seen i k seen) where
-    pub seen-length : k ≡ 0 → (x : ℕ) → x ≡ getD field i 0 → Seen (i + 1) x seen
-    seen-length e x ex = record { masks = o .masks; all = λ v. o .all v ∙ ap (λ l. member? seen 0 v || has v l) (left-length field i h k e ∙ ap (left field (i + 1)) (sym ex)) }
-
-    pub seen-more : k ≢ 0 → (x : ℕ) → x ≡ getD field i 0 → x < 256 → (seen′ : List ℕ) → seen′ ≡ inserted seen 0 x → Seen (i + 1) (k - 1) seen′
-    seen-more d x ex b seen′ es = rw es (record {
-      masks = length-inserted seen 0 x ∙ o .masks;
-      all = λ v.
-          o .all v ∙ ap (λ l. member? seen 0 v || has v l) (left-vertex field i h k d ∙ ap (λ y. y ∷ rest) (sym ex)) ∙ ap (λ y. member? seen 0 v || y) (has-cons v x rest)
-          ∙ or-swap (member? seen 0 v) (eqb x v) (has v rest) ∙ ap (λ y. y || has v rest) (go v (ℕ-discrete v x));
-    })
-      where
-        rest : List ℕ
-        rest = left field (i + 1) (k - 1)
-
-        go : (v : ℕ) → Dec (v ≡ x) → (eqb x v || member? seen 0 v) ≡ member? (inserted seen 0 x) 0 v
-        go v (yes q) = subst (λ y. (eqb x y || member? seen 0 y) ≡ member? (inserted seen 0 x) 0 y) (sym q) (rw (eq-eqb x x refl) (sym (inserted-here seen 0 x (omega (arith, o .masks)))))
-        go v (no q) = rw (ne-eqb x v (λ z. q (sym z))) (sym (inserted-other seen 0 x v q))
-
-  pub seen-all : (i k : ℕ) (seen : List ℕ) → Seen i k seen → length field ≤ i → (v : ℕ) → member? seen 0 v ≡ has v (verticesOf field)
-  unfolding has
-  seen-all i k seen o h v = sym (o .all v ∙ ap (λ l. member? seen 0 v || has v l) (left-end field i k h) ∙ or-nothing (member? seen 0 v))
-
--- ---- a vertex that is not led to
 
 linked-filled : (leads : ℕ → ℕ → Bool) (ls : List (List ℕ)) → allLinked leads (filled ls) ≡ allLinked leads ls
 unfolding filled every linked

@@ -6,6 +6,8 @@ pub mod Answers
 pub mod Fields
 pub mod Checks
 pub mod Reading
+pub mod Walking
 pub mod Theorems
+pub mod Tabling
 pub mod Acyclic
-pub mod Graphs
+pub mod Agreeing

@@ -27,7 +27,7 @@ use Rattle.channels.proofs.Checks.{given-covers}
 
 -- ---- what the refusals tell
 
-taken : (refusal : ℕ) (ls : List (List ℕ)) (r : Channels) → Answers refusal ls r → r .refusal ≡ 0 → (refusal ≡ 0) × Arranged ls r
+pub taken : (refusal : ℕ) (ls : List (List ℕ)) (r : Channels) → Answers refusal ls r → r .refusal ≡ 0 → (refusal ≡ 0) × Arranged ls r
 taken refusal ls r a e =
     let z : refusal ≡ 0 = sym (a .refused) ∙ e in
     (z, subst (λ b. Arranged (choose b (λ _. ls) (λ _. [])) r) (eq-eqb refusal 0 z) (a .arranged))

@@ -3,24 +3,23 @@
 ghost use mathlib.Core.Path.{_≡_};
 ghost use mathlib.Core.Logic.{_≢_};
 ghost use mathlib.Core.Bool.{Bool, _||_};
-ghost use mathlib.Core.List.{[]};
-ghost use Prim.Native.Nat.{ℕ, suc, _+_, _≤_, _<_};
-ghost use lib.ListN.{length, getD};
+ghost use mathlib.Core.List.{[], _∷_};
+ghost use Prim.Native.Nat.{suc, _+_, _≤_, _<_};
+ghost use lib.ListN.{length};
 ghost use lib.Dec.{eqb};
-ghost use Rattle.masks.specs.Sets.{member?};
-ghost use Rattle.matching.specs.Search.{nobody, matching};
-ghost use Rattle.matching.specs.Lists.{has};
-ghost use Rattle.matching.specs.Chains.{successor, begun};
+ghost use Rattle.masks.specs.Sets.{member?, inserted};
+ghost use Rattle.matching.specs.Search.{matching};
+ghost use Rattle.matching.specs.Chains.{begun};
 ghost use Rattle.channels.specs.Table.{leadsIn};
-ghost use Rattle.channels.specs.Given.{linesOf, verticesOf, unknown?, repeats?, lacks?, broken?};
-ghost use Rattle.channels.specs.Arranged.{Arranged, openedIn, extendedBy, placedAt};
+ghost use Rattle.channels.specs.Given.{verticesOf, unknown?};
+ghost use Rattle.channels.specs.Arranged.{Arranged};
+ghost use Rattle.channels.specs.Laid.{tables, Opens, Lays, Successors, followed, Ready, Behind};
 ghost use Rattle.channels.specs.Search.{state, NextOpen, Augments};
+ghost use Rattle.channels.specs.Walked.{weighed, settled, Walks};
 ghost use Rattle.channels.specs.Promise.{Plans, Gives};
 
-// The most vertices, the masks of a set of so many, and what stands for no vertex.
+// The most vertices, and what stands for no vertex.
 const MOST: usize = 128;
-
-const WIDTH: u32 = 2;
 
 const NOBODY: u8 = 255;
 
@@ -44,36 +43,72 @@ fn wide(x: u8) -> usize
 
 // ---- the search
 
-// The next vertex at or after `from` that h leads to and that is not visited; 128 where there is none.
-fn next_open<'a>(table: &'a [u64], h: u8, visited: &'a [u64], from: usize) -> usize
-    ensures { λ r. ⌜ NextOpen (now (table .entry)) h (now (visited .entry)) from r ⌝ }
+// Puts v into the set of the visited vertices.
+fn visit(visited: &mut [u64], v: usize)
+    requires { ⌜ (length (now visited) ≡ 2) × (v < 128) ⌝ }
+    ensures { λ r. ⌜ now (visited .exit) ≡ inserted (now (visited .entry)) 0 v ⌝ }
+{
+    if v < 64 {
+        visited[0] |= 1u64 << v;
+    } else {
+        visited[1] |= 1u64 << (v - 64);
+    }
+}
+
+// The first vertex of a set of two masks that is not visited; 128 where there is none.
+fn first_open(low: u64, high: u64, visited: &[u64]) -> usize
+    requires { ⌜ length (now visited) ≡ 2 ⌝ }
+    ensures { λ r. ⌜ NextOpen (low ∷ high ∷ []) 0 (now (visited .entry)) 0 r ⌝ }
+{
+    let x = low & !visited[0];
+    if x != 0 {
+        return u64::trailing_zeros(x) as usize;
+    }
+    let y = high & !visited[1];
+    if y != 0 {
+        return 64 + u64::trailing_zeros(y) as usize;
+    }
+    128
+}
+
+// The first vertex that h leads to and that is not visited; 128 where there is none.
+fn next_open<'a>(table: &'a [u64], h: u8, visited: &'a [u64]) -> usize
+    requires { ⌜ length (now visited) ≡ 2 ⌝ }
+    ensures { λ r. ⌜ NextOpen (now (table .entry)) h (now (visited .entry)) 0 r ⌝ }
 {
     let row = 2 * wide(h);
-    let low = masks::mask_at(table, row, 0) & !masks::mask_at(visited, 0, 0);
-    let high = masks::mask_at(table, row, 1) & !masks::mask_at(visited, 0, 1);
-    let open = [low, high];
-    masks::next(&open, 0, WIDTH, from)
+    let low = masks::mask_at(table, row, 0);
+    let high = masks::mask_at(table, row, 1);
+    first_open(low, high, visited)
 }
 
 // Searches a successor for h: the first vertex that h leads to, not visited yet, that has no predecessor or whose predecessor can be
-// given another successor in the same way. At each call fewer vertices are unvisited.
+// given another successor in the same way. A predecessor that leads to no vertex below n that is not visited is not asked: it has no
+// other successor. At each call fewer vertices are unvisited.
 fn augment(table: &[u64], n: usize, h: u8, predecessor: &mut [u8], visited: &mut [u64]) -> bool
     requires { ⌜ (n ≤ 128) × (length (now predecessor) ≡ 128) × (length (now visited) ≡ 2) ⌝ }
     ensures { λ r. ⌜ Augments (leadsIn (now (table .entry))) n h (state (now (predecessor .entry)) (now (visited .entry)) Bool.false) (state (now (predecessor .exit)) (now (visited .exit)) r) ⌝ }
 {
-    let mut v = next_open(table, h, visited, 0);
+    let row = 2 * wide(h);
+    let low = masks::mask_at(table, row, 0);
+    let high = masks::mask_at(table, row, 1);
+    let mut v = first_open(low, high, visited);
     while v < n {
-        masks::insert(visited, 0, v);
+        visit(visited, v);
         let k = predecessor[v];
         if k == NOBODY {
             predecessor[v] = h;
             return true;
         }
-        if augment(table, n, k, predecessor, visited) {
-            predecessor[v] = h;
-            return true;
+        if next_open(table, k, visited) < n {
+            if augment(table, n, k, predecessor, visited) {
+                predecessor[v] = h;
+                return true;
+            }
+            v = first_open(low, high, visited);
+        } else {
+            v = first_open(low, high, visited);
         }
-        v = next_open(table, h, visited, v + 1);
     }
     false
 }
@@ -110,77 +145,94 @@ fn empty(refusal: u8) -> Channels
     }
 }
 
-// With a channel opened that has no vertex yet.
-fn opened(r: Channels) -> Channels
-    requires { ⌜ r .count < 128 ⌝ }
-    ensures { λ s. ⌜ s ≡ openedIn r ⌝ }
+// Opens a channel where the position is 0: it begins at place `at` of the order. The number of channels then.
+fn opened(starts: &mut [u8], count: usize, at: usize, p: usize) -> usize
+    requires { ⌜ (length (now starts) ≡ 128) × (count < 128) × (at < 128) × (p ≢ 0 → 0 < count) ⌝ }
+    ensures { λ r. ⌜ Opens p count at (now (starts .entry)) (now (starts .exit)) r × (0 < r) × (r ≤ count + 1) ⌝ }
 {
-    let mut next = r;
-    let c = wide(r.count);
-    next.starts[c] = r.vertices;
-    next.count = r.count + 1;
-    next
-}
-
-// With v at the end of the last channel.
-fn extended(r: Channels, position: u8, v: u8) -> Channels
-    requires { ⌜ (0 < r .count) × (r .vertices < 128) × (v < 128) ⌝ }
-    ensures { λ s. ⌜ s ≡ extendedBy position v r ⌝ }
-{
-    let mut next = r;
-    let at = wide(r.vertices);
-    let w = wide(v);
-    next.channel[w] = r.count - 1;
-    next.position[w] = position;
-    next.order[at] = v;
-    next.vertices = r.vertices + 1;
-    next
-}
-
-// With v at a position of the last channel, and of a new one where the position is 0.
-fn placed(r: Channels, position: u8, v: u8) -> Channels
-    requires { ⌜ (position ≡ 0 → r .count < 128) × (position ≢ 0 → 0 < r .count) × (r .vertices < 128) × (v < 128) ⌝ }
-    ensures { λ s. ⌜ s ≡ placedAt position v r ⌝ }
-{
-    if position == 0 {
-        return extended(opened(r), position, v);
+    if p != 0 {
+        return count;
     }
-    extended(r, position, v)
+    starts[count] = at as u8;
+    count + 1
+}
+
+// Lays v at a position of the last channel, and of a new one where the position is 0; nothing where 128 are laid. The number of channels
+// then.
+fn lay<'c, 'p, 'o, 's>(
+    channel: &'c mut [u8],
+    position: &'p mut [u8],
+    order: &'o mut [u8],
+    starts: &'s mut [u8],
+    count: usize,
+    at: usize,
+    p: usize,
+    v: usize,
+) -> usize
+    requires { ⌜ (length (now channel) ≡ 128) × (length (now position) ≡ 128) × (length (now order) ≡ 128) × (length (now starts) ≡ 128) × (count ≤ at) × (p ≤ at) × (0 < at → 0 < count) × (v < 128) ⌝ }
+    ensures { λ r. ⌜ Lays p v (tables count at (now (channel .entry)) (now (position .entry)) (now (order .entry)) (now (starts .entry))) (tables r (at + 1) (now (channel .exit)) (now (position .exit)) (now (order .exit)) (now (starts .exit))) ⌝ }
+{
+    if 128 <= at {
+        return count;
+    }
+    let c = opened(starts, count, at, p);
+    channel[v] = (c - 1) as u8;
+    position[v] = p as u8;
+    order[at] = v as u8;
+    c
 }
 
 // ---- planned channels
 
-// The first vertex whose predecessor is h, or NOBODY.
-fn successor_of(predecessor: &[u8], n: usize, h: u8) -> u8
+// Each vertex's successor: the first vertex whose predecessor it is, or NOBODY. The later ones are stored first.
+fn successors(predecessor: &[u8], n: usize) -> [u8; 128]
     requires { ⌜ (n ≤ 128) × (length (now predecessor) ≡ 128) ⌝ }
-    ensures { λ r. ⌜ r ≡ successor n (now (predecessor .entry)) h ⌝ }
+    ensures { λ r. ⌜ Successors n (now (predecessor .entry)) r ⌝ }
 {
-    let mut v: u8 = 0;
-    while wide(v) < n {
-        let at = wide(v);
-        let p = predecessor[at];
-        if p == h {
-            return v;
+    let mut r = [NOBODY; 128];
+    let mut v = n;
+    while 0 < v {
+        let w = v - 1;
+        let p = wide(predecessor[w]);
+        if p < 128 {
+            r[p] = w as u8;
         }
-        v += 1;
+        v = w;
     }
-    NOBODY
+    r
 }
 
-// With the channel that begins with v.
-fn with_chain(r: Channels, predecessor: &[u8], n: usize, v: u8) -> Channels
-    requires { ⌜ (n ≤ 128) × (length (now predecessor) ≡ 128) × (v < n) × (getD (now predecessor) v 0 ≡ nobody) × Arranged (begun n (now predecessor) v) r ⌝ }
-    ensures { λ s. ⌜ (s .refusal ≡ r .refusal) × Arranged (begun n (now (predecessor .entry)) (suc v)) s ⌝ }
+// How many channels and vertices are laid.
+struct Extent {
+    count: usize,
+    vertices: usize,
+}
+
+// Lays the channel that begins with v and goes on by the vertices' successors, while these are below n, behind those that are laid.
+fn with_chain<'c, 'p, 'o, 's>(
+    channel: &'c mut [u8],
+    position: &'p mut [u8],
+    order: &'o mut [u8],
+    starts: &'s mut [u8],
+    successor: &[u8],
+    n: usize,
+    was: Extent,
+    v: usize,
+) -> Extent
+    requires { ⌜ (n ≤ 128) × (length (now successor) ≡ 128) × (v < n) × Ready n (followed n (now successor) (suc n) v) (tables (was .count) (was .vertices) (now channel) (now position) (now order) (now starts)) ⌝ }
+    ensures { λ r. ⌜ Behind n (followed n (now (successor .entry)) (suc n) v) (tables (was .count) (was .vertices) (now (channel .entry)) (now (position .entry)) (now (order .entry)) (now (starts .entry))) (tables (r .count) (r .vertices) (now (channel .exit)) (now (position .exit)) (now (order .exit)) (now (starts .exit))) ⌝ }
 {
-    let mut s = r;
+    let mut count = was.count;
+    let mut vertices = was.vertices;
+    let mut p: usize = 0;
     let mut w = v;
-    let mut position: u8 = 0;
-    while w != NOBODY {
-        s = placed(s, position, w);
-        position += 1;
-        w = successor_of(predecessor, n, w);
+    while w < n {
+        count = lay(channel, position, order, starts, count, vertices, p, w);
+        vertices += 1;
+        p += 1;
+        w = wide(successor[w]);
     }
-    s
+    Extent { count, vertices }
 }
 
 // The channels that the predecessors make, by first vertex, ascending.
@@ -188,23 +240,47 @@ fn chains(predecessor: &[u8], n: usize) -> Channels
     requires { ⌜ (n ≤ 128) × (length (now predecessor) ≡ 128) ⌝ }
     ensures { λ r. ⌜ (r .refusal ≡ 0) × Arranged (begun n (now (predecessor .entry)) n) r ⌝ }
 {
-    let mut r = empty(0);
-    let mut v: u8 = 0;
-    while wide(v) < n {
-        let at = wide(v);
-        let p = predecessor[at];
+    let successor = successors(predecessor, n);
+    let mut channel = [0u8; 128];
+    let mut position = [0u8; 128];
+    let mut order = [0u8; 128];
+    let mut starts = [0u8; 128];
+    let mut s = Extent {
+        count: 0,
+        vertices: 0,
+    };
+    let mut v: usize = 0;
+    while v < n {
+        let p = predecessor[v];
         let next = v + 1;
         if p == NOBODY {
-            r = with_chain(r, predecessor, n, v);
+            s = with_chain(
+                &mut channel,
+                &mut position,
+                &mut order,
+                &mut starts,
+                &successor,
+                n,
+                s,
+                v,
+            );
         }
         v = next;
     }
-    r
+    Channels {
+        refusal: 0,
+        count: s.count as u8,
+        vertices: s.vertices as u8,
+        channel,
+        position,
+        order,
+        starts,
+    }
 }
 
 // Plans the channels of n vertices by the table. Refused with 2 (no vertex, or more than 128), and then there is none.
-pub fn plan(n: usize, table: [u64; 256]) -> Channels
-    ensures { λ r. ⌜ Plans n table r ⌝ }
+pub fn plan(n: usize, table: &[u64]) -> Channels
+    ensures { λ r. ⌜ Plans n (now (table .entry)) r ⌝ }
 {
     if n == 0 {
         return empty(2);
@@ -212,7 +288,7 @@ pub fn plan(n: usize, table: [u64; 256]) -> Channels
     if MOST < n {
         return empty(2);
     }
-    let predecessor = matched(&table, n);
+    let predecessor = matched(table, n);
     chains(&predecessor, n)
 }
 
@@ -240,66 +316,6 @@ pub fn unknown(n: usize, field: &[u8]) -> bool
     false
 }
 
-// Whether a vertex stands twice in the field.
-pub fn repeats(field: &[u8]) -> bool
-    ensures { λ r. ⌜ r ≡ repeats? (verticesOf (now (field .entry))) ⌝ }
-{
-    let mut seen = [0u64; 4];
-    let mut left: usize = 0;
-    let mut i: usize = 0;
-    while i < field.len() {
-        let v = wide(field[i]);
-        let next = i + 1;
-        if left == 0 {
-            left = v;
-        } else {
-            let fewer = left - 1;
-            if masks::contains(&seen, 0, v) {
-                return true;
-            }
-            masks::insert(&mut seen, 0, v);
-            left = fewer;
-        }
-        i = next;
-    }
-    false
-}
-
-// The set of the field's vertices.
-fn vertices_of(field: &[u8]) -> [u64; 4]
-    ensures { λ r. ⌜ (length r ≡ 4) × ((v : ℕ) → member? r 0 v ≡ has v (verticesOf (now (field .entry)))) ⌝ }
-{
-    let mut seen = [0u64; 4];
-    let mut left: usize = 0;
-    let mut i: usize = 0;
-    while i < field.len() {
-        let v = wide(field[i]);
-        let next = i + 1;
-        if left == 0 {
-            left = v;
-        } else {
-            let fewer = left - 1;
-            masks::insert(&mut seen, 0, v);
-            left = fewer;
-        }
-        i = next;
-    }
-    seen
-}
-
-// Whether a vertex below n stands nowhere in the field.
-pub fn lacks(n: usize, field: &[u8]) -> bool
-    ensures { λ r. ⌜ r ≡ lacks? n (verticesOf (now (field .entry))) ⌝ }
-{
-    let seen = vertices_of(field);
-    for v in 0..n {
-        if !masks::contains(&seen, 0, v) {
-            return true;
-        }
-    }
-    false
-}
-
 // Whether v may follow `last` in a line: it is the first, or `last` leads to it.
 fn follows(table: &[u64], last: usize, v: usize) -> bool
     requires { ⌜ last ≤ 256 ⌝ }
@@ -311,10 +327,64 @@ fn follows(table: &[u64], last: usize, v: usize) -> bool
     masks::contains(table, 2 * last, v)
 }
 
-// Whether a vertex of a line is not led to by the one before it.
-fn broken_in<'a>(table: &'a [u64], field: &'a [u8]) -> bool
-    ensures { λ r. ⌜ r ≡ broken? (leadsIn (now (table .entry))) (linesOf (now (field .entry))) ⌝ }
+// Puts v into the set: 6 where it stood there before; else 7 where nothing was found so far and v may not follow `last`; else what was
+// found so far.
+fn weigh(table: &[u64], seen: &mut [u64], last: usize, v: usize, fault: u8) -> u8
+    requires { ⌜ last ≤ 256 ⌝ }
+    ensures { λ r. ⌜ (r ≡ weighed (member? (now (seen .entry)) 0 v) (eqb last 256 || leadsIn (now (table .entry)) last v) fault) × ((member? (now (seen .entry)) 0 v ≡ Bool.false → now (seen .exit) ≡ inserted (now (seen .entry)) 0 v)) ⌝ }
 {
+    if masks::contains(seen, 0, v) {
+        return 6;
+    }
+    masks::insert(seen, 0, v);
+    if fault != 0 {
+        return fault;
+    }
+    if follows(table, last, v) {
+        return 0;
+    }
+    7
+}
+
+// What was found, and 6 too where the vertices are not as many as they should be.
+fn settle(fault: u8, vertices: usize, n: usize) -> u8
+    ensures { λ r. ⌜ r ≡ settled fault vertices n ⌝ }
+{
+    if fault == 6 {
+        return 6;
+    }
+    if vertices != n {
+        return 6;
+    }
+    fault
+}
+
+// Why given channels are refused, or 0, and how many channels and vertices are laid.
+struct Walked {
+    refusal: u8,
+    count: usize,
+    vertices: usize,
+}
+
+// The checks of the field and the channels' tables, in one walk over its bytes. Where it answers 0 the tables are those of the channels;
+// else what they hold is not said.
+fn walk<'a, 'c, 'p, 'o, 's>(
+    n: usize,
+    table: &'a [u64],
+    field: &'a [u8],
+    channel: &'c mut [u8],
+    position: &'p mut [u8],
+    order: &'o mut [u8],
+    starts: &'s mut [u8],
+) -> Walked
+    requires { ⌜ (n ≢ 0) × (n ≤ 128) × Arranged [] (tables 0 0 (now channel) (now position) (now order) (now starts)) ⌝ }
+    ensures { λ r. ⌜ Walks (leadsIn (now (table .entry))) n (now (field .entry)) (now (channel .exit)) (now (position .exit)) (now (order .exit)) (now (starts .exit)) r ⌝ }
+{
+    let mut seen = [0u64; 4];
+    let mut fault: u8 = 0;
+    let mut count: usize = 0;
+    let mut vertices: usize = 0;
+    let mut p: usize = 0;
     let mut last: usize = 256;
     let mut left: usize = 0;
     let mut i: usize = 0;
@@ -324,56 +394,37 @@ fn broken_in<'a>(table: &'a [u64], field: &'a [u8]) -> bool
         if left == 0 {
             left = v;
             last = 256;
+            p = 0;
         } else {
             let fewer = left - 1;
-            if !follows(table, last, v) {
-                return true;
+            if v >= n {
+                return Walked {
+                    refusal: 3,
+                    count: 0,
+                    vertices: 0,
+                };
             }
+            fault = weigh(table, &mut seen, last, v, fault);
+            count = lay(channel, position, order, starts, count, vertices, p, v);
             last = v;
+            vertices += 1;
+            p += 1;
             left = fewer;
         }
         i = next;
     }
-    false
-}
-
-// Whether a vertex of a line of the field is not led to, by any route, by the one before it.
-pub fn broken(table: [u64; 256], field: &[u8]) -> bool
-    ensures { λ r. ⌜ r ≡ broken? (leadsIn table) (linesOf (now (field .entry))) ⌝ }
-{
-    broken_in(&table, field)
-}
-
-// The channels of a field that names no vertex twice and none of 128 or more.
-fn arranged(field: &[u8]) -> Channels
-    requires { ⌜ (repeats? (verticesOf (now field)) ≡ Bool.false) × (unknown? 128 (verticesOf (now field)) ≡ Bool.false) ⌝ }
-    ensures { λ r. ⌜ (r .refusal ≡ 0) × Arranged (linesOf (now (field .entry))) r ⌝ }
-{
-    let mut r = empty(0);
-    let mut position: u8 = 0;
-    let mut left: usize = 0;
-    let mut i: usize = 0;
-    while i < field.len() {
-        let v = field[i];
-        let next = i + 1;
-        if left == 0 {
-            left = wide(v);
-            position = 0;
-        } else {
-            let fewer = left - 1;
-            r = placed(r, position, v);
-            position += 1;
-            left = fewer;
-        }
-        i = next;
+    let refusal = settle(fault, vertices, n);
+    Walked {
+        refusal,
+        count,
+        vertices,
     }
-    r
 }
 
 // The channels of the field, in its order, for n vertices and a table. Refused with 2 (no vertex, or more than 128), 3 (a vertex of n or
 // more), 6 (a vertex repeated or lacking) or 7 (a vertex not led to by the one before it), the first that applies; then there is none.
-pub fn given(n: usize, table: [u64; 256], field: &[u8]) -> Channels
-    ensures { λ r. ⌜ Gives n table (now (field .entry)) r ⌝ }
+pub fn given<'a>(n: usize, table: &'a [u64], field: &'a [u8]) -> Channels
+    ensures { λ r. ⌜ Gives n (now (table .entry)) (now (field .entry)) r ⌝ }
 {
     if n == 0 {
         return empty(2);
@@ -381,17 +432,29 @@ pub fn given(n: usize, table: [u64; 256], field: &[u8]) -> Channels
     if MOST < n {
         return empty(2);
     }
-    if unknown(n, field) {
-        return empty(3);
+    let mut channel = [0u8; 128];
+    let mut position = [0u8; 128];
+    let mut order = [0u8; 128];
+    let mut starts = [0u8; 128];
+    let r = walk(
+        n,
+        table,
+        field,
+        &mut channel,
+        &mut position,
+        &mut order,
+        &mut starts,
+    );
+    if r.refusal != 0 {
+        return empty(r.refusal);
     }
-    if repeats(field) {
-        return empty(6);
+    Channels {
+        refusal: 0,
+        count: r.count as u8,
+        vertices: r.vertices as u8,
+        channel,
+        position,
+        order,
+        starts,
     }
-    if lacks(n, field) {
-        return empty(6);
-    }
-    if broken_in(&table, field) {
-        return empty(7);
-    }
-    arranged(field)
 }

@@ -22,7 +22,7 @@ fn slanted(rows: usize, first: usize) -> [u64; 256] {
 fn counted(table: [u64; 256], often: usize) -> u64 {
     let mut last: u64 = 0;
     for i in 0..often {
-        let r = channels::plan(128, table);
+        let r = channels::plan(128, &table);
         last = r.count as u64;
     }
     last

@@ -1,15 +1,10 @@
 // Reads a record on standard input and prints its chart as document 01's listing, or `refused` and the number.
 ghost use mathlib.Core.Path.{_≡_};
-ghost use Prim.Native.Nat.{_+_, _<_, _≤_};
+ghost use Prim.Native.Nat.{_+_, _*_, _<_, _≤_};
 ghost use lib.ListN.{length};
-use charts::Chart;
-use charts::Page;
+use flat::ChartCounts;
 use libc::STDIN_FILENO;
 use libc::STDOUT_FILENO;
-use outline::BundleEntry;
-use outline::EdgeEntry;
-use outline::Kind;
-use outline::VertexEntry;
 use record::layout::Layout;
 
 // Room for any line but the first.
@@ -101,18 +96,25 @@ fn put_line(
     put_byte(output, last, NEWLINE)
 }
 
-fn put_counts(output: &mut [u8], used: usize, chart: Chart, bundles: u16) -> usize
+fn put_counts(output: &mut [u8], used: usize, chart: ChartCounts, bundles: u16) -> usize
     requires { ⌜ used + 60 ≤ length (now output) ⌝ }
     ensures { λ r. ⌜ r ≤ used + 60 ⌝ }
 {
     let a = put_count(output, used, b" rows", chart.rows as u16);
-    let b = put_count(output, a, b" lines", chart.channels as u16);
-    let c = put_count(output, b, b" firm", chart.reduced);
+    let b = put_count(output, a, b" lines", chart.lines as u16);
+    let c = put_count(output, b, b" firm", chart.firm);
     let d = put_count(output, c, b" bundles", bundles);
     put_count(output, d, b" width", chart.width)
 }
 
-fn put_header(output: &mut [u8], used: usize, chart: Chart, n: u16, m: u16, bundles: u16) -> usize
+fn put_header(
+    output: &mut [u8],
+    used: usize,
+    chart: ChartCounts,
+    n: u16,
+    m: u16,
+    bundles: u16,
+) -> usize
     requires { ⌜ used + 78 ≤ length (now output) ⌝ }
     ensures { λ r. ⌜ r ≤ used + 78 ⌝ }
 {
@@ -122,72 +124,51 @@ fn put_header(output: &mut [u8], used: usize, chart: Chart, n: u16, m: u16, bund
     put_byte(output, c, NEWLINE)
 }
 
-fn put_vertex(output: &mut [u8], used: usize, number: u16, entry: VertexEntry) -> usize
-    requires { ⌜ used + 32 ≤ length (now output) ⌝ }
-    ensures { λ r. ⌜ r ≤ used + 32 ⌝ }
-{
-    put_line(
-        output,
-        used,
-        b'w',
-        number,
-        entry.channel as u16,
-        entry.position as u16,
-        entry.column,
-        entry.row as u16,
-    )
-}
-
-fn put_kind(output: &mut [u8], used: usize, kind: Kind) -> usize
+// The kind by its number, with the bundle, or the column and row of the bend.
+fn put_kind(output: &mut [u8], used: usize, code: u16, value: u16, row: u16) -> usize
     requires { ⌜ used + 14 ≤ length (now output) ⌝ }
     ensures { λ r. ⌜ r ≤ used + 14 ⌝ }
 {
-    match kind {
-        Kind::Path => put_text(output, used, b" S"),
-        Kind::PathTransitive(bundle) => put_count(output, used, b" B", bundle),
-        Kind::Straight => put_text(output, used, b" D"),
-        Kind::Bent(bend) => {
-            let at = put_text(output, used, b" K");
-            put_pair(output, at, bend.column, bend.row as u16)
-        }
+    if code == 0 {
+        return put_text(output, used, b" S");
     }
+    if code == 1 {
+        return put_count(output, used, b" B", value);
+    }
+    if code == 2 {
+        return put_text(output, used, b" D");
+    }
+    let at = put_text(output, used, b" K");
+    put_pair(output, at, value, row)
 }
 
-fn put_mark(output: &mut [u8], used: usize, transitive: bool) -> usize
+fn put_mark(output: &mut [u8], used: usize, mark: u16) -> usize
     requires { ⌜ used + 3 ≤ length (now output) ⌝ }
     ensures { λ r. ⌜ r ≡ used + 3 ⌝ }
 {
-    if transitive {
+    if mark == 1 {
         return put_text(output, used, b" i\n");
     }
     put_text(output, used, b" f\n")
 }
 
-fn put_edge(output: &mut [u8], used: usize, entry: EdgeEntry, tail: u8, head: u8) -> usize
-    requires { ⌜ used + 36 ≤ length (now output) ⌝ }
+// Arrow e from its five numbers and its ends.
+fn put_arrow<'a>(
+    output: &mut [u8],
+    used: usize,
+    arrows: &'a [u16],
+    e: usize,
+    tail: u8,
+    head: u8,
+) -> usize
+    requires { ⌜ (used + 36 ≤ length (now output)) × (e < 4096) × (e * 5 + 5 ≤ length (now arrows)) ⌝ }
     ensures { λ r. ⌜ r ≤ used + 36 ⌝ }
 {
-    let a = put_count(output, used, b"a", entry.number);
+    let i = e * 5;
+    let a = put_count(output, used, b"a", arrows[i]);
     let b = put_pair(output, a, tail as u16, head as u16);
-    let kind = entry.kind;
-    let c = put_kind(output, b, kind);
-    put_mark(output, c, entry.transitive)
-}
-
-fn put_bundle(output: &mut [u8], used: usize, number: u16, entry: BundleEntry) -> usize
-    requires { ⌜ used + 32 ≤ length (now output) ⌝ }
-    ensures { λ r. ⌜ r ≤ used + 32 ⌝ }
-{
-    put_line(
-        output,
-        used,
-        b'b',
-        number,
-        entry.channel as u16,
-        entry.first_row as u16,
-        entry.last_row as u16,
-        entry.track as u16,
-    )
+    let c = put_kind(output, b, arrows[i + 1], arrows[i + 2], arrows[i + 3]);
+    put_mark(output, c, arrows[i + 4])
 }
 
 // ---- lists of lines: what no longer has room in the output is written
@@ -211,39 +192,65 @@ fn make_room(output: &[u8], used: usize) -> usize
     used
 }
 
-fn put_vertices(output: &mut [u8], used: usize, n: usize, vertices: [VertexEntry; 128]) -> usize
-    requires { ⌜ (used ≤ length (now output)) × (36 ≤ length (now output)) × (n ≤ 128) ⌝ }
+fn put_words<'a>(output: &mut [u8], used: usize, n: usize, words: &'a [u16]) -> usize
+    requires { ⌜ (used ≤ length (now output)) × (36 ≤ length (now output)) × (n ≤ 128) × (n * 5 ≤ length (now words)) ⌝ }
     ensures { λ r. ⌜ r ≤ length (now (output .entry)) ⌝ }
 {
     let mut end = used;
     for v in 0..n {
         let at = make_room(output, end);
-        end = put_vertex(output, at, v as u16, vertices[v]);
+        let i = v * 5;
+        end = put_line(
+            output,
+            at,
+            b'w',
+            v as u16,
+            words[i],
+            words[i + 1],
+            words[i + 2],
+            words[i + 3],
+        );
     }
     end
 }
 
-// `ends` has the tails and heads in turn. The page comes whole: its edges as an array of their own would be a copy more on the stack.
-fn put_edges<'a>(output: &mut [u8], used: usize, m: usize, page: Page, ends: &'a [u8]) -> usize
-    requires { ⌜ (used ≤ length (now output)) × (36 ≤ length (now output)) × (m ≤ 4096) × (m + m ≤ length (now ends)) ⌝ }
+// `ends` has the words that each arrow goes from and to, in turn.
+fn put_arrows<'a>(
+    output: &mut [u8],
+    used: usize,
+    m: usize,
+    arrows: &'a [u16],
+    ends: &'a [u8],
+) -> usize
+    requires { ⌜ (used ≤ length (now output)) × (36 ≤ length (now output)) × (m ≤ 4096) × (m * 5 ≤ length (now arrows)) × (m + m ≤ length (now ends)) ⌝ }
     ensures { λ r. ⌜ r ≤ length (now (output .entry)) ⌝ }
 {
     let mut end = used;
     for e in 0..m {
         let at = make_room(output, end);
-        end = put_edge(output, at, page.edges[e], ends[2 * e], ends[2 * e + 1]);
+        end = put_arrow(output, at, arrows, e, ends[2 * e], ends[2 * e + 1]);
     }
     end
 }
 
-fn put_bundles(output: &mut [u8], used: usize, count: usize, bundles: [BundleEntry; 256]) -> usize
-    requires { ⌜ (used ≤ length (now output)) × (36 ≤ length (now output)) × (count ≤ 256) ⌝ }
+fn put_bundles<'a>(output: &mut [u8], used: usize, count: usize, bundles: &'a [u16]) -> usize
+    requires { ⌜ (used ≤ length (now output)) × (36 ≤ length (now output)) × (count ≤ 256) × (count * 4 ≤ length (now bundles)) ⌝ }
     ensures { λ r. ⌜ r ≤ length (now (output .entry)) ⌝ }
 {
     let mut end = used;
-    for i in 0..count {
+    for b in 0..count {
         let at = make_room(output, end);
-        end = put_bundle(output, at, i as u16, bundles[i]);
+        let i = b * 4;
+        end = put_line(
+            output,
+            at,
+            b'b',
+            b as u16,
+            bundles[i],
+            bundles[i + 1],
+            bundles[i + 2],
+            bundles[i + 3],
+        );
     }
     end
 }
@@ -278,48 +285,25 @@ fn write_refusal(number: u8) {
     flush(&output, c);
 }
 
-// The chart of a record, in lists that hold every chart.
-fn drawn(record: &[u8]) -> Page {
-    let vertex = VertexEntry {
-        channel: 0,
-        position: 0,
-        column: 0,
-        row: 0,
-        descendants: 0,
-    };
-    let edge = EdgeEntry {
-        number: 0,
-        kind: Kind::Path,
-        transitive: false,
-    };
-    let bundle = BundleEntry {
-        channel: 0,
-        first_row: 0,
-        last_row: 0,
-        track: 0,
-    };
-    charts::chart_page(record, [vertex; 128], [edge; 4096], [bundle; 256])
-}
-
 // Prints the chart of a record, or its refusal. Every chart fits the lists, so that each count is itself the lesser.
 fn write_chart(record: &[u8]) {
-    let page = drawn(record);
-    let chart = page.chart;
+    let mut words = [0u16; 640];
+    let mut arrows = [0u16; 20480];
+    let mut bundles = [0u16; 1024];
+    let chart = flat::of_record(record, &mut words, &mut arrows, &mut bundles);
     if chart.refusal != 0 {
         write_refusal(chart.refusal);
         return;
     }
-    let vertices = page.vertices;
-    let bundles = page.bundles;
     let ends = edges_of(record);
-    let n = lesser(chart.vertices, 128);
-    let m = lesser(lesser(chart.edges, 4096), ends.len() / 2);
+    let n = lesser(chart.words, 128);
+    let m = lesser(lesser(chart.arrows, 4096), ends.len() / 2);
     let k = lesser(chart.bundles, 256);
-    let mut output = [0u8; 16384];
+    let mut output = [0u8; 8192];
     let a = put_header(&mut output, 0, chart, n as u16, m as u16, k as u16);
-    let b = put_vertices(&mut output, a, n, vertices);
-    let c = put_edges(&mut output, b, m, page, ends);
-    let d = put_bundles(&mut output, c, k, bundles);
+    let b = put_words(&mut output, a, n, &words);
+    let c = put_arrows(&mut output, b, m, &arrows, ends);
+    let d = put_bundles(&mut output, c, k, &bundles);
     flush(&output, d);
 }
 

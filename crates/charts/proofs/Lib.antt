@@ -1,6 +1,6 @@
 pub mod Calling
 pub mod Handing
-pub mod Nothing
+pub mod Passed
 pub mod Refusals
-pub mod Shortage
+pub mod Sheets
 pub mod Source

@@ -1,2 +1,3 @@
 pub mod Promise
+pub mod Entries
 pub mod Steps

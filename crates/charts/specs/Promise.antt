@@ -1,34 +1,17 @@
 -- What the calls promise: the chart by its definitions, in the answer and in every entry of the lists that are lent, or a refusal and
 -- nothing. Assumes nothing.
 use mathlib.Core.Path.{_≡_}
-use mathlib.Core.Bool.{Bool, _||_}
 use mathlib.Core.List.{List}
 use Prim.Native.Nat.{ℕ, _<_}
-use lib.Dec.{ltb}
 use lib.ListN.{length, getD}
-use Rattle.counting.specs.Count.{choose}
 use Rattle.lists.specs.Filled.{Filled}
 use Rattle.record.specs.Checks.{Content, edgesOf}
-use Rattle.record.specs.Reading.{nothing}
 use Rattle.outline.specs.Chart.{Plan, planOf, rowCount, reducedEdges, widthOf, tracksIn, vertexEntry, edgeEntry, bundleEntry}
 use Rattle.outline.specs.declared.VertexEntry.{VertexEntry}
 use Rattle.outline.specs.declared.EdgeEntry.{EdgeEntry}
 use Rattle.outline.specs.declared.BundleEntry.{BundleEntry}
-use Rattle.drawing.specs.Promise.{Drawn}
+use Rattle.drawing.specs.Drawn.{Drawn, lent}
 use Rattle.charts.specs.declared.Chart.{Chart}
-
--- ---- 8 'short'
-
--- a list of v, e or b entries has fewer than there are vertices, edges or bundles
-unfoldable pub short? : ℕ → ℕ → ℕ → Drawn → Bool
-short? v e b d = ltb v (d .graph .vertices) || (ltb e (edgesOf (d .graph)) || ltb b (length (planOf (d .graph) .bundles)))
-
-abbrev pub refusedBy : ℕ → Drawn
-refusedBy k = record { refusal = k; graph = nothing }
-
--- what is drawn into lists of these lengths; what is refused already has no entry, and so is never short
-unfoldable pub lent : ℕ → ℕ → ℕ → Drawn → Drawn
-lent v e b d = choose (short? v e b d) (λ _. refusedBy 8) (λ _. d)
 
 -- ---- the promise
 

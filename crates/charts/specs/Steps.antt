@@ -1,50 +1,155 @@
--- What the steps of a call promise, by the drawing's tables. Assumes nothing.
-use mathlib.Core.List.{List}
-use Prim.Native.Nat.{ℕ, _≤_}
+-- What the steps of a call promise, by the sheet. Assumes nothing.
+use mathlib.Core.Path.{_≡_}
+use mathlib.Core.Bool.{Bool}
+use mathlib.Core.List.{List, []}
+use Prim.Native.Nat.{ℕ, _*_, _≤_, _<_, min}
+use lib.ListN.{length, getD, take, drop, replicate}
+use Rattle.counting.specs.Count.{count}
+use Rattle.lists.specs.Filled.{Filled}
+use Rattle.record.specs.Checks.{Content, edgesOf}
+use Rattle.record.specs.Layout.{layoutOf}
+use Rattle.record.specs.declared.layout.Layout.{Layout}
+use Rattle.record.specs.declared.layout.Layout.the-variants.{Good, Bad}
+use Rattle.outline.specs.Chart as chart
+use Rattle.outline.specs.Chart.{planOf, rowCount, widthOf, tracksIn, vertexEntry, edgeEntry, bundleEntry}
 use Rattle.outline.specs.declared.VertexEntry.{VertexEntry}
 use Rattle.outline.specs.declared.EdgeEntry.{EdgeEntry}
 use Rattle.outline.specs.declared.BundleEntry.{BundleEntry}
-use Rattle.drawing.specs.Promise.{Drawn, Draws}
-use Rattle.drawing.specs.declared.Drawing.{Drawing}
+use Rattle.kinds.specs.Prefixes.{Prefixes}
+use Rattle.drawing.specs.Drawn.{Drawn, graphDrawn, recordDrawn, lent}
+use Rattle.drawing.specs.declared.Plan.{Plan}
+use Rattle.charts.specs.declared.Sheet.{Sheet}
 use Rattle.charts.specs.declared.Chart.{Chart}
-use Rattle.charts.specs.Promise.{lent, Left}
+use Rattle.charts.specs.Entries.{vertexAt, edgeAt, bundleAt, reduced?}
+
+-- ---- sheets
+
+-- a refusal, with no entry
+abbrev pub blankOf : ℕ → Sheet
+blankOf k = record {
+  refusal = k;
+  vertices = 0;
+  edges = 0;
+  bundles = 0;
+  rows = 0;
+  channels = 0;
+  width = 0;
+  tracks = replicate 128 0;
+  channel = replicate 128 0;
+  position = replicate 128 0;
+  column = replicate 128 0;
+  row = replicate 128 0;
+  descendants = replicate 128 0;
+  longer = replicate 256 0;
+  below = replicate 258 0;
+  left = replicate 258 0;
+  into = replicate 128 0;
+  «out_of» = replicate 128 0;
+  of = replicate 256 0;
+  first = replicate 256 0;
+  last = replicate 256 0;
+  track = replicate 256 0;
+}
+
+-- the tables of a plan of n vertices and m edges
+abbrev pub sheetOf : ℕ → ℕ → Plan → List ℕ → List ℕ → List ℕ → Sheet
+sheetOf n m p below longer left = record {
+  refusal = 0;
+  vertices = n;
+  edges = m;
+  bundles = p .bundles .count;
+  rows = p .used;
+  channels = p .channels .count;
+  width = p .width;
+  tracks = p .tracks .used;
+  channel = p .channels .channel;
+  position = p .channels .position;
+  column = p .column;
+  row = p .row;
+  descendants = p .descendants;
+  longer = longer;
+  below = below;
+  left = left;
+  into = p .bundles .into;
+  «out_of» = p .bundles .«out_of»;
+  of = p .bundles .channel;
+  first = p .bundles .first;
+  last = p .bundles .last;
+  track = p .tracks .track;
+}
+
+-- .. and the sets of the vertices left of each channel
+pub record Drafted (n m : ℕ) (p : Plan) (below longer : List ℕ) (d : Sheet) : Type 0 where
+  pub tables : d ≡ sheetOf n m p below longer (d .left)
+  pub lefts : Prefixes 2 (min (min n 128) (length (p .channels .channel))) (λ v. getD (p .channels .channel) v 0)
+      (min (p .channels .count) 128) (d .left)
 
 -- the counts are within the tables
-pub record Bounded (d : Drawing) : Type 0 where
+pub record Bounded (d : Sheet) : Type 0 where
   pub vertices : d .vertices ≤ 128
   pub edges : d .edges ≤ 4096
   pub bundles : d .bundles ≤ 256
 
 -- .. and within lists of v, e and b entries
-pub record Room (d : Drawing) (v e b : ℕ) : Type 0 where
+pub record Room (d : Sheet) (v e b : ℕ) : Type 0 where
   pub bounded : Bounded d
   pub vertices : d .vertices ≤ v
   pub edges : d .edges ≤ e
   pub bundles : d .bundles ≤ b
 
--- r is what of x goes into lists of these lengths
-pub record Planned (x : Drawn) (v e b : ℕ) (r : Drawing) : Type 0 where
-  pub draws : Draws (lent v e b x) r
-  pub room : Room r v e b
+-- every count but that of the reduced edges, and every entry, of the chart of c
+pub record Tables (c : Content) (p : chart.Plan) (ends : List ℕ) (d : Sheet) : Type 0 where
+  pub vertices : d .vertices ≡ c .vertices
+  pub edges : d .edges ≡ edgesOf c
+  pub bundles : d .bundles ≡ length (p .bundles)
+  pub rows : d .rows ≡ rowCount c
+  pub channels : d .channels ≡ length (p .channels)
+  pub width : d .width ≡ widthOf p
+  pub tracks : (l : ℕ) → l < 128 → getD (d .tracks) l 0 ≡ tracksIn p l
+  pub long : length (d .tracks) ≡ 128
+  pub vertex : (v : ℕ) → v < c .vertices → vertexAt d v ≡ vertexEntry c p v
+  pub edge : (e : ℕ) → e < edgesOf c → edgeAt d ends e ≡ edgeEntry c p e
+  pub bundle : (b : ℕ) → b < length (p .bundles) → bundleAt d b ≡ bundleEntry p b
 
--- the same of the drawing d, whatever it draws
-pub record Fitted (d : Drawing) (v e b : ℕ) (r : Drawing) : Type 0 where
-  pub draws : (x : Drawn) → Draws x d → Draws (lent v e b x) r
-  pub room : Room r v e b
+-- d has what goes of x into lists of v, e and b entries, where the edges have these ends
+pub record SheetOf (x : Drawn) (ends : List ℕ) (v e b : ℕ) (d : Sheet) : Type 0 where
+  pub refusal : d .refusal ≡ lent v e b x .refusal
+  pub tables : Tables (lent v e b x .graph) (planOf (lent v e b x .graph)) ends d
+  pub room : Room d v e b
 
-abbrev pub summaryOf : Drawing → Chart
-summaryOf d = record {
+abbrev pub GraphSheet : ℕ → List ℕ → Bool → List ℕ → ℕ → ℕ → ℕ → Sheet → Type 0
+GraphSheet n ends given field = SheetOf (graphDrawn n ends given field) ends
+
+-- the bytes of a record's edges
+abbrev pub endsIn : List ℕ → Layout → List ℕ
+endsIn b Bad = []
+endsIn b (Good f) = take (2 * f .count) (drop (f .edges) b)
+
+unfoldable pub endsOf : List ℕ → List ℕ
+endsOf b = endsIn b (layoutOf b)
+
+abbrev pub RecordSheet : List ℕ → ℕ → ℕ → ℕ → Sheet → Type 0
+RecordSheet b = SheetOf (recordDrawn b) (endsOf b)
+
+-- ---- what is handed over
+
+abbrev pub summaryOf : Sheet → ℕ → Chart
+summaryOf d reduced = record {
   refusal = d .refusal;
   vertices = d .vertices;
   edges = d .edges;
   bundles = d .bundles;
   rows = d .rows;
   channels = d .channels;
-  reduced = d .reduced;
+  reduced = reduced;
   width = d .width;
   tracks = d .tracks;
 }
 
--- the answer and the lists are those of what d draws
-abbrev pub Leaves : Drawing → List VertexEntry → List EdgeEntry → List BundleEntry → Chart → List VertexEntry → List EdgeEntry → List BundleEntry → Type 0
-Leaves d vs es bs r vs′ es′ bs′ = (x : Drawn) → Draws x d → Left x vs es bs r vs′ es′ bs′
+-- the answer and the lists by the sheet and the ends of the edges
+pub record Leaves (d : Sheet) (ends : List ℕ) (vs : List VertexEntry) (es : List EdgeEntry) (bs : List BundleEntry)
+    (r : Chart) (vs′ : List VertexEntry) (es′ : List EdgeEntry) (bs′ : List BundleEntry) : Type 0 where
+  pub answer : r ≡ summaryOf d (count (d .edges) (λ e. reduced? (edgeAt d ends e)))
+  pub vertices : Filled vs (vertexAt d) (d .vertices) vs′
+  pub edges : Filled es (edgeAt d ends) (d .edges) es′
+  pub bundles : Filled bs (bundleAt d) (d .bundles) bs′

@@ -1,18 +1,21 @@
 // Charts handed over into lists that the caller lends (document 01, 'What the chart hands over').
 ghost use mathlib.Core.Path.{_≡_};
-ghost use Prim.Native.Nat.{_<_, _≤_};
-ghost use lib.ListN.{length};
+ghost use Prim.Native.Nat.{_+_, _<_, _≤_, min};
+ghost use lib.ListN.{length, getD};
+ghost use Rattle.counting.specs.Count.{indicator, count};
 ghost use Rattle.lists.specs.Filled.{Filled};
-ghost use Rattle.drawing.specs.Promise.{kindOf, vertexAt, edgeAt, bundleAt, recordDrawn, graphDrawn};
+ghost use Rattle.kinds.specs.Codes.{kindOf};
+ghost use Rattle.drawing.specs.Drawn.{recordDrawn, graphDrawn};
 ghost use Rattle.charts.specs.Promise.{HandedOver};
-ghost use Rattle.charts.specs.Steps.{Bounded, Room, Fitted, Planned, summaryOf, Leaves};
-use drawing::Drawing;
+ghost use Rattle.charts.specs.Entries.{vertexAt, kindAt, transitive?, edgeAt, bundleAt, reduced?};
+ghost use Rattle.charts.specs.Steps.{blankOf, Drafted, Room, GraphSheet, RecordSheet, endsOf, summaryOf, Leaves};
+use drawing::Plan;
 use outline::Bend;
 use outline::BundleEntry;
 use outline::EdgeEntry;
 use outline::Kind;
 use outline::VertexEntry;
-use record::reading::Graph;
+use record::layout::Layout;
 
 // Document 01's number, or 0; how many entries each list got; the other counts, and the tracks (document 01: side columns) of each
 // channel, 0 past the last. Every number but the first is 0 where the chart is refused.
@@ -28,9 +31,62 @@ pub struct Chart {
     pub tracks: [u16; 128],
 }
 
-// ---- entries, from the drawing's tables
+// What a chart's counts and entries are made of, but for the ends of the edges: the places and bundles of the vertices, the pairs with a
+// vertex between, the sets of the vertices below each row and left of each channel, and the channel, rows and track of each bundle.
+pub struct Sheet {
+    pub refusal: u8,
+    pub vertices: usize,
+    pub edges: usize,
+    pub bundles: usize,
+    pub rows: u8,
+    pub channels: u8,
+    pub width: u16,
+    pub tracks: [u16; 128],
+    pub channel: [u8; 128],
+    pub position: [u8; 128],
+    pub column: [u16; 128],
+    pub row: [u8; 128],
+    pub descendants: [u8; 128],
+    pub longer: [u64; 256],
+    pub below: [u64; 258],
+    pub left: [u64; 258],
+    pub into: [u16; 128],
+    pub out_of: [u16; 128],
+    pub of: [u8; 256],
+    pub first: [u8; 256],
+    pub last: [u8; 256],
+    pub track: [u8; 256],
+}
 
-fn vertex_at(d: Drawing, i: usize) -> VertexEntry
+// A byte as a usize: asks nothing of the byte, where a cast of an element asks that it fits.
+fn wide(x: u8) -> usize
+    ensures { λ r. ⌜ (r ≡ x) × (r < 256) ⌝ }
+{
+    x as usize
+}
+
+fn least(a: usize, b: usize) -> usize
+    ensures { λ r. ⌜ r ≡ min a b ⌝ }
+{
+    if a < b {
+        return a;
+    }
+    b
+}
+
+// Byte i, 0 past the last.
+fn byte_at(bytes: &[u8], i: usize) -> u8
+    ensures { λ r. ⌜ r ≡ getD (now (bytes .entry)) i 0 ⌝ }
+{
+    if i < bytes.len() {
+        return bytes[i];
+    }
+    0
+}
+
+// ---- entries, from a sheet
+
+fn vertex_at(d: Sheet, i: usize) -> VertexEntry
     requires { ⌜ i < 128 ⌝ }
     ensures { λ r. ⌜ r ≡ vertexAt d i ⌝ }
 {
@@ -58,67 +114,213 @@ fn kind_of(code: u8, value: u16, row: u8) -> Kind
     Kind::Bent(Bend { column: value, row })
 }
 
-fn edge_at(d: Drawing, i: usize) -> EdgeEntry
-    requires { ⌜ i < 4096 ⌝ }
-    ensures { λ r. ⌜ r ≡ edgeAt d i ⌝ }
+// The kind of the edge u -> v.
+fn kind_at(d: Sheet, u: usize, v: usize) -> Kind
+    ensures { λ r. ⌜ r ≡ kindAt d u v ⌝ }
 {
-    let kind = kind_of(d.code[i], d.value[i], d.bend_row[i]);
+    let n = least(d.vertices, 128);
+    let column = d.column;
+    let row = d.row;
+    let columns = &column[..];
+    let rows = &row[..];
+    let k = kinds::kind_of(
+        &d.channel,
+        &d.position,
+        &d.into,
+        &d.out_of,
+        &columns[..n],
+        &rows[..n],
+        &d.below,
+        &d.left,
+        u,
+        v,
+    );
+    kind_of(k.code, k.value, k.row)
+}
+
+// Whether the edge u -> v is transitive (document 01: implied).
+fn mark_at(d: Sheet, u: usize, v: usize) -> bool
+    requires { ⌜ u < 256 ⌝ }
+    ensures { λ r. ⌜ r ≡ transitive? d u v ⌝ }
+{
+    masks::contains(&d.longer, 2 * u, v)
+}
+
+fn edge_at(ends: &[u8], d: Sheet, i: usize) -> EdgeEntry
+    requires { ⌜ i < 4096 ⌝ }
+    ensures { λ r. ⌜ r ≡ edgeAt d (now (ends .entry)) i ⌝ }
+{
+    let u = wide(byte_at(ends, 2 * i));
+    let v = wide(byte_at(ends, 2 * i + 1));
+    let kind = kind_at(d, u, v);
+    let transitive = mark_at(d, u, v);
     EdgeEntry {
         number: i as u16,
         kind,
-        transitive: d.mark[i] == 1,
+        transitive,
     }
 }
 
-fn bundle_at(d: Drawing, i: usize) -> BundleEntry
+fn bundle_at(d: Sheet, i: usize) -> BundleEntry
     requires { ⌜ i < 256 ⌝ }
     ensures { λ r. ⌜ r ≡ bundleAt d i ⌝ }
 {
     BundleEntry {
-        channel: d.bundle_channel[i],
-        first_row: d.first_row[i],
-        last_row: d.last_row[i],
+        channel: d.of[i],
+        first_row: d.first[i],
+        last_row: d.last[i],
         track: d.track[i],
     }
 }
 
-// ---- what is handed over into lists of given lengths
+// ---- the sheet of what goes into lists of given lengths
 
-// The drawing, or 8 and nothing where a list has fewer entries than are needed.
-fn fitted(d: Drawing, vertices: usize, edges: usize, bundles: usize) -> Drawing
-    requires { ⌜ Bounded d ⌝ }
-    ensures { λ r. ⌜ Fitted d vertices edges bundles r ⌝ }
+// A refusal, with no entry.
+fn blank(refusal: u8) -> Sheet
+    ensures { λ r. ⌜ r ≡ blankOf refusal ⌝ }
 {
-    if vertices < d.vertices {
-        return drawing::blank(8);
+    Sheet {
+        refusal,
+        vertices: 0,
+        edges: 0,
+        bundles: 0,
+        rows: 0,
+        channels: 0,
+        width: 0,
+        tracks: [0; 128],
+        channel: [0; 128],
+        position: [0; 128],
+        column: [0; 128],
+        row: [0; 128],
+        descendants: [0; 128],
+        longer: [0; 256],
+        below: [0; 258],
+        left: [0; 258],
+        into: [0; 128],
+        out_of: [0; 128],
+        of: [0; 256],
+        first: [0; 256],
+        last: [0; 256],
+        track: [0; 256],
     }
-    if edges < d.edges {
-        return drawing::blank(8);
-    }
-    if bundles < d.bundles {
-        return drawing::blank(8);
-    }
-    d
 }
 
-// What is handed over of a graph.
-fn plan_graph(g: Graph, vertices: usize, edges: usize, bundles: usize) -> Drawing
-    ensures { λ r. ⌜ Planned (graphDrawn g) vertices edges bundles r ⌝ }
+// The sheet of what is planned of n vertices and m edges.
+fn drafted(n: usize, m: usize, p: Plan, below: [u64; 258], longer: [u64; 256]) -> Sheet
+    ensures { λ r. ⌜ Drafted n m p below longer r ⌝ }
 {
-    let d = drawing::of_graph(g);
-    fitted(d, vertices, edges, bundles)
+    let lines = p.channels;
+    let gathered = p.bundles;
+    let tracks = p.tracks;
+    let used = tracks.used;
+    let channel = lines.channel;
+    let position = lines.position;
+    let column = p.column;
+    let row = p.row;
+    let descendants = p.descendants;
+    let left = kinds::prefixes(&channel, n, wide(lines.count));
+    let into = gathered.into;
+    let out_of = gathered.out_of;
+    let of = gathered.channel;
+    let first = gathered.first;
+    let last = gathered.last;
+    let track = tracks.track;
+    Sheet {
+        refusal: 0,
+        vertices: n,
+        edges: m,
+        bundles: gathered.count as usize,
+        rows: p.used,
+        channels: lines.count,
+        width: p.width,
+        tracks: used,
+        channel,
+        position,
+        column,
+        row,
+        descendants,
+        longer,
+        below,
+        left,
+        into,
+        out_of,
+        of,
+        first,
+        last,
+        track,
+    }
 }
 
-// The same of a record, for any lengths; also for lists of another shape that have room for so many entries (embed).
-pub fn plan_record(bytes: &[u8], vertices: usize, edges: usize, bundles: usize) -> Drawing
-    ensures { λ r. ⌜ Planned (recordDrawn (now (bytes .entry))) vertices edges bundles r ⌝ }
+// Of a neutral graph: so many vertices, the bytes of its edges' ends, two an edge, and the bytes of its given channels, if any are given.
+fn sheet_of_graph<'a>(
+    n: usize,
+    ends: &'a [u8],
+    given: bool,
+    field: &'a [u8],
+    vertices: usize,
+    edges: usize,
+    bundles: usize,
+) -> Sheet
+    ensures { λ r. ⌜ GraphSheet n (now (ends .entry)) given (now (field .entry)) vertices edges bundles r ⌝ }
 {
-    let d = drawing::of_record(bytes);
-    fitted(d, vertices, edges, bundles)
+    let mut below = [0; 258];
+    let mut longer = [0; 256];
+    let p = drawing::planned(n, ends, given, field, &mut below, &mut longer);
+    if p.refusal != 0 {
+        return blank(p.refusal);
+    }
+    let m = ends.len() / 2;
+    let gathered = p.bundles;
+    if vertices < n {
+        return blank(8);
+    }
+    if edges < m {
+        return blank(8);
+    }
+    if bundles < gathered.count as usize {
+        return blank(8);
+    }
+    drafted(n, m, p, below, longer)
 }
 
-fn summary(d: Drawing) -> Chart
-    ensures { λ r. ⌜ r ≡ summaryOf d ⌝ }
+// Of a record.
+fn sheet_of_record(bytes: &[u8], vertices: usize, edges: usize, bundles: usize) -> Sheet
+    ensures { λ r. ⌜ RecordSheet (now (bytes .entry)) vertices edges bundles r ⌝ }
+{
+    let layout = record::layout::layout_of(bytes);
+    let Layout::Good(f) = layout else {
+        return blank(1);
+    };
+    let from = f.edges;
+    let to = from + 2 * f.count;
+    let start = f.lines;
+    let end = start + f.size;
+    sheet_of_graph(
+        f.vertices,
+        &bytes[from..to],
+        f.given,
+        &bytes[start..end],
+        vertices,
+        edges,
+        bundles,
+    )
+}
+
+// The bytes of a record's edges, none where its fields do not stand as they must.
+fn edges_of(bytes: &[u8]) -> &[u8]
+    ensures { λ r. ⌜ now r ≡ endsOf (now (bytes .entry)) ⌝ }
+{
+    let layout = record::layout::layout_of(bytes);
+    let Layout::Good(f) = layout else {
+        return &bytes[..0];
+    };
+    let from = f.edges;
+    let to = from + 2 * f.count;
+    &bytes[from..to]
+}
+
+fn summary(d: Sheet, reduced: u16) -> Chart
+    ensures { λ r. ⌜ r ≡ summaryOf d reduced ⌝ }
 {
     let tracks = d.tracks;
     Chart {
@@ -128,15 +330,15 @@ fn summary(d: Drawing) -> Chart
         bundles: d.bundles,
         rows: d.rows,
         channels: d.channels,
-        reduced: d.reduced,
+        reduced,
         width: d.width,
         tracks,
     }
 }
 
-// ---- the lists. The three fills have one walk (lists/proofs/Fill.antt).
+// ---- the lists. The fills have one walk (lists/proofs/Fill.antt), and that of the edges counts too (lists/proofs/Tally.antt).
 
-fn fill_vertices(out: &mut [VertexEntry], d: Drawing, top: usize) -> usize
+fn fill_vertices(out: &mut [VertexEntry], d: Sheet, top: usize) -> usize
     requires { ⌜ (top ≤ length (now out)) × (top ≤ 128) ⌝ }
     ensures { λ r. ⌜ Filled (now (out .entry)) (vertexAt d) top (now (out .exit)) ⌝ }
 {
@@ -148,19 +350,34 @@ fn fill_vertices(out: &mut [VertexEntry], d: Drawing, top: usize) -> usize
     i
 }
 
-fn fill_edges(out: &mut [EdgeEntry], d: Drawing, top: usize) -> usize
-    requires { ⌜ (top ≤ length (now out)) × (top ≤ 4096) ⌝ }
-    ensures { λ r. ⌜ Filled (now (out .entry)) (edgeAt d) top (now (out .exit)) ⌝ }
+// One more where the edge is reduced (document 01: firm).
+fn counted(before: u16, entry: EdgeEntry, i: usize) -> u16
+    requires { ⌜ (before ≤ i) × (i < 4096) ⌝ }
+    ensures { λ r. ⌜ r ≡ before + indicator (reduced? entry) ⌝ }
 {
-    let mut i: usize = 0;
-    while i < top {
-        out[i] = edge_at(d, i);
-        i += 1;
+    if entry.transitive {
+        return before;
     }
-    i
+    before + 1
 }
 
-fn fill_bundles(out: &mut [BundleEntry], d: Drawing, top: usize) -> usize
+// How many edges are reduced.
+fn fill_edges<'a>(out: &mut [EdgeEntry], ends: &'a [u8], d: Sheet, top: usize) -> u16
+    requires { ⌜ (top ≤ length (now out)) × (top ≤ 4096) ⌝ }
+    ensures { λ r. ⌜ Filled (now (out .entry)) (edgeAt d (now (ends .entry))) top (now (out .exit)) × (r ≡ count top (λ e. reduced? (edgeAt d (now (ends .entry)) e))) ⌝ }
+{
+    let mut i: usize = 0;
+    let mut firm: u16 = 0;
+    while i < top {
+        let entry = edge_at(ends, d, i);
+        firm = counted(firm, entry, i);
+        out[i] = entry;
+        i += 1;
+    }
+    firm
+}
+
+fn fill_bundles(out: &mut [BundleEntry], d: Sheet, top: usize) -> usize
     requires { ⌜ (top ≤ length (now out)) × (top ≤ 256) ⌝ }
     ensures { λ r. ⌜ Filled (now (out .entry)) (bundleAt d) top (now (out .exit)) ⌝ }
 {
@@ -172,40 +389,52 @@ fn fill_bundles(out: &mut [BundleEntry], d: Drawing, top: usize) -> usize
     i
 }
 
-// Writes the drawing's entries into lists that have room for them, and gives its counts.
-fn hand_over<'v, 'e, 'b>(
-    d: Drawing,
+// Writes the sheet's entries into lists that have room for them, and gives its counts.
+fn hand_over<'a, 'v, 'e, 'b>(
+    d: Sheet,
+    ends: &'a [u8],
     vertices: &'v mut [VertexEntry],
     edges: &'e mut [EdgeEntry],
     bundles: &'b mut [BundleEntry],
 ) -> Chart
     requires { ⌜ Room d (length (now vertices)) (length (now edges)) (length (now bundles)) ⌝ }
-    ensures { λ r. ⌜ Leaves d (now (vertices .entry)) (now (edges .entry)) (now (bundles .entry)) r (now (vertices .exit)) (now (edges .exit)) (now (bundles .exit)) ⌝ }
+    ensures { λ r. ⌜ Leaves d (now (ends .entry)) (now (vertices .entry)) (now (edges .entry)) (now (bundles .entry)) r (now (vertices .exit)) (now (edges .exit)) (now (bundles .exit)) ⌝ }
 {
     fill_vertices(vertices, d, d.vertices);
-    fill_edges(edges, d, d.edges);
+    let reduced = fill_edges(edges, ends, d, d.edges);
     fill_bundles(bundles, d, d.bundles);
-    summary(d)
+    summary(d, reduced)
 }
 
 // ---- the calls
 
-// The chart of a graph, whatever it came from, into the three lists: the needed entries of each are written and the others stay; where it
-// is refused all stay.
-pub fn draw<'v, 'e, 'b>(
-    g: Graph,
+// The chart of a neutral graph into the three lists: the needed entries of each are written and the others stay; where it is refused all
+// stay. The graph is so many vertices, the bytes of its edges' ends, two an edge, and the bytes of its given channels, if any are given.
+pub fn draw<'a, 'v, 'e, 'b>(
+    n: usize,
+    ends: &'a [u8],
+    given: bool,
+    field: &'a [u8],
     vertices: &'v mut [VertexEntry],
     edges: &'e mut [EdgeEntry],
     bundles: &'b mut [BundleEntry],
 ) -> Chart
-    ensures { λ r. ⌜ HandedOver (graphDrawn g) (now (vertices .entry)) (now (edges .entry)) (now (bundles .entry)) r (now (vertices .exit)) (now (edges .exit)) (now (bundles .exit)) ⌝ }
+    ensures { λ r. ⌜ HandedOver (graphDrawn n (now (ends .entry)) given (now (field .entry))) (now (vertices .entry)) (now (edges .entry)) (now (bundles .entry)) r (now (vertices .exit)) (now (edges .exit)) (now (bundles .exit)) ⌝ }
 {
-    let d = plan_graph(g, vertices.len(), edges.len(), bundles.len());
-    hand_over(d, vertices, edges, bundles)
+    let d = sheet_of_graph(
+        n,
+        ends,
+        given,
+        field,
+        vertices.len(),
+        edges.len(),
+        bundles.len(),
+    );
+    hand_over(d, ends, vertices, edges, bundles)
 }
 
 // The same of a record.
-pub fn chart_record<'v, 'e, 'b, 'r>(
+pub fn chart_record<'r, 'v, 'e, 'b>(
     bytes: &'r [u8],
     vertices: &'v mut [VertexEntry],
     edges: &'e mut [EdgeEntry],
@@ -213,32 +442,7 @@ pub fn chart_record<'v, 'e, 'b, 'r>(
 ) -> Chart
     ensures { λ r. ⌜ HandedOver (recordDrawn (now (bytes .entry))) (now (vertices .entry)) (now (edges .entry)) (now (bundles .entry)) r (now (vertices .exit)) (now (edges .exit)) (now (bundles .exit)) ⌝ }
 {
-    let d = plan_record(bytes, vertices.len(), edges.len(), bundles.len());
-    hand_over(d, vertices, edges, bundles)
-}
-
-// A chart and the lists, which hold every chart.
-pub struct Page {
-    pub chart: Chart,
-    pub vertices: [VertexEntry; 128],
-    pub edges: [EdgeEntry; 4096],
-    pub bundles: [BundleEntry; 256],
-}
-
-// The chart of a record into arrays that come and go by value: whoever calls it lends nothing.
-pub fn chart_page(
-    bytes: &[u8],
-    mut vertices: [VertexEntry; 128],
-    mut edges: [EdgeEntry; 4096],
-    mut bundles: [BundleEntry; 256],
-) -> Page
-    ensures { λ r. ⌜ HandedOver (recordDrawn (now (bytes .entry))) vertices edges bundles (r .chart) (r .vertices) (r .edges) (r .bundles) ⌝ }
-{
-    let chart = chart_record(bytes, &mut vertices, &mut edges, &mut bundles);
-    Page {
-        chart,
-        vertices,
-        edges,
-        bundles,
-    }
+    let d = sheet_of_record(bytes, vertices.len(), edges.len(), bundles.len());
+    let ends = edges_of(bytes);
+    hand_over(d, ends, vertices, edges, bundles)
 }

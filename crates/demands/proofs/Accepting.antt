@@ -3,18 +3,15 @@ use mathlib.Core.Path.{_≡_, refl, sym, ap, _∙_, subst}
 use mathlib.Core.Logic.{_↔_, _⊎_, ⊎-elim}
 use mathlib.Core.Bool.{Bool, true, false, _||_}
 use mathlib.Core.List.{List}
-use Prim.Native.Nat.{ℕ, _≤_}
+use Prim.Native.Nat.{ℕ}
 use native.Mathlib.Omega.{arith}
 use lib.Dec.{ltb}
 use lib.ListN.{length, getD, List·getD-eq-default}
-use borrow.Author.Tests.{eq-eqb, ltb-false, le-ltb}
-use Rattle.counting.specs.Count.{choose}
+use borrow.Author.Tests.{eq-eqb, ltb-false}
 use Rattle.counting.proofs.Truth.{lt-or-le, true-or-false, or-neither}
-use Rattle.reach.specs.Refusal.{mostEdges}
 use Rattle.record.specs.Checks.{Content, edgesOf, refusalOf}
 use Rattle.record.specs.Sound.{Sound, SoundRecord}
 use Rattle.record.specs.Reading.{contentOf, contentIn, recordRefusal, said}
-use Rattle.record.specs.declared.reading.Graph.{Graph}
 use Rattle.record.proofs.Soundness.{accepted-sound, sound-accepted, record-sound}
 use Rattle.outline.specs.Chart.{planOf, tracksIn}
 use Rattle.outline.specs.declared.VertexEntry.{VertexEntry}
@@ -22,10 +19,10 @@ use Rattle.outline.specs.declared.EdgeEntry.{EdgeEntry}
 use Rattle.outline.specs.declared.BundleEntry.{BundleEntry}
 use Rattle.outline.proofs.Channels.{channels-few, vertices-small}
 use Rattle.outline.proofs.Bundling.{plan-channels, tracks-past}
-use Rattle.drawing.specs.Promise.{Drawn, judged, recordDrawn, graphContent, graphRefusal, graphDrawn}
+use Rattle.drawing.specs.Drawn.{Drawn, judged, recordDrawn, graphContent, graphDrawn, short?}
+use Rattle.drawing.proofs.Shortage.{enough, lent-short, lent-whole}
 use Rattle.charts.specs.declared.Chart as answer
-use Rattle.charts.specs.Promise.{short?, Listed, HandedOver}
-use Rattle.charts.proofs.Shortage.{enough, lent-short, lent-whole}
+use Rattle.charts.specs.Promise.{Listed, HandedOver}
 use Rattle.demands.specs.Demands.{entriesIn, seen, Faithful, Roomy, Smallest, Carried}
 use Rattle.demands.proofs.Agreeing.{Shown, Agrees, seen-agrees}
 use Rattle.demands.proofs.Least.{agreed-smallest, agreed-counted}
@@ -43,23 +40,12 @@ said-sound b e = let s = record-sound b .0 e in subst Sound (sym (said-fields b 
 
 -- ---- graphs
 
-module _ (g : Graph) where
-  counted : (t : Bool) (k : ℕ) → choose t (λ _. 2) (λ _. k) ≡ 0 → (t ≡ false) × (k ≡ 0)
-  counted true k e = absurd (let z : _≡_ {A = ℕ} 2 0 = e in omega arith)
-  counted false k e = (refl, e)
-
-  graph-accepted : (graphRefusal g ≡ 0) ↔ ((g .count ≤ mostEdges) × Sound (graphContent g))
-  unfolding graphRefusal
-  graph-accepted = (
-    (λ e. let q = counted (ltb mostEdges (g .count)) (refusalOf (graphContent g)) e in (ltb-false mostEdges (g .count) (q .0), accepted-sound (graphContent g) (q .1))),
-    λ h. rw (le-ltb mostEdges (g .count) (h .0)) (sound-accepted (graphContent g) (h .1)),
-  )
-
-  graph-refusal : graphDrawn g .refusal ≡ graphRefusal g
+module _ (n : ℕ) (ends : List ℕ) (given : Bool) (field : List ℕ) where
+  graph-refusal : graphDrawn n ends given field .refusal ≡ refusalOf (graphContent n ends given field)
   unfolding graphDrawn judged
   graph-refusal = refl
 
-  graph-drawn : graphRefusal g ≡ 0 → graphDrawn g .graph ≡ graphContent g
+  graph-drawn : refusalOf (graphContent n ends given field) ≡ 0 → graphDrawn n ends given field .graph ≡ graphContent n ends given field
   unfolding graphDrawn judged
   graph-drawn e = rw (eq-eqb _ _ e) refl
 
@@ -143,18 +129,28 @@ module _ (vs vs′ : List VertexEntry) (es es′ : List EdgeEntry) (bs bs′ : L
     unfolding recordDrawn
     record-left e = (said-sound b (record-sound b .1 (record-call .0 e .0)), call-listed (recordDrawn b) h e (said b) refl)
 
-  module _ (g : Graph) (h : HandedOver (graphDrawn g) vs es bs r vs′ es′ bs′) where
-    drawn : r .refusal ≡ 0 → graphRefusal g ≡ 0
-    drawn e = sym (graph-refusal g) ∙ call-accepted (graphDrawn g) h .0 e .0
+  module _ (n : ℕ) (ends : List ℕ) (given : Bool) (field : List ℕ)
+      (h : HandedOver (graphDrawn n ends given field) vs es bs r vs′ es′ bs′) where
+    abbrev c : Content
+    c = graphContent n ends given field
 
-    pub graph-call : (r .refusal ≡ 0) ↔ ((g .count ≤ mostEdges) × Sound (graphContent g) × Roomy (graphContent g) vs es bs)
+    drawn : r .refusal ≡ 0 → refusalOf c ≡ 0
+    drawn e = sym (graph-refusal n ends given field) ∙ call-accepted (graphDrawn n ends given field) h .0 e .0
+
+    pub graph-call : (r .refusal ≡ 0) ↔ (Sound c × Roomy c vs es bs)
     graph-call =
-        let a = call-accepted (graphDrawn g) h in (
-          (λ e. let q = graph-accepted g .0 (drawn e) in (q .0, q .1, subst (λ (c : Content). Roomy c vs es bs) (graph-drawn g (drawn e)) (a .0 e .1))),
+        let a = call-accepted (graphDrawn n ends given field) h in (
+          (λ e. (
+            accepted-sound c (drawn e),
+            subst (λ (x : Content). Roomy x vs es bs) (graph-drawn n ends given field (drawn e)) (a .0 e .1),
+          )),
           λ q.
-              let k = graph-accepted g .1 (q .0, q .1) in
-              a .1 (graph-refusal g ∙ k, subst (λ (c : Content). Roomy c vs es bs) (sym (graph-drawn g k)) (q .2)),
+              let k = sound-accepted c (q .0) in
+              a .1 (
+                graph-refusal n ends given field ∙ k,
+                subst (λ (x : Content). Roomy x vs es bs) (sym (graph-drawn n ends given field k)) (q .1),
+              ),
         )
 
-    pub graph-left : r .refusal ≡ 0 → Sound (graphContent g) × Listed (graphContent g) (planOf (graphContent g)) vs es bs r vs′ es′ bs′
-    graph-left e = (graph-accepted g .0 (drawn e) .1, call-listed (graphDrawn g) h e (graphContent g) (graph-drawn g (drawn e)))
+    pub graph-left : r .refusal ≡ 0 → Sound c × Listed c (planOf c) vs es bs r vs′ es′ bs′
+    graph-left e = (accepted-sound c (drawn e), call-listed (graphDrawn n ends given field) h e c (graph-drawn n ends given field (drawn e)))

@@ -2,22 +2,22 @@
 -- asked but its promise. The statements are in specs/Demands.antt and specs/Lawful.antt. Assumes nothing.
 use mathlib.Core.Path.{_≡_}
 use mathlib.Core.Logic.{_↔_}
+use mathlib.Core.Bool.{Bool}
 use mathlib.Core.List.{List}
-use Prim.Native.Nat.{ℕ, _≤_}
+use Prim.Native.Nat.{ℕ}
 use lib.ListN.{length}
-use Rattle.reach.specs.Refusal.{mostEdges}
 use Rattle.record.specs.Checks.{Content}
 use Rattle.record.specs.Sound.{Sound, SoundRecord}
 use Rattle.record.specs.Reading.{contentOf, said}
-use Rattle.record.specs.declared.reading.Graph.{Graph}
 use Rattle.outline.specs.Chart.{channelsOf, planOf, rowCount, reducedEdges, tracksIn}
 use Rattle.outline.specs.declared.VertexEntry.{VertexEntry}
 use Rattle.outline.specs.declared.EdgeEntry.{EdgeEntry}
 use Rattle.outline.specs.declared.BundleEntry.{BundleEntry}
-use Rattle.drawing.specs.Promise.{recordDrawn, graphContent, graphDrawn}
+use Rattle.drawing.specs.Drawn.{recordDrawn, graphContent, graphDrawn}
+use Rattle.drawing.proofs.Refusals.{record-sound, graph-sound}
 use Rattle.charts.specs.declared.Chart as answer
 use Rattle.charts.specs.Promise.{HandedOver}
-use Rattle.charts.proofs.Refusals.{record-sound, graph-sound, Untouched, refused-untouched}
+use Rattle.charts.proofs.Refusals.{Untouched, refused-untouched}
 use Rattle.demands.specs.Demands.{Entries, entriesIn, entriesOf, oursOf, seen, Faithful, Roomy, Smallest, Counted, Carried}
 use Rattle.demands.proofs.Agreeing.{defined-shown, ours-agrees}
 use Rattle.demands.proofs.Least.{agreed-smallest, agreed-counted}
@@ -64,16 +64,24 @@ module _ (vs vs′ : List VertexEntry) (es es′ : List EdgeEntry) (bs bs′ : L
     pub record-smallest : r .refusal ≡ 0 → Smallest (said b) (seen (said b) r entries) × Carried (said b) (seen (said b) r entries) r
     record-smallest e = let l = record-left vs vs′ es es′ bs bs′ r b h e in listed-smallest vs vs′ es es′ bs bs′ r (said b) (l .0) (l .1)
 
-  -- of a graph g
-  module _ (g : Graph) (h : HandedOver (graphDrawn g) vs es bs r vs′ es′ bs′) where
-    pub graph-accepted-exactly : (r .refusal ≡ 0) ↔ ((g .count ≤ mostEdges) × Sound (graphContent g) × Roomy (graphContent g) vs es bs)
-    graph-accepted-exactly = graph-call vs vs′ es es′ bs bs′ r g h
+  -- of a graph: n vertices, the bytes of the edges' ends, and the bytes of the given channels, if any are given
+  module _ (n : ℕ) (ends : List ℕ) (given : Bool) (field : List ℕ)
+      (h : HandedOver (graphDrawn n ends given field) vs es bs r vs′ es′ bs′) where
+    abbrev c : Content
+    c = graphContent n ends given field
+
+    pub graph-accepted-exactly : (r .refusal ≡ 0) ↔ (Sound c × Roomy c vs es bs)
+    graph-accepted-exactly = graph-call vs vs′ es es′ bs bs′ r n ends given field h
 
     pub graph-refused : (r .refusal ≡ 0 → ⊥) → Untouched vs es bs r vs′ es′ bs′
-    graph-refused = refused-untouched (graphDrawn g) (graph-sound g) vs vs′ es es′ bs bs′ r h
+    graph-refused = refused-untouched (graphDrawn n ends given field) (graph-sound n ends given field) vs vs′ es es′ bs bs′ r h
 
-    pub graph-faithful : r .refusal ≡ 0 → Faithful (graphContent g) entries
-    graph-faithful e = let l = graph-left vs vs′ es es′ bs bs′ r g h e in listed-faithful vs vs′ es es′ bs bs′ r (graphContent g) (l .0) (l .1)
+    pub graph-faithful : r .refusal ≡ 0 → Faithful c entries
+    graph-faithful e =
+        let l = graph-left vs vs′ es es′ bs bs′ r n ends given field h e in
+        listed-faithful vs vs′ es es′ bs bs′ r c (l .0) (l .1)
 
-    pub graph-smallest : r .refusal ≡ 0 → Smallest (graphContent g) (seen (graphContent g) r entries) × Carried (graphContent g) (seen (graphContent g) r entries) r
-    graph-smallest e = let l = graph-left vs vs′ es es′ bs bs′ r g h e in listed-smallest vs vs′ es es′ bs bs′ r (graphContent g) (l .0) (l .1)
+    pub graph-smallest : r .refusal ≡ 0 → Smallest c (seen c r entries) × Carried c (seen c r entries) r
+    graph-smallest e =
+        let l = graph-left vs vs′ es es′ bs bs′ r n ends given field h e in
+        listed-smallest vs vs′ es es′ bs bs′ r c (l .0) (l .1)

@@ -1,63 +1,62 @@
--- What the lower layers promise of a sound graph is what its chart is drawn from. Cites their promises alone. Assumes nothing.
-use mathlib.Core.Path.{_≡_, refl, sym, ap, _∙_, subst}
-use mathlib.Core.Bool.{Bool, true, false}
-use mathlib.Core.List.{List, []}
-use Prim.Native.Nat.{ℕ, _≤_, _<_, min}
+-- What the lower layers promise of a graph that passes the checks is what its chart is drawn from. Cites their promises alone. Assumes
+-- nothing.
+use mathlib.Core.Path.{_≡_, refl, sym, ap, ap₂, _∙_, subst}
+use mathlib.Core.Logic.{_↔_}
+use mathlib.Core.Bool.{Bool, true, false, _&&_}
+use mathlib.Core.List.{List}
+use Prim.Native.Nat.{ℕ, _*_, _≤_, _<_, min, max}
 use native.Mathlib.Omega.{arith}
-use lib.Dec.{eqb, ltb}
+use lib.Dec.{eqb}
 use lib.ListN.{length, getD}
-use borrow.Author.Tests.{eq-eqb, ne-eqb, eqb-true, lt-ltb, le-ltb}
-use Rattle.counting.specs.Count.{choose}
-use Rattle.counting.proofs.Truth.{same-truth}
+use borrow.Author.Tests.{eq-eqb, eqb-true}
+use Rattle.counting.specs.Count.{choose, count, some}
+use Rattle.counting.proofs.Truth.{same-truth, and-intro, and-elim}
+use Rattle.counting.proofs.Somes.{some-found, some-which}
+use Rattle.masks.specs.Sets.{member?, at}
 use Rattle.matching.specs.Lists.{channelOf, positionOf}
+use Rattle.matching.specs.Chains.{planned}
+use Rattle.matching.proofs.Same.{planned-same}
 use Rattle.reach.specs.Graph.{edge?}
-use Rattle.reach.specs.Closure.{Closure}
-use Rattle.reach.specs.declared.Reachability.{Reachability}
+use Rattle.reach.specs.Ends.{tailsOf, headsOf}
 use Rattle.reach.proofs.Decide.{edge-decided}
+use Rattle.reach.proofs.Closures.{same-test}
+use Rattle.channels.specs.Given.{linesOf}
 use Rattle.channels.specs.Arranged.{Arranged}
-use Rattle.channels.specs.Promise.{planRefusal, givenRefusal, Answers, Plans, Gives}
 use Rattle.channels.specs.Table.{leadsIn}
-use Rattle.channels.specs.declared.Channels.{Channels}
-use Rattle.channels.proofs.Answers.{sized, plan-taken}
-use Rattle.channels.proofs.Graphs.{graph-same}
 use Rattle.record.specs.Checks.{Content, refusalOf}
+use Rattle.record.specs.Checked.{Passes}
 use Rattle.record.specs.Sound.{Sound}
-use Rattle.record.specs.declared.reading.Graph.{Graph}
-use Rattle.record.proofs.Accepted.{channels-accepted}
+use Rattle.record.specs.declared.checks.Checked.{Checked}
 use Rattle.record.proofs.Soundness.{accepted-sound}
-use Rattle.layers.specs.Rows.{row, rowsUsed}
-use Rattle.layers.specs.Layered as layered
-use Rattle.layers.specs.Layered.{Layered, edgeIn}
-use Rattle.layers.specs.declared.Layering.{Layering}
-use Rattle.layers.proofs.Same.{row-same, used-same}
+use Rattle.reduction.specs.Reduction.{transitive?}
 use Rattle.bundles.specs.Bundles.{Bundle}
-use Rattle.bundles.specs.Sides.{side?, apart?}
-use Rattle.bundles.specs.Promise.{Bundled, Listed, bundlesOf, empty}
+use Rattle.bundles.specs.Sides.{side?, tableSide?, apart?}
+use Rattle.bundles.specs.Promise.{Bundled, Listed, bundlesOf, bundlesIn, empty}
 use Rattle.bundles.specs.declared.Bundles.{Bundles}
 use Rattle.bundles.proofs.Extension.{bundles-ext}
-use Rattle.tracks.specs.Promise.{Tracked}
+use Rattle.tracks.specs.Promise.{Tracked, Assigned}
 use Rattle.tracks.specs.Tracks.{tracks, topIn}
 use Rattle.tracks.specs.declared.Tracks.{Tracks}
 use Rattle.tracks.proofs.Extension.{tracks-ext}
 use Rattle.tracks.proofs.Different.{top-ext}
+use Rattle.tracks.proofs.Theorems.{tracked-rising}
+use Rattle.geometry.specs.Placement.{evenGaps, blockStart, ownColumn}
 use Rattle.outline.specs.Chart as chart
-use Rattle.outline.specs.Chart.{leads?, channelsOf, planOf, rowOf, rowCount, tracksIn}
-use Rattle.outline.proofs.Leading.{graph-accepted}
-use Rattle.outline.proofs.Channels.{channels-given, channels-planned, channels-few, vertices-small}
-use Rattle.drawing.specs.Promise.{graphContent}
-use Rattle.drawing.specs.Laid.{Laid, Lined}
+use Rattle.outline.specs.Chart.{leads?, channelsOf, planOf, rowOf, rowCount, descendantsOf, tracksIn, columnIn, widthOf, widths}
+use Rattle.outline.proofs.Leading.{graph-accepted, leads-ends}
+use Rattle.outline.proofs.Channels.{channels-few, channel-below, vertices-small}
+use Rattle.outline.proofs.Bundling.{bundle-intervals}
+use Rattle.outline.proofs.Columns.{width-on-page}
+use Rattle.drawing.specs.Drawn.{graphContent}
+use Rattle.drawing.specs.Laid.{Laid}
+use Rattle.drawing.specs.Parts.{Spaceable, Spaced}
+use Rattle.drawing.specs.declared.Plan.{Plan}
+use Rattle.drawing.proofs.Spacing.{start-same, own-same}
 
--- the channels of a refusal that is none
-taken : (k : ℕ) (ls : List (List ℕ)) (r : Channels) → Answers k ls r → k ≡ 0 → Arranged ls r
-taken k ls r a e = subst (λ (t : Bool). Arranged (choose t (λ _. ls) (λ _. [])) r) (eq-eqb k 0 e) (a .arranged)
-
-module _ (g : Graph) (accepted : refusalOf (graphContent g) ≡ 0) (counted : g .count ≤ 4096) (ends : (length (g .tails) ≡ 4096) × (length (g .heads) ≡ 4096))
-    (reach : Reachability) (closure : Closure (g .vertices) (graphContent g .tails) (graphContent g .heads) reach) where
+module _ (n : ℕ) (ends : List ℕ) (given : Bool) (field : List ℕ) (accepted : refusalOf (graphContent n ends given field) ≡ 0)
+    (k : Checked) (e b t l : List ℕ) (p : Passes n ends given field k e b t l) where
   abbrev c : Content
-  c = graphContent g
-
-  abbrev n : ℕ
-  n = g .vertices
+  c = graphContent n ends given field
 
   abbrev ls : List (List ℕ)
   ls = channelsOf c
@@ -65,128 +64,177 @@ module _ (g : Graph) (accepted : refusalOf (graphContent g) ≡ 0) (counted : g 
   s : Sound c
   s = accepted-sound c accepted
 
-  reached : reach .refusal ≡ 0
+  small : n ≤ 128
   unfolding graphContent
-  reached = closure .answer ∙ graph-accepted c s
+  small = vertices-small c s
+
+  -- ---- what leads where
+
+  table-same : (u v : ℕ) → u < 128 → v < 128 → eqb (at 2 t u v) 1 ≡ leads? c u v
+  unfolding leads? graphContent
+  table-same u v hu hv = same-test n (tailsOf ends) (headsOf ends) t (p .descended .closure .bits) u v hu hv
+
+  table-leads : (u v : ℕ) → u < n → v < n → leadsIn t u v ≡ leads? c u v
+  unfolding leadsIn
+  table-leads u v hu hv = table-same u v (omega (arith, small)) (omega (arith, small))
+
+  edges-same : (u v : ℕ) → u < n → v < n → member? e (2 * u) v ≡ edge? (tailsOf ends) (headsOf ends) u v
+  unfolding at graphContent
+  edges-same u v hu hv =
+      let bits = p .descended .closure .edge-bits u v (omega (arith, small)) (omega (arith, small)) in
+      let there = edge-decided (tailsOf ends) (headsOf ends) u v in
+      same-truth _ _ (λ x. there .0 (bits .0 (eqb-true _ 1 x) .1)) (λ x. eq-eqb _ 1 (bits .1 (graph-accepted c s, there .1 x)))
+
+  -- a vertex between
+  longer-laid : (u v : ℕ) → u < n → v < n → member? l (2 * u) v ≡ transitive? (leads? c) n u v
+  unfolding at transitive? graphContent
+  longer-laid u v hu hv =
+      let bits = p .descended .longer .bits u v (omega (arith, small)) (omega (arith, small)) in
+      same-truth _ _
+      (λ x.
+      let w = bits .0 (eqb-true _ 1 x) in
+      let to = sym (table-same u (w .0) (omega (arith, small)) (w .1)) ∙ eq-eqb _ 1 (w .2) in
+      let from = sym (table-same (w .0) v (w .1) (omega (arith, small))) ∙ eq-eqb _ 1 (w .3) in
+      some-found n (λ w. leads? c u w && leads? c w v) (w .0) (leads-ends c s u (w .0) to .1) (and-intro _ _ to from))
+      (λ x.
+      let w = some-which n (λ w. leads? c u w && leads? c w v) x in
+      let both = and-elim (leads? c u (w .0)) (leads? c (w .0) v) (w .2) in
+      let hw : w .0 < 128 = (let h = w .1 in omega (arith, small)) in
+      eq-eqb _ 1 (bits .1 (w .0, hw, eqb-true _ 1 (table-same u (w .0) (omega (arith, small)) hw ∙ both .0), eqb-true _ 1 (table-same (w .0) v hw (omega (arith, small)) ∙ both .1))))
 
   -- ---- channels
 
-  planned-lined : (ch : Channels) → g .given ≡ false → Plans n (reach .table) ch → Arranged ls ch
-  unfolding graphContent leads?
-  planned-lined ch e p =
-      let k = s .size in
-      subst (λ (x : List (List ℕ)). Arranged x ch) (graph-same n (c .tails) (c .heads) reach closure reached ∙ sym (channels-planned c s e))
-      (taken (planRefusal n) _ ch p (plan-taken n (sized n (λ z. let j = k .0 in omega arith) (k .1))))
+  arranged : Arranged ls (k .channels)
+  unfolding channelsOf graphContent
+  arranged =
+      subst (λ (x : List (List ℕ)). Arranged (choose given (λ _. linesOf field) (λ _. x)) (k .channels)) (planned-same n (leadsIn t) (leads? c) small table-leads) (p .arranged)
 
-  given-lined : (ch : Channels) → g .given ≡ true → Gives n (reach .table) (c .field) ch → Arranged ls ch
+  channels-small : k .channels .count ≤ 128
   unfolding graphContent
-  given-lined ch e p =
-      subst (λ (x : List (List ℕ)). Arranged x ch) (sym (channels-given c s e))
-      (taken (givenRefusal (leadsIn (reach .table)) n (c .field)) _ ch p (channels-accepted c reach accepted closure reached e))
+  channels-small = omega (arith, arranged .counted, channels-few c s, small)
 
-  pub lined : (ch : Channels) → Lined g reach ch → Arranged ls ch
-  lined ch p = go (g .given) refl p
-    where
-      go : (t : Bool) → g .given ≡ t → choose t (λ _. Gives n (reach .table) (c .field) ch) (λ _. Plans n (reach .table) ch) → Arranged ls ch
-      go true e q = given-lined ch e q
-      go false e q = planned-lined ch e q
+  channel-known : (v : ℕ) → v < n → getD (k .channels .channel) v 0 < k .channels .count
+  unfolding graphContent
+  channel-known v h = omega (arith, arranged .channel v, arranged .counted, channel-below c s v h)
 
   -- ---- rows
 
-  edges-same : (u v : ℕ) → u < n → v < n → edgeIn (reach .edges) u v ≡ edge? (c .tails) (c .heads) u v
-  unfolding edgeIn graphContent
-  edges-same u v hu hv =
-      let k = vertices-small c s in
-      let bits = closure .edge-bits u v (omega arith) (omega arith) in
-      let there = edge-decided (c .tails) (c .heads) u v in
-      same-truth _ _ (λ t. there .0 (bits .0 (eqb-true _ 1 t) .1)) (λ t. eq-eqb _ 1 (bits .1 (graph-accepted c s, there .1 t)))
+  rows-laid : (v : ℕ) → v < n → getD (k .rows) v 0 ≡ rowOf c v
+  unfolding rowOf graphContent
+  rows-laid v h = p .descended .rows v h
 
-  all-vertices : layered.vertices n ≡ n
-  unfolding layered.vertices layered.outsized? graphContent
-  all-vertices = let k = s .size in rw (ne-eqb n 0 (λ z. let j = k .0 in omega arith), le-ltb 128 n (k .1)) refl
+  rows-counted : k .used ≡ rowCount c
+  unfolding rowCount graphContent
+  rows-counted = p .descended .used
 
-  module _ (r : Layering) (made : Layered n (reach .edges) r) where
-    rows-laid : (v : ℕ) → v < n → getD (r .rows) v 0 ≡ rowOf c v
-    unfolding rowOf graphContent
-    rows-laid v h =
-        made .rows v ∙ ap (λ (m : ℕ). choose (ltb v m) (λ _. row (edgeIn (reach .edges)) m v) (λ _. 0)) all-vertices
-        ∙ ap (λ (t : Bool). choose t (λ _. row (edgeIn (reach .edges)) n v) (λ _. 0)) (lt-ltb v n h)
-        ∙ row-same (edgeIn (reach .edges)) (edge? (c .tails) (c .heads)) n edges-same v h
+  below-laid : (j v : ℕ) → j ≤ rowCount c → v < 128 → at 2 b j v ≡ 1 ↔ ((v < n) × (rowOf c v < j))
+  unfolding rowOf graphContent
+  below-laid j v h hv = p .descended .below j v (let q = rows-counted in omega arith) hv
 
-    rows-past : (v : ℕ) → n ≤ v → getD (r .rows) v 0 ≡ 0
-    rows-past v h =
-        made .rows v ∙ ap (λ (m : ℕ). choose (ltb v m) (λ _. row (edgeIn (reach .edges)) m v) (λ _. 0)) all-vertices
-        ∙ ap (λ (t : Bool). choose t (λ _. row (edgeIn (reach .edges)) n v) (λ _. 0)) (le-ltb v n h)
+  descendants-laid : (v : ℕ) → v < n → getD (k .counts) v 0 ≡ descendantsOf c v
+  unfolding descendantsOf leads? graphContent
+  descendants-laid v h = p .descended .closure .counted v (omega (arith, small))
 
-    rows-counted : r .used ≡ rowCount c
-    unfolding rowCount graphContent
-    rows-counted = made .counted ∙ ap (rowsUsed (edgeIn (reach .edges))) all-vertices ∙ used-same (edgeIn (reach .edges)) (edge? (c .tails) (c .heads)) n edges-same
+  -- ---- bundles and tracks
 
-    -- ---- bundles and tracks
+  module _ (bs : Bundles) (made : Bundled n e (k .channels .count) (k .channels .channel) (k .channels .position) (k .rows) bs) where
+    sides-same : (u v : ℕ) → u < n → v < n
+        → tableSide? n e (λ x. getD (k .channels .channel) x 0) (λ x. getD (k .channels .position) x 0) u v ≡ side? n (tailsOf ends) (headsOf ends) (channelOf ls) (positionOf ls) u v
+    unfolding side? tableSide? apart?
+    sides-same u v hu hv = rw (edges-same u v hu hv, arranged .channel u, arranged .channel v, arranged .position u, arranged .position v) refl
 
-    module _ (ch : Channels) (a : Arranged ls ch) (bs : Bundles) (b : Bundled n (c .tails) (c .heads) (ch .count) (ch .channel) (ch .position) (r .rows) bs) where
-      sides-same : (u v : ℕ) → side? n (c .tails) (c .heads) (λ x. getD (ch .channel) x 0) (λ x. getD (ch .position) x 0) u v ≡ side? n (c .tails) (c .heads) (channelOf ls) (positionOf ls) u v
-      unfolding side? apart?
-      sides-same u v = rw (a .channel u, a .channel v, a .position u, a .position v) refl
+    all-of : min n 128 ≡ n
+    all-of = omega (arith, small)
 
-      all-of : min n 128 ≡ n
-      unfolding graphContent
-      all-of = let k = vertices-small c s in omega arith
+    all-channels : min (k .channels .count) 128 ≡ length ls
+    all-channels = omega (arith, arranged .counted, channels-small)
 
-      all-channels : min (ch .count) 256 ≡ length ls
-      unfolding graphContent
-      all-channels = omega (arith, a .counted, channels-few c s, vertices-small c s)
+    bundles-same : bundlesIn (min n 128) e (min (k .channels .count) 128) (λ v. getD (k .channels .channel) v 0) (λ v. getD (k .channels .position) v 0) (λ v. getD (k .rows) v 0) ≡ planOf c .bundles
+    unfolding planOf chart.bundled chart.tracked bundlesOf bundlesIn graphContent
+    bundles-same =
+        rw (all-of, all-channels)
+        (bundles-ext n (tableSide? n e (λ x. getD (k .channels .channel) x 0) (λ x. getD (k .channels .position) x 0)) (side? n (tailsOf ends) (headsOf ends) (channelOf ls) (positionOf ls))
+        (λ v. getD (k .channels .channel) v 0) (channelOf ls) (λ v. getD (k .channels .position) v 0) (positionOf ls) (λ v. getD (k .rows) v 0) (rowOf c)
+        sides-same (λ v h. arranged .channel v) (λ v h. arranged .position v) rows-laid (length ls))
 
-      pub bundles-same : bundlesOf (min n 128) (c .tails) (c .heads) (min (ch .count) 256) (λ v. getD (ch .channel) v 0) (λ v. getD (ch .position) v 0) (λ v. getD (r .rows) v 0) ≡ planOf c .bundles
-      unfolding planOf chart.bundled chart.tracked bundlesOf graphContent
-      bundles-same =
-          rw (all-of, all-channels)
-          (bundles-ext n (side? n (c .tails) (c .heads) (λ x. getD (ch .channel) x 0) (λ x. getD (ch .position) x 0)) (side? n (c .tails) (c .heads) (channelOf ls) (positionOf ls))
-          (λ v. getD (ch .channel) v 0) (channelOf ls) (λ v. getD (ch .position) v 0) (positionOf ls) (λ v. getD (r .rows) v 0) (rowOf c)
-          (λ u v hu hv. sides-same u v) (λ v h. a .channel v) (λ v h. a .position v) rows-laid (length ls))
+    bundles-laid : Listed n (planOf c .bundles) bs
+    bundles-laid = subst (λ (m : ℕ). Listed m (planOf c .bundles) bs) all-of (subst (λ (x : List Bundle). Listed (min n 128) x bs) bundles-same made)
 
-      bundles-laid : Listed n (planOf c .bundles) bs
-      bundles-laid = subst (λ (k : ℕ). Listed k (planOf c .bundles) bs) all-of (subst (λ (x : List Bundle). Listed (min n 128) x bs) bundles-same b)
+    abbrev total : ℕ
+    total = min (bs .count) 256
 
-      module _ (ts : Tracks) (t : Tracked (bs .count) (bs .channel) (bs .first) (bs .last) ts) where
-        abbrev count : ℕ
-        count = min (bs .count) 256
+    total-same : total ≡ length (planOf c .bundles)
+    total-same = omega (arith, bundles-laid .counted, bundles-laid .few, small)
 
-        count-same : count ≡ length (planOf c .bundles)
-        unfolding graphContent
-        count-same = omega (arith, bundles-laid .counted, bundles-laid .few, vertices-small c s)
+    module _ (ts : Tracks) (tracked : Tracked (bs .count) (bs .channel) (bs .first) (bs .last) ts) where
+      rising : Assigned total (λ i. getD (bs .channel) i 0) (λ i. getD (bs .first) i 0) (λ i. getD (bs .last) i 0) ts
+      rising =
+          tracked-rising (bs .count) (bs .channel) (bs .first) (bs .last) ts
+          (λ i h. let o = bundle-intervals c s .ordered i (let q = total-same in omega arith) in omega (arith, bundles-laid .first i, bundles-laid .last i)) tracked
 
-        tracks-same : tracks count (λ i. getD (bs .channel) i 0) (λ i. getD (bs .first) i 0) (λ i. getD (bs .last) i 0) ≡ planOf c .tracks
-        unfolding planOf chart.bundled chart.tracked
-        tracks-same =
-            tracks-ext count _ _ _ _ _ _ (λ i h. bundles-laid .channel i) (λ i h. bundles-laid .first i) (λ i h. bundles-laid .last i)
-            ∙ ap (λ k. tracks k (λ i. getD (planOf c .bundles) i empty .channel) (λ i. getD (planOf c .bundles) i empty .first) (λ i. getD (planOf c .bundles) i empty .last)) count-same
+      tracks-same : tracks total (λ i. getD (bs .channel) i 0) (λ i. getD (bs .first) i 0) (λ i. getD (bs .last) i 0) ≡ planOf c .tracks
+      unfolding planOf chart.bundled chart.tracked
+      tracks-same =
+          tracks-ext total _ _ _ _ _ _ (λ i h. bundles-laid .channel i) (λ i h. bundles-laid .first i) (λ i h. bundles-laid .last i)
+          ∙ ap (λ m. tracks m (λ i. getD (planOf c .bundles) i empty .channel) (λ i. getD (planOf c .bundles) i empty .first) (λ i. getD (planOf c .bundles) i empty .last)) total-same
 
-        used-laid : (l : ℕ) → l < 128 → getD (ts .used) l 0 ≡ tracksIn (planOf c) l
-        unfolding tracksIn
-        used-laid l h =
-            t .used l h
-            ∙ top-ext count _ (λ i. eqb (getD (planOf c .bundles) i empty .channel) l) _ (λ i. getD (planOf c .tracks) i 0)
-            (λ i k. ap (λ (x : ℕ). eqb x l) (bundles-laid .channel i)) (λ i k. ap (λ (x : List ℕ). getD x i 0) tracks-same)
-            ∙ ap (λ (k : ℕ). topIn k (λ i. eqb (getD (planOf c .bundles) i empty .channel) l) (λ i. getD (planOf c .tracks) i 0)) count-same
+      used-laid : (i : ℕ) → i < 128 → getD (ts .used) i 0 ≡ tracksIn (planOf c) i
+      unfolding tracksIn
+      used-laid i h =
+          rising .used i h
+          ∙ top-ext total _ (λ j. eqb (getD (planOf c .bundles) j empty .channel) i) _ (λ j. getD (planOf c .tracks) j 0)
+          (λ j q. ap (λ (x : ℕ). eqb x i) (bundles-laid .channel j)) (λ j q. ap (λ (x : List ℕ). getD x j 0) tracks-same)
+          ∙ ap (λ (m : ℕ). topIn m (λ j. eqb (getD (planOf c .bundles) j empty .channel) i) (λ j. getD (planOf c .tracks) j 0)) total-same
+
+      -- ---- columns
+
+      abbrev used : ℕ → ℕ
+      used i = getD (ts .used) i 0
+
+      used-same : (i : ℕ) → i < k .channels .count → used i ≡ tracksIn (planOf c) i
+      used-same i h = used-laid i (omega (arith, channels-small))
+
+      width-same : blockStart (evenGaps used) (k .channels .count) ≡ widthOf (planOf c)
+      unfolding widthOf planOf chart.bundled chart.tracked
+      width-same = start-same used (tracksIn (planOf c)) (k .channels .count) used-same ∙ ap (blockStart (evenGaps (tracksIn (planOf c)))) (arranged .counted)
+
+      pub spaceable : Spaceable n (k .channels) ts
+      spaceable = record {
+        few = small;
+        channels = channels-small;
+        known = channel-known;
+        page = omega (arith, width-same, width-on-page c s);
+        sizes = (arranged .sizes .2, rising .sizes .1);
+      }
+
+      module _ (column : List ℕ) (width : ℕ) (d : Spaced n (k .channels) ts column width) where
+        column-laid : (v : ℕ) → v < n → getD column v 0 ≡ columnIn (planOf c) v
+        unfolding columnIn planOf chart.bundled chart.tracked
+        column-laid v h =
+            d .standing .made v h
+            ∙ d .owns .columns .made (getD (k .channels .channel) v 0) (channel-known v h)
+            ∙ own-same used (tracksIn (planOf c)) (k .channels .count) (getD (k .channels .channel) v 0) (channel-known v h) used-same
+            ∙ ap (ownColumn (widths (planOf c))) (arranged .channel v)
 
         -- THE PLAN: what the lower layers made is what the chart is drawn from
-        pub laid : Laid g (record { reach = reach; channels = ch; layers = r; bundles = bs; tracks = ts })
-        laid = record {
+        pub laid : length b ≡ 258 → Laid c (record { refusal = 0; used = k .used; row = k .rows; descendants = k .counts; channels = k .channels; bundles = bs; tracks = ts; column = column; width = width }) b l
+        unfolding planOf chart.bundled chart.tracked graphContent
+        laid long = record {
           sound = s;
-          counted = counted;
-          ends = ends;
-          reach = closure;
-          channels = a .counted;
-          channel = a .channel;
-          position = a .position;
-          placed = (a .sizes .2, a .sizes .3);
-          rows = rows-laid;
-          no-row = rows-past;
           row-count = rows-counted;
-          layered = made .size;
+          rows = rows-laid;
+          descendants = descendants-laid;
+          channels = arranged .counted;
+          channel = arranged .channel;
+          position = arranged .position;
           bundles = bundles-laid;
-          track = t .track ∙ tracks-same;
+          track = rising .track ∙ tracks-same;
           used = used-laid;
-          tracked = t .sizes .1;
+          column = column-laid;
+          width = d .owns .end ∙ width-same;
+          longer-pairs = longer-laid;
+          below-rows = below-laid;
+          placed = (arranged .sizes .2, arranged .sizes .3);
+          tabled = (p .descended .sizes .0, p .descended .sizes .1, d .standing .long, rising .sizes .0, rising .sizes .1);
+          masks = (long, p .descended .longer .masks);
         }

@@ -1,10 +1,10 @@
+pub mod Entries
+pub mod Judging
+pub mod Nothing
+pub mod Refusals
+pub mod Shortage
 pub mod Tabling
 pub mod Owning
-pub mod Marking
-pub mod Coding
-pub mod Nothing
-pub mod Coursing
-pub mod Assembling
-pub mod Charting
+pub mod Spacing
 pub mod Laying
-pub mod Answering
+pub mod Planning

@@ -1,5 +1,5 @@
 -- Tables that are filled entry by entry. Assumes nothing.
-use mathlib.Core.Path.{_≡_, sym, _∙_}
+use mathlib.Core.Path.{_≡_, _∙_}
 use mathlib.Core.List.{List}
 use Prim.Native.Nat.{ℕ, _+_, _<_}
 use native.Mathlib.Nat.{not-suc-le-zero}
@@ -20,12 +20,4 @@ tabled-more {size} {f} {j} {t} x h s e = record {
       (λ i l. getD-set-other t j i x 0 (λ q. omega arith) ∙ s .made i l)
       (getD-set-same t j x 0 (let l = s .long in omega arith) ∙ e);
   past = λ i l. getD-set-other t j i x 0 (λ q. omega arith) ∙ s .past i (omega arith);
-}
-
--- an entry of 0 stands there already
-pub tabled-zero : {size : ℕ} {f : ℕ → ℕ} {j : ℕ} {t : List ℕ} → Tabled size f j t → f j ≡ 0 → Tabled size f (j + 1) t
-tabled-zero {size} {f} {j} {t} s e = record {
-  long = s .long;
-  made = below-more (λ (i : ℕ). getD t i 0 ≡ f i) j (λ i l. s .made i l) (s .past j (omega arith) ∙ sym e);
-  past = λ i l. s .past i (omega arith);
 }

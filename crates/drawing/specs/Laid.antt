@@ -1,108 +1,64 @@
--- What is planned of a sound graph, and the drawing that is put together from it. Assumes nothing.
+-- What is planned of a sound graph. Assumes nothing.
 use mathlib.Core.Path.{_≡_}
+use mathlib.Core.Logic.{_≢_, _↔_}
+use mathlib.Core.Bool.{Bool}
 use mathlib.Core.List.{List}
-use Prim.Native.Nat.{ℕ, _≤_, _<_}
+use Prim.Native.Nat.{ℕ, _*_, _≤_, _<_}
 use lib.ListN.{length, getD, replicate}
-use Rattle.counting.specs.Count.{choose}
+use Rattle.masks.specs.Sets.{member?, at}
 use Rattle.matching.specs.Lists.{channelOf, positionOf}
-use Rattle.reach.specs.Closure.{Closure}
-use Rattle.reach.specs.declared.Reachability.{Reachability}
-use Rattle.channels.specs.Promise.{Plans, Gives}
-use Rattle.channels.specs.declared.Channels.{Channels}
-use Rattle.record.specs.Checks.{refusalOf}
+use Rattle.record.specs.Checks.{Content, refusalOf}
 use Rattle.record.specs.Sound.{Sound}
-use Rattle.record.specs.declared.reading.Graph.{Graph}
+use Rattle.reduction.specs.Reduction.{transitive?}
 use Rattle.bundles.specs.Promise.{Listed}
-use Rattle.bundles.specs.declared.Bundles.{Bundles}
-use Rattle.tracks.specs.declared.Tracks.{Tracks}
-use Rattle.outline.specs.Chart.{channelsOf, rowOf, rowCount, planOf, tracksIn}
-use Rattle.drawing.specs.Promise.{graphContent}
-use Rattle.drawing.specs.declared.tables.Plan.{Plan}
-use Rattle.drawing.specs.declared.edges.Marked.{Marked}
-use Rattle.drawing.specs.declared.edges.Kinds.{Kinds}
-use Rattle.drawing.specs.declared.Drawing.{Drawing}
+use Rattle.outline.specs.Chart.{leads?, rowOf, rowCount, descendantsOf, planOf, tracksIn, columnIn, widthOf}
+use Rattle.drawing.specs.Drawn.{graphContent}
+use Rattle.drawing.specs.declared.Plan.{Plan}
 
--- ch has the given channels of a graph, if it has any, or the planned ones
-abbrev pub Lined : Graph → Reachability → Channels → Type 0
-Lined g reach ch =
-    choose (g .given) (λ _. Gives (g .vertices) (reach .table) (graphContent g .field) ch) (λ _. Plans (g .vertices) (reach .table) ch)
-
--- a graph that passes the checks, and its reachability
-pub record Accepted (g : Graph) (reach : Reachability) : Type 0 where
-  pub passes : refusalOf (graphContent g) ≡ 0
-  pub counted : g .count ≤ 4096
-  pub sizes : (length (g .tails) ≡ 4096) × (length (g .heads) ≡ 4096) × (length (g .lines) ≡ 256)
-  pub closure : Closure (g .vertices) (graphContent g .tails) (graphContent g .heads) reach
-
--- p has the channels, rows, bundles and tracks of the graph's chart
-pub record Laid (g : Graph) (p : Plan) : Type 0 where
-  pub sound : Sound (graphContent g)
-  pub counted : g .count ≤ 4096
-  pub ends : (length (g .tails) ≡ 4096) × (length (g .heads) ≡ 4096)
-  pub reach : Closure (g .vertices) (graphContent g .tails) (graphContent g .heads) (p .reach)
-  pub channels : p .channels .count ≡ length (channelsOf (graphContent g))
-  pub channel : (v : ℕ) → getD (p .channels .channel) v 0 ≡ channelOf (channelsOf (graphContent g)) v
-  pub position : (v : ℕ) → getD (p .channels .position) v 0 ≡ positionOf (channelsOf (graphContent g)) v
+-- p has the rows, channels, bundles, tracks and columns of the graph's chart; `below` has, for each k up to the rows used, the set of the
+-- vertices whose row is below k, and `longer` the pairs of vertices with a vertex between
+pub record Laid (c : Content) (p : Plan) (below longer : List ℕ) : Type 0 where
+  pub sound : Sound c
+  pub row-count : p .used ≡ rowCount c
+  pub rows : (v : ℕ) → v < c .vertices → getD (p .row) v 0 ≡ rowOf c v
+  pub descendants : (v : ℕ) → v < c .vertices → getD (p .descendants) v 0 ≡ descendantsOf c v
+  pub channels : p .channels .count ≡ length (planOf c .channels)
+  pub channel : (v : ℕ) → getD (p .channels .channel) v 0 ≡ channelOf (planOf c .channels) v
+  pub position : (v : ℕ) → getD (p .channels .position) v 0 ≡ positionOf (planOf c .channels) v
+  pub bundles : Listed (c .vertices) (planOf c .bundles) (p .bundles)
+  pub track : p .tracks .track ≡ planOf c .tracks
+  pub used : (l : ℕ) → l < 128 → getD (p .tracks .used) l 0 ≡ tracksIn (planOf c) l
+  pub column : (v : ℕ) → v < c .vertices → getD (p .column) v 0 ≡ columnIn (planOf c) v
+  pub width : p .width ≡ widthOf (planOf c)
+  pub longer-pairs : (u v : ℕ) → u < c .vertices → v < c .vertices → member? longer (2 * u) v ≡ transitive? (leads? c) (c .vertices) u v
+  pub below-rows : (k v : ℕ) → k ≤ rowCount c → v < 128 → at 2 below k v ≡ 1 ↔ ((v < c .vertices) × (rowOf c v < k))
   pub placed : (length (p .channels .channel) ≡ 128) × (length (p .channels .position) ≡ 128)
-  pub rows : (v : ℕ) → v < g .vertices → getD (p .layers .rows) v 0 ≡ rowOf (graphContent g) v
-  pub no-row : (v : ℕ) → g .vertices ≤ v → getD (p .layers .rows) v 0 ≡ 0
-  pub row-count : p .layers .used ≡ rowCount (graphContent g)
-  pub layered : length (p .layers .rows) ≡ 128
-  pub bundles : Listed (g .vertices) (planOf (graphContent g) .bundles) (p .bundles)
-  pub track : p .tracks .track ≡ planOf (graphContent g) .tracks
-  pub used : (l : ℕ) → l < 128 → getD (p .tracks .used) l 0 ≡ tracksIn (planOf (graphContent g)) l
-  pub tracked : length (p .tracks .used) ≡ 128
+  pub tabled : (length (p .row) ≡ 128) × (length (p .descendants) ≡ 128) × (length (p .column) ≡ 128) × (length (p .tracks .track) ≡ 256) × (length (p .tracks .used) ≡ 128)
+  pub masks : (length below ≡ 258) × (length longer ≡ 256)
 
--- the tables of a drawing from these, those of the bundles empty
-abbrev pub bareWith : Graph → Plan → ℕ → List ℕ → Marked → Kinds → Drawing
-bareWith g p width column marked kinds = record {
-  refusal = 0;
-  vertices = g .vertices;
-  edges = g .count;
-  bundles = 0;
-  rows = p .layers .used;
-  channels = p .channels .count;
-  reduced = marked .reduced;
-  width = width;
-  tracks = replicate 128 0;
-  channel = p .channels .channel;
-  position = p .channels .position;
-  column = column;
-  row = p .layers .rows;
-  descendants = p .reach .counts;
-  code = kinds .code;
-  value = kinds .value;
-  «bend_row» = kinds .«bend_row»;
-  mark = marked .mark;
-  «bundle_channel» = replicate 256 0;
-  «first_row» = replicate 256 0;
-  «last_row» = replicate 256 0;
-  track = replicate 256 0;
+-- a refusal, with nothing planned
+abbrev pub unplannedBy : ℕ → Plan
+unplannedBy k = record {
+  refusal = k;
+  used = 0;
+  row = replicate 128 0;
+  descendants = replicate 128 0;
+  channels = record { refusal = k; count = 0; vertices = 0; channel = replicate 128 0; position = replicate 128 0; order = replicate 128 0; starts = replicate 128 0 };
+  bundles = record { count = 0; channel = replicate 256 0; first = replicate 256 0; last = replicate 256 0; into = replicate 128 256; «out_of» = replicate 128 256 };
+  tracks = record { track = replicate 256 0; used = replicate 128 0 };
+  column = replicate 128 0;
+  width = 0;
 }
 
--- and with those of the bundles
-abbrev pub withBundles : Bundles → Tracks → Drawing → Drawing
-withBundles b t d = record {
-  refusal = d .refusal;
-  vertices = d .vertices;
-  edges = d .edges;
-  bundles = b .count;
-  rows = d .rows;
-  channels = d .channels;
-  reduced = d .reduced;
-  width = d .width;
-  tracks = t .used;
-  channel = d .channel;
-  position = d .position;
-  column = d .column;
-  row = d .row;
-  descendants = d .descendants;
-  code = d .code;
-  value = d .value;
-  «bend_row» = d .«bend_row»;
-  mark = d .mark;
-  «bundle_channel» = b .channel;
-  «first_row» = b .first;
-  «last_row» = b .last;
-  track = t .track;
-}
+-- `below` and `longer` are long enough for the masks: 129 sets by row, and a set a vertex
+pub record Roomy (below longer : List ℕ) : Type 0 where
+  pub rows : length below ≡ 258
+  pub pairs : length longer ≡ 256
+
+-- the first check that fails, or 0 and what is planned; 8, and nothing changed, where a list is not as long as it must be
+pub record Plans (n : ℕ) (ends : List ℕ) (given : Bool) (field below longer : List ℕ) (p : Plan) (below′ longer′ : List ℕ) : Type 0 where
+  pub answer : Roomy below longer → p .refusal ≡ refusalOf (graphContent n ends given field)
+  pub short : (Roomy below longer → ⊥) → (p .refusal ≡ 8) × (below′ ≡ below) × (longer′ ≡ longer)
+  pub laid : p .refusal ≡ 0 → Laid (graphContent n ends given field) p below′ longer′
+  pub none : p .refusal ≢ 0 → p ≡ unplannedBy (p .refusal)
+  pub long : (length below′ ≡ length below) × (length longer′ ≡ length longer)

@@ -1,3 +1,3 @@
-pub mod Promise
-pub mod Parts
+pub mod Drawn
 pub mod Laid
+pub mod Parts

@@ -1,47 +1,33 @@
-// Layer 3: the drawing of a graph (document 01, 'Rows' to 'Columns and bends'), as tables by value.
+// Layer 3: what is planned of a graph, layer by layer (document 01, 'Lines' to 'Columns and bends').
 ghost use mathlib.Core.Path.{_≡_};
 ghost use Prim.Native.Nat.{_<_};
-ghost use Rattle.drawing.specs.Parts.{blankOf};
-ghost use Rattle.drawing.specs.Promise.{Draws, recordDrawn, graphDrawn};
+ghost use Rattle.tracks.specs.Promise.{Tracked};
+ghost use Rattle.drawing.specs.Laid.{unplannedBy, Plans};
 
 mod columns;
-mod edges;
-mod planning;
-mod tables;
 
-use planning::bounded;
-use planning::planned;
-use record::reading::Graph;
-use tables::assembled;
+use bundles::Bundles;
+use bundles::bundled;
+use channels::Channels;
+use columns::places_of;
+use record::checks::check;
+use tracks::Tracks;
 
-// The most edges of a graph.
-const MOST_EDGES: usize = 4096;
+// What stands for no bundle.
+const NO_BUNDLE: u16 = 256;
 
-// A drawing as tables: counts; of each vertex, edge and bundle what its entry is made from, and 0 past the last. Edge e's kind is the case
-// of number code[e], with value[e] for its bundle or its bend's column, and bend_row[e]; mark[e] is 1 where it is transitive.
-pub struct Drawing {
+// Why a graph is refused, or 0; how many rows it has; the row of each vertex and how many vertices it reaches; the channels, the bundles
+// and their tracks; the column of each vertex, and the columns of all channels.
+pub struct Plan {
     pub refusal: u8,
-    pub vertices: usize,
-    pub edges: usize,
-    pub bundles: usize,
-    pub rows: u8,
-    pub channels: u8,
-    pub reduced: u16,
-    pub width: u16,
-    pub tracks: [u16; 128],
-    pub channel: [u8; 128],
-    pub position: [u8; 128],
-    pub column: [u16; 128],
+    pub used: u8,
     pub row: [u8; 128],
     pub descendants: [u8; 128],
-    pub code: [u8; 4096],
-    pub value: [u16; 4096],
-    pub bend_row: [u8; 4096],
-    pub mark: [u8; 4096],
-    pub bundle_channel: [u8; 256],
-    pub first_row: [u8; 256],
-    pub last_row: [u8; 256],
-    pub track: [u8; 256],
+    pub channels: Channels,
+    pub bundles: Bundles,
+    pub tracks: Tracks,
+    pub column: [u16; 128],
+    pub width: u16,
 }
 
 // A byte as a usize: asks nothing of the byte, where a cast of an element asks that it fits.
@@ -51,72 +37,88 @@ pub(crate) fn wide(x: u8) -> usize
     x as usize
 }
 
-// A drawing that is refused: no count and no entry.
-pub fn blank(refusal: u8) -> Drawing
-    ensures { λ r. ⌜ r ≡ blankOf refusal ⌝ }
+// A refusal, with nothing planned.
+pub(crate) fn unplanned(refusal: u8) -> Plan
+    ensures { λ r. ⌜ r ≡ unplannedBy refusal ⌝ }
 {
-    Drawing {
+    Plan {
         refusal,
-        vertices: 0,
-        edges: 0,
-        bundles: 0,
-        rows: 0,
-        channels: 0,
-        reduced: 0,
-        width: 0,
-        tracks: [0; 128],
-        channel: [0; 128],
-        position: [0; 128],
-        column: [0; 128],
+        used: 0,
         row: [0; 128],
         descendants: [0; 128],
-        code: [0; 4096],
-        value: [0; 4096],
-        bend_row: [0; 4096],
-        mark: [0; 4096],
-        bundle_channel: [0; 256],
-        first_row: [0; 256],
-        last_row: [0; 256],
-        track: [0; 256],
+        channels: Channels {
+            refusal,
+            count: 0,
+            vertices: 0,
+            channel: [0; 128],
+            position: [0; 128],
+            order: [0; 128],
+            starts: [0; 128],
+        },
+        bundles: Bundles {
+            count: 0,
+            channel: [0; 256],
+            first: [0; 256],
+            last: [0; 256],
+            into: [NO_BUNDLE; 128],
+            out_of: [NO_BUNDLE; 128],
+        },
+        tracks: Tracks {
+            track: [0; 256],
+            used: [0; 128],
+        },
+        column: [0; 128],
+        width: 0,
     }
 }
 
-// The drawing of a graph, or the number of the first check that fails, of 2 to 7.
-pub fn of_graph(g: Graph) -> Drawing
-    ensures { λ r. ⌜ Draws (graphDrawn g) r ⌝ }
+// The tracks of bundles.
+fn tracks_of(b: Bundles) -> Tracks
+    ensures { λ r. ⌜ Tracked (b .count) (b .channel) (b .first) (b .last) r ⌝ }
 {
-    let m = g.count;
-    if MOST_EDGES < m {
-        return blank(2);
-    }
-    let tails = g.tails;
-    let heads = g.heads;
-    let lines = g.lines;
-    let verdict = record::checks::check(
-        g.vertices,
-        &tails[..m],
-        &heads[..m],
-        g.given,
-        &lines[..bounded(g.size)],
-    );
-    if verdict.refusal != 0 {
-        return blank(verdict.refusal);
-    }
-    let reach = verdict.reach;
-    let p = planned(g, reach);
-    assembled(g, p)
+    let channel = b.channel;
+    let first = b.first;
+    let last = b.last;
+    tracks::tracked(b.count as usize, channel, first, last)
 }
 
-// The drawing of a record, or the number of the first check that fails, of 1 to 7.
-pub fn of_record(b: &[u8]) -> Drawing
-    ensures { λ r. ⌜ Draws (recordDrawn (now (b .entry))) r ⌝ }
+// What is planned of n vertices, the edges whose ends are bytes, tail and head in turn, and the given channels in the bytes of their
+// field, if there are any; or the number of the first check that fails, of 2 to 7. `below` gets the sets of vertices by row, and `longer`
+// the pairs with a vertex between; 8, and nothing changed, where one is not as long as it must be.
+pub fn planned<'a, 'f, 'b, 'l>(
+    n: usize,
+    ends: &'a [u8],
+    given: bool,
+    field: &'f [u8],
+    below: &'b mut [u64],
+    longer: &'l mut [u64],
+) -> Plan
+    ensures { λ r. ⌜ Plans n (now (ends .entry)) given (now (field .entry)) (now (below .entry)) (now (longer .entry)) r (now (below .exit)) (now (longer .exit)) ⌝ }
 {
-    let reading = record::reading::read(b);
-    if reading.refusal != 0 {
-        return blank(reading.refusal);
+    let mut edges = [0; 256];
+    let mut table = [0; 256];
+    let k = check(n, ends, given, field, &mut edges, below, &mut table, longer);
+    if k.refusal != 0 {
+        return unplanned(k.refusal);
     }
-    let g = reading.graph;
-    let reach = reading.reach;
-    let p = planned(g, reach);
-    assembled(g, p)
+    let channels = k.channels;
+    let channel = channels.channel;
+    let position = channels.position;
+    let row = k.rows;
+    let descendants = k.counts;
+    let gathered = bundled(n, &edges, wide(channels.count), channel, position, row);
+    let tracks = tracks_of(gathered);
+    let places = places_of(n, channels, tracks);
+    let column = places.column;
+    Plan {
+        refusal: 0,
+        used: k.used,
+        row,
+        descendants,
+        channels,
+        bundles: gathered,
+        tracks,
+        column,
+        width: places.width,
+    }
 }

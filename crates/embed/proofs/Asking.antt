@@ -12,15 +12,15 @@ use Rattle.masks.specs.Sets.{member?, at}
 use Rattle.reach.proofs.Closures.{same-test}
 use Rattle.record.specs.Reading.{recordRefusal, said, Reads}
 use Rattle.record.specs.declared.reading.Reading.{Reading}
-use Rattle.record.proofs.Accepted.{said-even}
+use Rattle.record.proofs.Accepted.{said-passes}
 use Rattle.record.proofs.Soundness.{accepted-sound}
 use Rattle.outline.specs.Chart.{leads?}
 use Rattle.embed.specs.declared.Leading.{Leading}
 use Rattle.embed.specs.State.{toldBy}
 use Rattle.embed.specs.Asked.{askRefusal, asked}
 
-pub few : (b : List ℕ) (rd : Reading) → Reads b rd → rd .refusal ≡ 0 → rd .graph .vertices ≤ 128
-few b rd h z = omega (arith, h .graph .vertices, accepted-sound (said b) (said-even b (sym (h .answer) ∙ z) .passes) .size .1)
+pub few : (b : List ℕ) (rd : Reading) → Reads b rd → rd .refusal ≡ 0 → rd .vertices ≤ 128
+few b rd h z = omega (arith, h .vertices, accepted-sound (said b) (said-passes b (sym (h .answer) ∙ z)) .size .1)
 
 module _ (b : List ℕ) (u v : ℕ) where
   refused-told : (recordRefusal b ≡ 0 → ⊥) → toldBy (recordRefusal b) false ≡ asked b u v
@@ -43,15 +43,15 @@ module _ (b : List ℕ) (u v : ℕ) where
       accepted : recordRefusal b ≡ 0
       accepted = sym (h .answer) ∙ z
 
-      pub asked-tail : rd .graph .vertices ≤ u → r ≡ toldBy 3 false → r ≡ asked b u v
-      asked-tail l e = e ∙ stranger-told accepted (or-left (leb (said b .vertices) u) (leb (said b .vertices) v) (le-leb (said b .vertices) u (omega (arith, h .graph .vertices))))
+      pub asked-tail : rd .vertices ≤ u → r ≡ toldBy 3 false → r ≡ asked b u v
+      asked-tail l e = e ∙ stranger-told accepted (or-left (leb (said b .vertices) u) (leb (said b .vertices) v) (le-leb (said b .vertices) u (omega (arith, h .vertices))))
 
-      pub asked-head : rd .graph .vertices ≤ v → r ≡ toldBy 3 false → r ≡ asked b u v
-      asked-head l e = e ∙ stranger-told accepted (or-right (leb (said b .vertices) u) (leb (said b .vertices) v) (le-leb (said b .vertices) v (omega (arith, h .graph .vertices))))
+      pub asked-head : rd .vertices ≤ v → r ≡ toldBy 3 false → r ≡ asked b u v
+      asked-head l e = e ∙ stranger-told accepted (or-right (leb (said b .vertices) u) (leb (said b .vertices) v) (le-leb (said b .vertices) v (omega (arith, h .vertices))))
 
-      pub asked-known : u < rd .graph .vertices → v < rd .graph .vertices → (t : Bool) → t ≡ member? (rd .reach .table) (2 * u) v → r ≡ toldBy 0 t → r ≡ asked b u v
+      pub asked-known : u < rd .vertices → v < rd .vertices → (t : Bool) → t ≡ member? (rd .table) (2 * u) v → r ≡ toldBy 0 t → r ≡ asked b u v
       unfolding at leads?
       asked-known hu hv t k e =
-          let inside = neither (leb (said b .vertices) u) (leb (said b .vertices) v) (lt-leb (said b .vertices) u (omega (arith, h .graph .vertices))) (lt-leb (said b .vertices) v (omega (arith, h .graph .vertices))) in
-          let leads = same-test (said b .vertices) (said b .tails) (said b .heads) (rd .reach .table) (h .reach accepted .bits) u v (omega (arith, few b rd h z)) (omega (arith, few b rd h z)) in
+          let inside = neither (leb (said b .vertices) u) (leb (said b .vertices) v) (lt-leb (said b .vertices) u (omega (arith, h .vertices))) (lt-leb (said b .vertices) v (omega (arith, h .vertices))) in
+          let leads = same-test (said b .vertices) (said b .tails) (said b .heads) (rd .table) (h .bits) u v (omega (arith, few b rd h z)) (omega (arith, few b rd h z)) in
           e ∙ ap (toldBy 0) (k ∙ leads) ∙ known-told accepted inside

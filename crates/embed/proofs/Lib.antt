@@ -1,7 +1,5 @@
 pub mod Asking
 pub mod Changing
-pub mod Filling
-pub mod Numbering
 pub mod Refusing
 pub mod Sequences
 pub mod Spelling

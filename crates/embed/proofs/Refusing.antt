@@ -7,11 +7,11 @@ use lib.ListN.{length, getD}
 use Rattle.lists.proofs.Written.{untouched}
 use Rattle.record.specs.Checks.{Content}
 use Rattle.outline.specs.Chart.{planOf}
-use Rattle.drawing.specs.Promise.{recordDrawn}
-use Rattle.charts.proofs.Nothing.{empty}
-use Rattle.charts.proofs.Refusals.{record-sound, lent-quiet}
-use Rattle.embed.specs.declared.ChartCounts.{ChartCounts}
-use Rattle.embed.specs.Chart.{Numbered, HandedFlat}
+use Rattle.drawing.specs.Drawn.{recordDrawn}
+use Rattle.drawing.proofs.Nothing.{empty}
+use Rattle.drawing.proofs.Refusals.{record-sound, lent-quiet}
+use Rattle.flat.specs.declared.ChartCounts.{ChartCounts}
+use Rattle.flat.specs.Chart.{Numbered, HandedFlat}
 
 pub record Untouched (ws es bs : List ℕ) (r : ChartCounts) (ws′ es′ bs′ : List ℕ) : Type 0 where
   pub word-list : ws′ ≡ ws

@@ -2,43 +2,21 @@
 // for any numbers and any lists, and a refusal, document 01's number, leaves every lent list as it was.
 ghost use mathlib.Core.Path.{_≡_};
 ghost use mathlib.Core.List.{[], _∷_};
+ghost use Rattle.flat.specs.Chart.{HandedFlat};
 ghost use Rattle.embed.specs.Asked.{asked};
-ghost use Rattle.embed.specs.Chart.{HandedFlat};
 ghost use Rattle.embed.specs.State.{Starts, Adds, Tells};
 ghost use Rattle.embed.specs.Strokes.{cell, Drawn};
 
-mod flat;
 mod state;
 mod strokes;
 
-use flat::ARROW_NUMBERS;
-use flat::BUNDLE_NUMBERS;
-use flat::WORD_NUMBERS;
-use flat::fill_arrows;
-use flat::fill_bundles;
-use flat::fill_words;
-use flat::summary;
+use flat::ChartCounts;
 use page::Cell;
 use state::STATE_NUMBERS;
 use state::fill_state;
 use state::session_of;
 use state::told;
 use strokes::stroke_of;
-
-// Document 01's number, or 0; how many entries each list got; the other counts, and the side columns of each line, 0 past the last.
-// Every number but the first is 0 where the chart is refused.
-#[repr(C)]
-pub struct ChartCounts {
-    pub refusal: u8,
-    pub words: usize,
-    pub arrows: usize,
-    pub bundles: usize,
-    pub rows: u8,
-    pub lines: u8,
-    pub firm: u16,
-    pub width: u16,
-    pub side_columns: [u16; 128],
-}
 
 // The chart of a record into three lists. A word has five numbers: line, position, column, row, descendants; an arrow five: its number, its
 // kind (0 spine, 1 side, 2 straight, 3 bent), the bundle or the bend's column, the bend's row, 1 if implied; a bundle four: line, first
@@ -52,16 +30,7 @@ pub extern "C" fn ceviloneth_chart(
 ) -> ChartCounts
     ensures { λ r. ⌜ HandedFlat (now (bytes .entry)) (now (words .entry)) (now (arrows .entry)) (now (bundles .entry)) r (now (words .exit)) (now (arrows .exit)) (now (bundles .exit)) ⌝ }
 {
-    let d = charts::plan_record(
-        bytes,
-        words.len() / WORD_NUMBERS,
-        arrows.len() / ARROW_NUMBERS,
-        bundles.len() / BUNDLE_NUMBERS,
-    );
-    fill_words(words, d);
-    fill_arrows(arrows, d);
-    fill_bundles(bundles, d);
-    summary(d)
+    flat::of_record(bytes, words, arrows, bundles)
 }
 
 // Document 01's number, or 0, and 1 where the first word leads to the second; 0 where it does not, and where the call is refused.
@@ -80,16 +49,14 @@ pub extern "C" fn ceviloneth_leads(bytes: &[u8], from: usize, to: usize) -> Lead
     if reading.refusal != 0 {
         return told(reading.refusal, false);
     }
-    let g = reading.graph;
-    let n = g.vertices;
+    let n = reading.vertices;
     if n <= from {
         return told(3, false);
     }
     if n <= to {
         return told(3, false);
     }
-    let reach = reading.reach;
-    let table = reach.table;
+    let table = reading.table;
     told(0, masks::contains(&table, 2 * from, to))
 }
 

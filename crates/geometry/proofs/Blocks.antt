@@ -23,7 +23,7 @@ module _ (W : Widths) where
       omega (arith, ap (λ (k : ℕ). sum k (blockWidth W)) whole, sum-split (c + 1) (d - (c + 1)) (blockWidth W), sum-more c (blockWidth W))
 
   -- between two own columns stand the gaps and the later channel's tracks
-  own-apart : (c d : ℕ) → c < d → ownColumn W c + 1 + W .rightGap c + W .tracks d + W .leftGap d ≤ ownColumn W d
+  pub own-apart : (c d : ℕ) → c < d → ownColumn W c + 1 + W .rightGap c + W .tracks d + W .leftGap d ≤ ownColumn W d
   unfolding ownColumn
   own-apart c d h = omega (arith, start-past c d h)
 

@@ -56,7 +56,7 @@ module _ (at : ℕ → Point) (n u v : ℕ) where
       (λ b. let w = bend-within _ _ _ m x y hu hv (sym (course-blocked b) ∙ e) in (w .0, omega (arith, w .1, hit-rise (b .hit))))
       (λ f. let s = course-free f in let a : _≡_ {A = ℕ} 0 1 = cc in absurd (omega arith))
 
--- ---- the theorem for the answer of `course_of`, wherever bends have a gap to stand in
+-- ---- the theorem for the course, wherever bends have a gap to stand in
 
 module _ (n : ℕ) (at : ℕ → Point) (channel position own : ℕ → ℕ) (W : Widths) (P : Placement n at channel position own W) where
   module _ (u v : ℕ) (hu : u < n) (hv : v < n) (apart : channel u ≢ channel v) (lefts : 0 < W .leftGap (channel u)) (rights : 0 < W .rightGap (channel u)) where

@@ -120,3 +120,23 @@ hit-rise {a} {b} {p} i =
     let l : a .row < p .row = inside-low (i .rises) (i .inside) in
     let h : p .row < b .row = inside-high (i .rises) (i .inside) in
     omega arith
+
+-- and by columns too, where the ends' columns differ
+module _ {a b p : Point} (h : Hit a b p) where
+  pub column-past : a .column < b .column → (a .column < p .column) × (p .column < b .column)
+  column-past l =
+      let o = h .inside .on in
+      let x : a .column ≤ p .column = column-low o (omega arith) in
+      let y : p .column ≤ b .column = column-high o (omega arith) in
+      let s : p .column ≡ a .column → ⊥ = λ e. h .inside .not-tail (at-column o (λ q. omega arith) e) in
+      let t : p .column ≡ b .column → ⊥ = λ e. h .inside .not-head (at-column (on-swap o) (λ q. omega arith) e) in
+      (omega arith, omega arith)
+
+  pub column-back : b .column < a .column → (b .column < p .column) × (p .column < a .column)
+  column-back l =
+      let o = on-swap (h .inside .on) in
+      let x : b .column ≤ p .column = column-low o (omega arith) in
+      let y : p .column ≤ a .column = column-high o (omega arith) in
+      let s : p .column ≡ b .column → ⊥ = λ e. h .inside .not-head (at-column o (λ q. omega arith) e) in
+      let t : p .column ≡ a .column → ⊥ = λ e. h .inside .not-tail (at-column (on-swap o) (λ q. omega arith) e) in
+      (omega arith, omega arith)

@@ -2,24 +2,23 @@
 use mathlib.Core.Path.{_≡_, refl, sym, _∙_}
 use mathlib.Core.Bool.{Bool, true, false, true≢false}
 use mathlib.Core.Logic.{⊎-elim}
-use Prim.Native.Nat.{ℕ, _+_, _≤_, _<_}
+use Prim.Native.Nat.{ℕ, _≤_, _<_}
 use native.Mathlib.Omega.{arith}
-use borrow.Author.Count.{below-more}
 use borrow.Author.Tests.{eqb-true, eq-eqb, ltb-true, lt-ltb}
 use Rattle.counting.proofs.Truth.{and-intro, and-elim, true-or-false}
 use Rattle.counting.proofs.Somes.{some-found, some-which}
 use Rattle.geometry.specs.Segment.{Point, Hit, Blocked}
 use Rattle.geometry.specs.Test.{aligned, Decides, isHit, isBlocked}
-use Rattle.geometry.proofs.Segments.{on-products, products-on, between-inside, inside-low, inside-high, hit-rise}
+use Rattle.geometry.proofs.Segments.{on-products, products-on, between-inside, inside-low, inside-high}
 
 -- an answer that is true exactly where P holds
-decides : {P : Type 0} (r : Bool) → (r ≡ true → P) → (P → r ≡ true) → Decides r P
+pub decides : {P : Type 0} (r : Bool) → (r ≡ true → P) → (P → r ≡ true) → Decides r P
 decides r f g = record { holds = f; fails = λ e p. true≢false (sym (g p) ∙ e) }
 
-not-so : {P : Type 0} → (P → ⊥) → Decides false P
+pub not-so : {P : Type 0} → (P → ⊥) → Decides false P
 not-so f = decides false (λ e. absurd (true≢false (sym e))) (λ p. absurd (f p))
 
-so : {P : Type 0} → P → Decides true P
+pub so : {P : Type 0} → P → Decides true P
 so p = decides true (λ e. p) (λ q. refl)
 
 -- one answer at most
@@ -41,7 +40,7 @@ hit-between a b p r h k e = decides r
     (λ i. e ∙ eq-eqb _ _ (on-products a b p h k (i .inside .on)))
 
 -- the computed tests
-isHit-decides : (a b p : Point) → Decides (isHit a b p) (Hit a b p)
+pub isHit-decides : (a b p : Point) → Decides (isHit a b p) (Hit a b p)
 unfolding isHit
 isHit-decides a b p = decides _
     (λ t.
@@ -52,6 +51,9 @@ isHit-decides a b p = decides _
     let l : a .row < p .row = inside-low (i .rises) (i .inside) in
     let h : p .row < b .row = inside-high (i .rises) (i .inside) in
     and-intro _ _ (and-intro _ _ (lt-ltb _ _ l) (lt-ltb _ _ h)) (eq-eqb _ _ (on-products a b p l h (i .inside .on))))
+
+pub hit-true : (a b p : Point) → Hit a b p → isHit a b p ≡ true
+hit-true a b p i = decides-once _ _ (isHit-decides a b p) (so i)
 
 module _ (at : ℕ → Point) (n u v : ℕ) where
   pub isBlocked-decides : Decides (isBlocked at n u v) (Blocked at n u v)
@@ -71,9 +73,6 @@ module _ (at : ℕ → Point) (n u v : ℕ) where
       (λ b.
       and-intro _ _ (and-intro _ _ (lt-ltb _ _ (b .tail)) (lt-ltb _ _ (b .head)))
       (some-found n _ (b .vertex) (b .known) (hit-true _ _ _ (b .hit))))
-    where
-      hit-true : (a b p : Point) → Hit a b p → isHit a b p ≡ true
-      hit-true a b p i = decides-once _ _ (isHit-decides a b p) (so i)
 
   pub isBlocked-true : Blocked at n u v → isBlocked at n u v ≡ true
   isBlocked-true b = decides-once _ _ isBlocked-decides (so b)
@@ -83,33 +82,3 @@ module _ (at : ℕ → Point) (n u v : ℕ) where
 
   pub blocked-or-free : {X : Type 0} → (Blocked at n u v → X) → ((Blocked at n u v → ⊥) → X) → X
   blocked-or-free f g = ⊎-elim (λ e. f (isBlocked-decides .holds e)) (λ e. g (isBlocked-decides .fails e)) (true-or-false (isBlocked at n u v))
-
-  -- no end, no answer but false
-  pub no-tail : n ≤ u → Decides false (Blocked at n u v)
-  no-tail l = not-so (λ b. let h : u < n = b .tail in omega arith)
-
-  pub no-head : n ≤ v → Decides false (Blocked at n u v)
-  no-head l = not-so (λ b. let h : v < n = b .head in omega arith)
-
-  -- nor where the segment rises by one row at most
-  pub no-rise : at v .row ≤ at u .row + 1 → Decides false (Blocked at n u v)
-  no-rise l = not-so (λ b. let h : at u .row + 2 ≤ at v .row = hit-rise (b .hit) in omega arith)
-
--- ---- over the vertices
-
-module _ (at : ℕ → Point) (u v : ℕ) where
-  -- none of the vertices below w is hit
-  pub record Passed (w : ℕ) : Type 0 where
-    pub missed : (k : ℕ) → k < w → Hit (at u) (at v) (at k) → ⊥
-
-  pub passed-none : Passed 0
-  passed-none = record { missed = λ k l. omega arith }
-
-  pub passed-more : (w : ℕ) → Passed w → (Hit (at u) (at v) (at w) → ⊥) → Passed (w + 1)
-  passed-more w q f = record { missed = below-more _ w (q .missed) f }
-
-  pub blocked-at : (n w : ℕ) → u < n → v < n → w < n → Hit (at u) (at v) (at w) → Decides true (Blocked at n u v)
-  blocked-at n w hu hv h i = so (record { tail = hu; head = hv; vertex = w; known = h; hit = i })
-
-  pub passed-all : (n w : ℕ) → n ≤ w → Passed w → Decides false (Blocked at n u v)
-  passed-all n w h q = not-so (λ b. q .missed (b .vertex) (let k : b .vertex < n = b .known in omega arith) (b .hit))

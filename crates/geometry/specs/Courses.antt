@@ -1,4 +1,5 @@
 -- The course of a cross edge.
+use mathlib.Core.Bool.{Bool}
 use mathlib.Core.List.{List, [], _∷_}
 use Prim.Native.Nat.{ℕ, _+_, _-_}
 use lib.Dec.{ltb}
@@ -6,7 +7,7 @@ use Rattle.counting.specs.Count.{choose}
 use Rattle.geometry.specs.declared.Course.{Course}
 use Rattle.geometry.specs.declared.Course.the-variants.{Straight, Bent}
 use Rattle.geometry.specs.Segment.{Point, point}
-use Rattle.geometry.specs.Test.{isBlocked}
+use Rattle.geometry.specs.Test.{isBlocked, isBlockedAmong}
 use Rattle.geometry.specs.Polylines.{straight, bendRow}
 
 -- Columns from an own column to the bends beside it.
@@ -21,6 +22,11 @@ bendBeside x z row =
 -- Straight, unless a vertex is in the way; then with one bend.
 unfoldable pub courseOf : (ℕ → Point) → ℕ → ℕ → ℕ → Course
 courseOf at n u v = choose (isBlocked at n u v) (λ _. bendBeside (at u .column) (at v .column) (bendRow (at v))) (λ _. Straight)
+
+-- The same where only candidates count as in the way.
+unfoldable pub courseAmong : (ℕ → Bool) → (ℕ → Point) → ℕ → ℕ → ℕ → Course
+courseAmong candidate at n u v =
+    choose (isBlockedAmong candidate at n u v) (λ _. bendBeside (at u .column) (at v .column) (bendRow (at v))) (λ _. Straight)
 
 abbrev pub polylineOf : Course → Point → Point → List Point
 polylineOf Straight a b = straight a b

@@ -1,8 +1,10 @@
 -- Points with whole coordinates, straight segments, polylines.
 use mathlib.Core.Path.{_≡_}
+use mathlib.Core.Bool.{Bool, true}
 use mathlib.Core.List.{List, _∷_}
 use Prim.Native.Nat.{ℕ, _+_, _*_, _<_, min}
 use lib.ListN.{length, getD}
+use Rattle.masks.specs.Bits.{bit}
 
 pub record Point : Type 0 where
   pub column : ℕ
@@ -42,6 +44,18 @@ pub record Blocked (at : ℕ → Point) (n u v : ℕ) : Type 0 where
   pub vertex : ℕ
   pub known : vertex < n
   pub hit : Hit (at u) (at v) (at vertex)
+
+-- That vertex is a candidate.
+pub record BlockedAmong (candidate : ℕ → Bool) (at : ℕ → Point) (n u v : ℕ) : Type 0 where
+  pub blocked : Blocked at n u v
+  pub among : candidate (blocked .vertex) ≡ true
+
+-- A vertex of a mask, of which bit 0 is vertex `base`, lies strictly inside the segment that rises from u to v.
+pub record Struck (mask base : ℕ) (at : ℕ → Point) (n u v : ℕ) : Type 0 where
+  pub place : ℕ
+  pub set : bit mask place ≡ 1
+  pub known : base + place < n
+  pub hit : Hit (at u) (at v) (at (base + place))
 
 -- Vertex v's point, by lists of columns and rows.
 abbrev pub pointOf : List ℕ → List ℕ → ℕ → Point

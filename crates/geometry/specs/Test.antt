@@ -29,3 +29,7 @@ isHit a b p =
 -- whether `Blocked at n u v`
 unfoldable pub isBlocked : (ℕ → Point) → ℕ → ℕ → ℕ → Bool
 isBlocked at n u v = (ltb u n && ltb v n) && some n (λ w. isHit (at u) (at v) (at w))
+
+-- whether `BlockedAmong candidate at n u v`
+unfoldable pub isBlockedAmong : (ℕ → Bool) → (ℕ → Point) → ℕ → ℕ → ℕ → Bool
+isBlockedAmong candidate at n u v = (ltb u n && ltb v n) && some n (λ w. candidate w && isHit (at u) (at v) (at w))

@@ -1,12 +1,13 @@
 // Whether the straight segment of an edge has a vertex strictly inside, and the course of a cross edge (an edge between channels).
 ghost use mathlib.Core.Path.{_≡_};
 ghost use Prim.Native.Nat.{_+_, _≤_, _<_};
-ghost use lib.Dec.{leb};
+ghost use lib.Dec.{eqb, leb};
 ghost use lib.ListN.{length};
-ghost use Rattle.geometry.specs.Segment.{point, pointOf, vertexCount, Hit, Blocked};
+ghost use Rattle.masks.specs.Pairs.{inPair};
+ghost use Rattle.geometry.specs.Segment.{point, pointOf, vertexCount, Hit, BlockedAmong, Struck};
 ghost use Rattle.geometry.specs.Signed.{Diff};
 ghost use Rattle.geometry.specs.Test.{aligned, Decides};
-ghost use Rattle.geometry.specs.Courses.{bendBeside, courseOf};
+ghost use Rattle.geometry.specs.Courses.{bendBeside, courseAmong};
 
 // How a cross edge runs: straight, or with one bend at a column and a row.
 pub enum Course {
@@ -57,36 +58,55 @@ fn vertex_count(columns: &[u16], rows: &[u8]) -> usize
 }
 
 // Whether a segment rises by one row at most.
-fn low_rise(from: u8, to: u8) -> bool
+pub fn low_rise(from: u8, to: u8) -> bool
     ensures { λ r. ⌜ r ≡ leb to (from + 1) ⌝ }
 {
     to as u16 <= from as u16 + 1
 }
 
-// Whether one of n vertices lies strictly inside the segment that rises from `tail` to `head`, two of them.
-fn hit_among(columns: &[u16], rows: &[u8], n: usize, tail: usize, head: usize) -> bool
-    requires { ⌜ (n ≤ length (now columns)) × (n ≤ length (now rows)) × (tail < n) × (head < n) ⌝ }
-    ensures { λ r. ⌜ Decides r (Blocked (pointOf (now (columns .entry)) (now (rows .entry))) n tail head) ⌝ }
+// Whether a vertex of a mask, of which bit 0 is vertex `base`, lies strictly inside the segment that rises from `tail` to `head`, two
+// of n vertices. A bit that is none of them counts as nothing.
+fn hit_among<'a>(
+    mask: u64,
+    base: usize,
+    columns: &'a [u16],
+    rows: &'a [u8],
+    n: usize,
+    tail: usize,
+    head: usize,
+) -> bool
+    requires { ⌜ (base ≤ 64) × (n ≤ length (now columns)) × (n ≤ length (now rows)) × (tail < n) × (head < n) ⌝ }
+    ensures { λ r. ⌜ Decides r (Struck mask base (pointOf (now (columns .entry)) (now (rows .entry))) n tail head) ⌝ }
 {
     let ax = columns[tail];
     let ay = rows[tail];
     let bx = columns[head];
     let by = rows[head];
-    let mut v: usize = 0;
-    while v < n {
-        let next = v + 1;
-        if inside(ax, ay, bx, by, columns[v], rows[v]) {
-            return true;
+    let mut x = mask;
+    while x != 0 {
+        let w = base + u64::trailing_zeros(x) as usize;
+        let rest = x & (x - 1);
+        if w < n {
+            if inside(ax, ay, bx, by, columns[w], rows[w]) {
+                return true;
+            }
         }
-        v = next;
+        x = rest;
     }
     false
 }
 
-// Whether a vertex lies strictly inside the segment that rises from vertex `tail` to vertex `head`. The vertices are those that both
-// lists have; false where an end is none of them.
-pub fn blocked(columns: &[u16], rows: &[u8], tail: usize, head: usize) -> bool
-    ensures { λ r. ⌜ Decides r (Blocked (pointOf (now (columns .entry)) (now (rows .entry))) (vertexCount (now (columns .entry)) (now (rows .entry))) tail head) ⌝ }
+// Whether a candidate lies strictly inside the segment that rises from vertex `tail` to vertex `head`. The vertices are those that
+// both lists have, the candidates those of them that are in the set of two masks; false where an end is no vertex.
+fn blocked_among<'a>(
+    low: u64,
+    high: u64,
+    columns: &'a [u16],
+    rows: &'a [u8],
+    tail: usize,
+    head: usize,
+) -> bool
+    ensures { λ r. ⌜ Decides r (BlockedAmong (λ w. eqb (inPair low high w) 1) (pointOf (now (columns .entry)) (now (rows .entry))) (vertexCount (now (columns .entry)) (now (rows .entry))) tail head) ⌝ }
 {
     let n = vertex_count(columns, rows);
     if n <= tail {
@@ -99,7 +119,10 @@ pub fn blocked(columns: &[u16], rows: &[u8], tail: usize, head: usize) -> bool
     if low_rise(rows[tail], rows[head]) {
         return false;
     }
-    hit_among(columns, rows, n, tail, head)
+    if hit_among(low, 0, columns, rows, n, tail, head) {
+        return true;
+    }
+    hit_among(high, 64, columns, rows, n, tail, head)
 }
 
 // One bend in a row, beside column x on the side of column z; straight where the columns are equal.
@@ -115,12 +138,20 @@ fn bend_beside(x: u16, z: u16, row: u8) -> Course
     Course::Straight
 }
 
-// The course of the cross edge tail -> head. The vertices are those that both lists have; straight where an end is none of them, where
-// the edge does not rise, and where its ends stand in one column.
-pub fn course_of(columns: &[u16], rows: &[u8], tail: usize, head: usize) -> Course
-    ensures { λ r. ⌜ r ≡ courseOf (pointOf (now (columns .entry)) (now (rows .entry))) (vertexCount (now (columns .entry)) (now (rows .entry))) tail head ⌝ }
+// The course of the cross edge tail -> head, where only candidates can be in its way: the vertices in the set of two masks. The vertices
+// are those that both lists have; straight where an end is none of them, where the edge does not rise, and where its ends stand in one
+// column.
+pub fn course_among<'a>(
+    low: u64,
+    high: u64,
+    columns: &'a [u16],
+    rows: &'a [u8],
+    tail: usize,
+    head: usize,
+) -> Course
+    ensures { λ r. ⌜ r ≡ courseAmong (λ w. eqb (inPair low high w) 1) (pointOf (now (columns .entry)) (now (rows .entry))) (vertexCount (now (columns .entry)) (now (rows .entry))) tail head ⌝ }
 {
-    if blocked(columns, rows, tail, head) {
+    if blocked_among(low, high, columns, rows, tail, head) {
         return bend_beside(columns[tail], columns[head], rows[head] - 1);
     }
     Course::Straight

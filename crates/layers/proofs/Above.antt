@@ -2,10 +2,9 @@
 use mathlib.Core.Path.{_≡_, refl, sym, ap, _∙_}
 use mathlib.Core.Logic.{⊎-elim}
 use mathlib.Core.Bool.{Bool, true, false, false≢true}
-use Prim.Native.Nat.{ℕ, zero, suc, _+_, _≤_, _<_, max}
+use Prim.Native.Nat.{ℕ, zero, suc, _≤_, _<_, max}
 use native.Mathlib.Nat.{not-suc-le-zero}
 use native.Mathlib.Decide.{ℕ-discrete}
-use native.Mathlib.Numerals.{add-one}
 use native.Mathlib.Omega.{arith}
 use Rattle.counting.specs.Count.{choose}
 use Rattle.counting.proofs.Truth.{lt-or-le}
@@ -61,8 +60,3 @@ above-ext (suc n) test f g h = go (test n) refl (above-ext n test f g (λ u l e.
         → max (above n test f) (choose b (λ _. suc (f n)) (λ _. 0)) ≡ max (above n test g) (choose b (λ _. suc (g n)) (λ _. 0))
     go true e r = let k = h n (omega arith) e in omega arith
     go false e r = omega arith
-
--- one more, where all pass
-pub above-more : (n : ℕ) (f : ℕ → ℕ) → above (n + 1) (λ v. true) f ≡ max (above n (λ v. true) f) (f n + 1)
-unfolding above
-above-more n f = ap (λ (k : ℕ). above k (λ v. true) f) (add-one n) ∙ ap (λ (x : ℕ). max (above n (λ v. true) f) x) (sym (add-one (f n)))

@@ -1,4 +1,2 @@
 pub mod Rows
-pub mod Layered
-pub mod Rounds
 pub mod Examples

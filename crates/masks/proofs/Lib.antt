@@ -1,7 +1,6 @@
 pub mod Bits
 pub mod Sets
 pub mod Tables
-pub mod Images
 pub mod Members
 pub mod Clearing
 pub mod Visiting

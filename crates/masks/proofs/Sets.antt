@@ -1,24 +1,21 @@
 -- Laws of a set of masks: its members, the count, the next member, and the union, intersection and difference, mask by mask. Assumes nothing.
 use mathlib.Core.Path.{_≡_, refl, sym, ap, ap₂, _∙_}
-use mathlib.Core.Logic.{_≢_, ⊎-elim}
 use mathlib.Core.Bool.{not, _&&_}
 use mathlib.Core.List.{List}
-use Prim.Native.Nat.{ℕ, zero, suc, _+_, _-_, _*_, _/_, _%_, _^_, _≤_, _<_, max, min}
-use native.Mathlib.Nat.{lt-of-le-of-lt, not-suc-le-zero}
+use Prim.Native.Nat.{ℕ, zero, suc, _+_, _*_, _/_, _%_, _^_, _<_, max, min}
+use native.Mathlib.Nat.{not-suc-le-zero}
 use native.Mathlib.Omega.{arith}
 use borrow.Author.Count.{below-more}
 use lib.Bits.{bitOr, bitAnd, and-mask}
-use lib.Count.{ones, trailingZeros}
+use lib.Count.{ones}
 use lib.Dec.{eqb}
 use lib.ListN.{length, getD, set, length-set}
-use lib.Pow.{shr-le}
 use lib.Seq.{getD-set-same, getD-set-other}
 use Rattle.counting.specs.Count.{sum}
-use Rattle.counting.proofs.Truth.{lt-or-le}
 use Rattle.counting.proofs.Sums.{sum-ext, sum-split}
 use Rattle.masks.specs.Bits.{bit}
-use Rattle.masks.specs.Sets.{maskOf, member, member?, inserted, United, Next}
-use Rattle.masks.proofs.Bits.{bit-lt, bit-shr, bit-of-zero, bit-high, bit-or, bit-and, without, bit-without, trailing-below, trailing-at, trailing-lt, ones-sum}
+use Rattle.masks.specs.Sets.{maskOf, member, member?, inserted, United}
+use Rattle.masks.proofs.Bits.{bit-lt, bit-or, bit-and, without, bit-without, ones-sum}
 
 pub member-lt : (s : List ℕ) (first v : ℕ) → member s first v < 2
 unfolding member
@@ -46,52 +43,6 @@ count-masks s first fit (suc w) =
         (λ k l. ap₂ (λ (i b : ℕ). bit (getD s (first + i) 0) b) (omega arith) (omega arith))
         ∙ sym (ones-sum 64 (getD s (first + w) 0) (fit (first + w)))
 
--- ---- the next member
-
--- what is left of the mask that holds v, from v on
-abbrev pub rest : List ℕ → ℕ → ℕ → ℕ
-rest s first v = getD s (first + v / 64) 0 / 2 ^ (v % 64)
-
-rest-bit : (s : List ℕ) (first v j : ℕ) → v % 64 + j < 64 → member s first (v + j) ≡ bit (rest s first v) j
-unfolding member
-rest-bit s first v j h =
-    ap₂ (λ (i b : ℕ). bit (getD s (first + i) 0) b) (omega arith) (omega arith) ∙ sym (bit-shr (getD s (first + v / 64) 0) (v % 64) j)
-
--- the same for a vertex x at or after v in the same mask
-rest-from : (s : List ℕ) (first v x : ℕ) → v ≤ x → x < (v / 64 + 1) * 64 → member s first x ≡ bit (rest s first v) (x - v)
-rest-from s first v x l h = ap (member s first) (omega arith) ∙ rest-bit s first v (x - v) (omega arith)
-
-module _ (s : List ℕ) (first from v : ℕ) (skipped : (x : ℕ) → from ≤ x → x < v → member s first x ≡ 0) where
-  -- nothing is left of the mask: on to the next
-  pub none-left : rest s first v ≡ 0 → (x : ℕ) → from ≤ x → x < (v / 64 + 1) * 64 → member s first x ≡ 0
-  none-left e x l h =
-      ⊎-elim
-      (λ b. skipped x l b)
-      (λ b. rest-from s first v x b h ∙ ap (λ (m : ℕ). bit m (x - v)) e ∙ bit-of-zero (x - v))
-      (lt-or-le x v)
-
-  -- something is left
-  pub found-in : (w : ℕ) → from ≤ v → v < w * 64 → getD s (first + v / 64) 0 < 2 ^ 64 → rest s first v ≢ 0
-      → Next s first (w * 64) from (v + trailingZeros 64 (rest s first v))
-  found-in w hf hv fit ne =
-      let z : ℕ = trailingZeros 64 (rest s first v) in
-      let zl : z < 64 = trailing-lt 64 (rest s first v) (omega arith) (lt-of-le-of-lt (shr-le (getD s (first + v / 64) 0) (v % 64)) fit) in
-      let set1 : bit (rest s first v) z ≡ 1 = trailing-at 64 (rest s first v) zl in
-      let inside : v % 64 + z < 64 = ⊎-elim (λ l. l) (λ l. absurd (high z set1 l)) (lt-or-le (v % 64 + z) 64) in
-      record {
-        within = omega arith;
-        skipped = λ x l h. ⊎-elim
-            (λ b. skipped x l b)
-            (λ b. rest-from s first v x b (omega arith) ∙ trailing-below 64 (rest s first v) (x - v) (omega arith))
-            (lt-or-le x v);
-        found = λ h. (omega arith, rest-bit s first v z inside ∙ set1);
-      }
-    where
-      high : (z : ℕ) → bit (rest s first v) z ≡ 1 → 64 ≤ v % 64 + z → ⊥
-      high z e l =
-          let none : bit (rest s first v) z ≡ 0 = bit-shr (getD s (first + v / 64) 0) (v % 64) z ∙ bit-high 64 (getD s (first + v / 64) 0) (v % 64 + z) fit l in
-          omega arith
-
 -- ---- a set is put into another
 
 pub united-none : (s : List ℕ) (first : ℕ) (other : List ℕ) → United s first other 0 s
@@ -117,10 +68,6 @@ united-member w s first o r a v h =
     ap (λ (x : ℕ). bit x (v % 64)) (a .done (v / 64) (omega arith))
     ∙ bit-or (getD s (first + v / 64) 0) (getD o (v / 64) 0) (v % 64)
     ∙ ap (λ (i : ℕ). max (bit (getD s (first + v / 64) 0) (v % 64)) (bit (getD o i 0) (v % 64))) (let e : v / 64 ≡ 0 + v / 64 = omega arith in e)
-
--- the next member is not before where the search began
-pub next-from : (s : List ℕ) (first top from r : ℕ) → Next s first top from r → from ≤ top → from ≤ r
-next-from s first top from r n h = ⊎-elim (λ l. n .found l .0) (λ l. omega arith) (lt-or-le r top)
 
 -- of w masks: a member of both sets
 pub intersected-member : (w : ℕ) (a b r : List ℕ) → ((i : ℕ) → i < w → getD r i 0 ≡ bitAnd (getD a i 0) (getD b i 0)) → (v : ℕ) → v < w * 64

@@ -1,6 +1,5 @@
 -- Sets of vertices as masks of 64 bits in a list, any number of masks a set. Assumes nothing.
 use mathlib.Core.Path.{_≡_}
-use mathlib.Core.Logic.{_⊎_, _↔_}
 use mathlib.Core.Bool.{Bool}
 use mathlib.Core.List.{List}
 use Prim.Native.Nat.{ℕ, _+_, _*_, _/_, _%_, _^_, _≤_, _<_}
@@ -41,10 +40,3 @@ pub record Next (masks : List ℕ) (first top from r : ℕ) : Type 0 where
   pub within : r ≤ top
   pub skipped : (v : ℕ) → from ≤ v → v < r → member masks first v ≡ 0
   pub found : r < top → (from ≤ r) × (member masks first r ≡ 1)
-
--- s is r with the sets that a table t of w masks a vertex has for the vertices below j in the set at `from` put into the set at `first`
-pub record Imaged (w : ℕ) (t sets : List ℕ) (from j first : ℕ) (r s : List ℕ) : Type 0 where
-  pub size : length s ≡ length r
-  pub here : (v : ℕ) → v < w * 64 → member s first v ≡ 1 ↔ ((member r first v ≡ 1) ⊎ ((x : ℕ) × (x < j) × (member sets from x ≡ 1) × (at w t x v ≡ 1)))
-  pub below : (i : ℕ) → i < first → getD s i 0 ≡ getD r i 0
-  pub above : (i : ℕ) → first + w ≤ i → getD s i 0 ≡ getD r i 0

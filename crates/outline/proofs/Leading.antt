@@ -11,8 +11,7 @@ use Rattle.reach.proofs.Routes.{reaches-trans, begins-below, ends-below}
 use Rattle.reach.proofs.Decide.{edge-decided, reachable-decided}
 use Rattle.record.specs.Checks.{Content, edgesOf}
 use Rattle.record.specs.Sound.{Leads, Sound}
-use Rattle.record.proofs.Judging.{passed, edges-accepted}
-use Rattle.record.proofs.Soundness.{sound-accepted}
+use Rattle.record.proofs.Soundness.{sound-edges}
 use Rattle.outline.specs.Chart.{leads?, tailOf, headOf}
 
 module _ (c : Content) (s : Sound c) where
@@ -21,7 +20,7 @@ module _ (c : Content) (s : Sound c) where
 
   -- the reachability layer takes the graph
   pub graph-accepted : refusal n (c .tails) (c .heads) ≡ 0
-  graph-accepted = edges-accepted n (c .tails) (c .heads) (c .given) (c .field) (passed n (c .tails) (c .heads) (c .given) (c .field) (sound-accepted c s) .0)
+  graph-accepted = sound-edges c s
 
   pub leads-decided : (u v : ℕ) → (leads? c u v ≡ true) ↔ Leads c u v
   unfolding leads?

@@ -1,9 +1,7 @@
 pub mod Routes
 pub mod Warshall
-pub mod Stepping
 pub mod Marking
 pub mod Decide
-pub mod Composing
 pub mod Refusing
 pub mod Closures
 pub mod Extending

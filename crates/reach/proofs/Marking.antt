@@ -1,28 +1,18 @@
--- The table that has the edges' own bits, and no other: where the closure starts. Assumes nothing.
+-- The table that has the edges' own bits, and no other. Assumes nothing.
 use mathlib.Core.Path.{_≡_, sym, ap₂, _∙_, subst}
 use mathlib.Core.Logic.{_≢_}
 use mathlib.Core.List.{List}
-use Prim.Native.Nat.{ℕ, _+_, _*_, _≤_, _<_}
-use native.Mathlib.Nat.{not-suc-le-zero, lt-of-lt-of-le}
+use Prim.Native.Nat.{ℕ, _+_, _*_, _<_}
 use native.Mathlib.Decide.{ℕ-discrete}
 use native.Mathlib.Omega.{arith}
 use borrow.Author.Count.{below-more}
-use lib.ListN.{getD, replicate}
+use lib.ListN.{getD}
 use Rattle.masks.specs.Sets.{at}
-use Rattle.masks.proofs.Tables.{at-zeros, Put}
+use Rattle.masks.proofs.Tables.{Put}
 use Rattle.reach.specs.Graph.{edgeCount, Edge}
-use Rattle.reach.specs.Graph.Reaches.{one}
 use Rattle.reach.specs.Steps.{Marked, Within}
-use Rattle.reach.proofs.Warshall.{Stage}
-use Rattle.reach.proofs.Stepping.{Has}
 
 module _ (w : ℕ) (tails heads : List ℕ) where
-  pub marked-none : (n : ℕ) → Marked w tails heads 0 (replicate n 0)
-  marked-none n = record {
-    only = λ u v h e. absurd (let z = at-zeros w n u v in omega arith);
-    all = λ j l. absurd (not-suc-le-zero l);
-  }
-
   pub marked-more : (i : ℕ) (t s : List ℕ) → ((j : ℕ) → j < i + 1 → getD heads j 0 < w * 64) → Put w t (getD tails i 0) (getD heads i 0) s
       → Marked w tails heads i t → Marked w tails heads (i + 1) s
   marked-more i t s fit p m = record {
@@ -51,16 +41,3 @@ module _ (w : ℕ) (tails heads : List ℕ) where
     pub head-below : (u v : ℕ) → Edge tails heads u v → v < n
     unfolding Edge
     head-below u v a = subst (λ (x : ℕ). x < n) (a .3) (inside .head (a .0) (a .1))
-
-    -- nothing is closed yet
-    pub marked-stage : n ≤ w * 64 → (t : List ℕ) → Marked w tails heads (edgeCount tails heads) t → Stage (Edge tails heads) 0 (Has w t)
-    unfolding Edge
-    marked-stage small t m = record {
-      sound = λ u v i. one (m .only u v (i .1) (i .2));
-      edges = λ u v a. (
-        lt-of-lt-of-le (tail-below u v a) small,
-        lt-of-lt-of-le (head-below u v a) small,
-        ap₂ (at w t) (sym (a .2)) (sym (a .3)) ∙ m .all (a .0) (a .1),
-      );
-      closed = λ j l. absurd (not-suc-le-zero l);
-    }

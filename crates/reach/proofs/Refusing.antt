@@ -4,7 +4,6 @@ use mathlib.Core.Logic.{⊎-elim}
 use mathlib.Core.Bool.{Bool, true, false, true≢false, _||_}
 use mathlib.Core.List.{List}
 use Prim.Native.Nat.{ℕ, _≤_, _<_}
-use native.Mathlib.Nat.{lt-of-lt-of-le}
 use native.Mathlib.Omega.{arith}
 use borrow.Author.Tests.{leb-false, ltb-false}
 use lib.Dec.{eqb, leb, ltb}
@@ -21,10 +20,6 @@ unfolding verdict
 verdict-none true b e = absurd (let z : _≡_ {A = ℕ} 2 0 = e in omega arith)
 verdict-none false true e = absurd (let z : _≡_ {A = ℕ} 3 0 = e in omega arith)
 verdict-none false false e = (refl, refl)
-
--- fewer vertices are among more
-pub within-more : (n k m : ℕ) (tails heads : List ℕ) → n ≤ k → Within n m tails heads → Within k m tails heads
-within-more n k m tails heads h w = record { tail = λ i l. lt-of-lt-of-le (w .tail i l) h; head = λ i l. lt-of-lt-of-le (w .head i l) h }
 
 -- an accepted graph has at most 128 vertices and every end among them
 pub accepted-within : (n : ℕ) (tails heads : List ℕ) → refusal n tails heads ≡ 0 → Within n (edgeCount tails heads) tails heads × (n ≤ 128)

@@ -1,4 +1,4 @@
--- What the calls of this layer promise. Assumes nothing.
+-- The tables of a graph: its edges, what reaches what, and longer routes. Assumes nothing.
 use mathlib.Core.Path.{_≡_}
 use mathlib.Core.Logic.{_↔_}
 use mathlib.Core.Bool.{Bool, _&&_}
@@ -6,11 +6,10 @@ use mathlib.Core.List.{List}
 use Prim.Native.Nat.{ℕ, _<_}
 use lib.Dec.{eqb}
 use lib.ListN.{length, getD}
-use Rattle.counting.specs.Count.{count, some}
+use Rattle.counting.specs.Count.{count}
 use Rattle.masks.specs.Sets.{at}
 use Rattle.reach.specs.Graph.{Reaches, Edge, edge?, reaches?}
 use Rattle.reach.specs.Refusal.{refusal}
-use Rattle.reach.specs.declared.Reachability.{Reachability}
 
 -- u reaches v in a graph that is not refused; in one that is, nothing reaches anything
 abbrev pub Reachable : ℕ → List ℕ → List ℕ → ℕ → ℕ → Type 0
@@ -24,17 +23,21 @@ Adjacent n tails heads u v = (refusal n tails heads ≡ 0) × Edge tails heads u
 unfoldable pub reachable? : ℕ → List ℕ → List ℕ → ℕ → ℕ → Bool
 reachable? n tails heads u v = eqb (refusal n tails heads) 0 && reaches? (edge? tails heads) n u v
 
+-- two tables and a number a vertex
+pub record Reachability : Type 0 where
+  pub edges : List ℕ
+  pub table : List ℕ
+  pub counts : List ℕ
+
 -- r is the graph's reachability: a table of its edges, document 01's 'descent table', each two masks a vertex, and the number of
 -- descendants of each vertex
 pub record Closure (n : ℕ) (tails heads : List ℕ) (r : Reachability) : Type 0 where
-  pub answer : r .refusal ≡ refusal n tails heads
   pub edge-masks : length (r .edges) ≡ 256
   pub edge-bits : (u v : ℕ) → u < 128 → v < 128 → at 2 (r .edges) u v ≡ 1 ↔ Adjacent n tails heads u v
   pub masks : length (r .table) ≡ 256
   pub bits : (u v : ℕ) → u < 128 → v < 128 → at 2 (r .table) u v ≡ 1 ↔ Reachable n tails heads u v
   pub vertices : length (r .counts) ≡ 128
   pub counted : (u : ℕ) → u < 128 → getD (r .counts) u 0 ≡ count 128 (reachable? n tails heads u)
-  pub cycles : r .cyclic ≡ some 128 (λ u. reachable? n tails heads u u)
 
 -- r is the table t followed by itself: v is in the set of u exactly when some w is in the set of u, and v in that of w
 pub record Composed (t r : List ℕ) : Type 0 where

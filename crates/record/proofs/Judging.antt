@@ -1,178 +1,147 @@
--- The checks one after the other, and that what a graph's table says of given channels is what the graph says. Assumes nothing.
-use mathlib.Core.Path.{_≡_, refl, sym, ap, ap₂, _∙_}
-use mathlib.Core.Logic.{_⊎_, inl, inr, ⊎-elim}
-use mathlib.Core.Bool.{Bool, true, false, not, _&&_, _||_}
-use mathlib.Core.List.{List, [], _∷_, _++_, flatten}
-use Prim.Native.Nat.{ℕ, _<_}
-use native.Mathlib.Decide.{ℕ-discrete}
+-- The checks one after the other: by the refusal of the edges alone, and then by the given channels. Assumes nothing.
+use mathlib.Core.Path.{_≡_, refl, sym, ap, _∙_}
+use mathlib.Core.Logic.{_≢_}
+use mathlib.Core.Bool.{Bool, true, false, _&&_, _||_}
+use mathlib.Core.List.{List}
+use Prim.Native.Nat.{ℕ, _≤_, _<_}
 use native.Mathlib.Omega.{arith}
-use borrow.Author.Tests.{leb-false}
-use lib.Dec.{leb}
+use borrow.Author.Tests.{le-leb, lt-leb}
+use lib.Dec.{eqb, leb}
 use Rattle.counting.specs.Count.{choose, some}
-use Rattle.counting.proofs.Truth.{or-neither}
 use Rattle.reach.specs.Graph.{edgeCount}
-use Rattle.reach.specs.Refusal.{outsized?, strange?, verdict, refusal}
-use Rattle.reach.specs.Closure.{Closure, reachable?}
-use Rattle.reach.specs.declared.Reachability.{Reachability}
-use Rattle.matching.specs.Lists.{linked, every, allLinked}
-use Rattle.channels.specs.Given.{linesOf, verticesOf, unknown?, repeats?, lacks?, broken?}
-use Rattle.channels.specs.Table.{leadsIn}
-use Rattle.channels.proofs.Graphs.{table-same}
+use Rattle.reach.specs.Refusal as edges
+use Rattle.reach.specs.Refusal.{outsized?, strange?, verdict}
+use Rattle.reach.specs.Closure.{reachable?}
 use Rattle.reach.specs.Ends.{duplicate?}
-use Rattle.record.specs.Checks.{Content, content, size?, stranger?, double?, ring?, repeated?, lacking?, unled?, linesRefusal, looseChecks, laterChecks, firstOf, looseRefusal, refusalOf, refusedBy, Judged}
+use Rattle.descent.specs.Promise.{edgesRefusal}
+use Rattle.channels.specs.Given.{linesOf, verticesOf, unknown?, repeats?, lacks?, broken?}
+use Rattle.channels.specs.Promise as planner
+use Rattle.channels.specs.Promise.{givenRefusal}
+use Rattle.channels.proofs.Agreeing.{given-same}
+use Rattle.record.specs.Checks.{Content, content, size?, stranger?, double?, ring?, repeated?, lacking?, unled?, looseChecks, laterChecks, firstOf, refusalOf}
 
-zero-or-not : (k : ℕ) → (k ≡ 0) ⊎ (k ≡ 0 → ⊥)
-zero-or-not k = go (ℕ-discrete k 0)
-  where
-    go : Dec (k ≡ 0) → (k ≡ 0) ⊎ (k ≡ 0 → ⊥)
-    go (yes e) = inl e
-    go (no d) = inr d
+-- ---- the list of checks, by what each finds
 
--- a refusal with no bit set
-pub judged-refused : (c : Content) (k answer : ℕ) → (k ≡ 0 → ⊥) → answer ≡ k → Judged c answer (refusedBy k)
-judged-refused c k answer ne e = record { answer = sym e; reach = λ z. absurd (ne (sym e ∙ z)); none = λ h. ap refusedBy (sym e) }
+-- size, strangers among the edges and in the given channels, duplicates, cycles, and the rest
+whole : (o s g d y : Bool) → ℕ → ℕ
+whole o s g d y rest = choose o (λ _. 2) (λ _. choose (s || g) (λ _. 3) (λ _. choose d (λ _. 4) (λ _. choose y (λ _. 5) (λ _. rest))))
 
--- ---- the checks of the edges
+-- the same of the edges alone
+alone : (o s d y : Bool) → ℕ
+alone o s d y = choose (eqb (verdict o s) 0) (λ _. choose d (λ _. 4) (λ _. choose y (λ _. 5) (λ _. 0))) (λ _. verdict o s)
+
+-- the given channels, where some are given: repeated, lacking, broken
+lines : (g r l b : Bool) → ℕ
+lines g r l b = choose (g && r) (λ _. 6) (λ _. choose (g && l) (λ _. 6) (λ _. choose (g && b) (λ _. 7) (λ _. 0)))
+
+-- the edges are refused with k: an unknown vertex in the given channels goes before duplicates and cycles
+edges-refused : (o s g d y : Bool) (rest k : ℕ) → k ≡ alone o s d y → k ≢ 0 → whole o s g d y rest ≡ choose ((leb 4 k && leb k 5) && g) (λ _. 3) (λ _. k)
+unfolding whole alone verdict
+edges-refused true s g d y rest k e h = sym (rw e refl)
+edges-refused false true g d y rest k e h = sym (rw e refl)
+edges-refused false false true true y rest k e h = sym (rw e refl)
+edges-refused false false false true y rest k e h = sym (rw e refl)
+edges-refused false false true false true rest k e h = sym (rw e refl)
+edges-refused false false false false true rest k e h = sym (rw e refl)
+edges-refused false false g false false rest k e h = absurd (h e)
+
+-- they are not: strangers in the given channels, and then the rest
+edges-passed : (o s g d y : Bool) (rest : ℕ) → alone o s d y ≡ 0 → whole o s g d y rest ≡ choose g (λ _. 3) (λ _. rest)
+unfolding whole alone verdict
+edges-passed true s g d y rest e = absurd (let z : _≡_ {A = ℕ} 2 0 = e in omega arith)
+edges-passed false true g d y rest e = absurd (let z : _≡_ {A = ℕ} 3 0 = e in omega arith)
+edges-passed false false g true y rest e = absurd (let z : _≡_ {A = ℕ} 4 0 = e in omega arith)
+edges-passed false false g false true rest e = absurd (let z : _≡_ {A = ℕ} 5 0 = e in omega arith)
+edges-passed false false g false false rest e = refl
+
+edges-sound : (o s d y : Bool) → alone o s d y ≡ 0 → verdict o s ≡ 0
+unfolding alone verdict
+edges-sound true s d y e = absurd (let z : _≡_ {A = ℕ} 2 0 = e in omega arith)
+edges-sound false true d y e = absurd (let z : _≡_ {A = ℕ} 3 0 = e in omega arith)
+edges-sound false false d y e = refl
 
 module _ (n : ℕ) (tails heads : List ℕ) (given : Bool) (field : List ℕ) where
   abbrev c : Content
   c = content n tails heads given field
 
-  abbrev strangers : Bool
-  strangers = given && unknown? n (verticesOf field)
+  abbrev o : Bool
+  o = outsized? n (edgeCount tails heads)
 
-  cases : (o s g d : Bool) → ℕ
-  cases o s g d = choose o (λ _. 2) (λ _. choose (s || g) (λ _. 3) (λ _. choose d (λ _. 4) (λ _. 0)))
+  abbrev s : Bool
+  s = some (edgeCount tails heads) (strange? n tails heads)
 
-  as-cases : looseRefusal c ≡ cases (outsized? n (edgeCount tails heads)) (some (edgeCount tails heads) (strange? n tails heads)) strangers (duplicate? (edgeCount tails heads) tails heads)
-  unfolding looseRefusal firstOf looseChecks size? stranger? double? cases
-  as-cases = refl
+  abbrev d : Bool
+  d = duplicate? (edgeCount tails heads) tails heads
 
-  early : (o s g d : Bool) → (verdict o s ≡ 0 → ⊥) → cases o s g d ≡ verdict o s
-  unfolding verdict cases
-  early true s g d h = refl
-  early false true g d h = refl
-  early false false g d h = absurd (h refl)
+  abbrev y : Bool
+  y = some 128 (λ u. reachable? n tails heads u u)
 
-  late : (o s g d : Bool) → verdict o s ≡ 0 → cases o s g d ≡ choose g (λ _. 3) (λ _. choose d (λ _. 4) (λ _. 0))
-  unfolding verdict cases
-  late true s g d h = absurd (let z : _≡_ {A = ℕ} 2 0 = h in omega arith)
-  late false true g d h = absurd (let z : _≡_ {A = ℕ} 3 0 = h in omega arith)
-  late false false g d h = refl
+  abbrev rest : ℕ
+  rest = lines given (repeats? (verticesOf field)) (lacks? n (verticesOf field)) (broken? (reachable? n tails heads) (linesOf field))
 
-  -- the edges are refused by size or by a stranger
-  pub loose-early : (refusal n tails heads ≡ 0 → ⊥) → looseRefusal c ≡ refusal n tails heads
-  unfolding refusal
-  loose-early h = as-cases ∙ early (outsized? n (edgeCount tails heads)) (some (edgeCount tails heads) (strange? n tails heads)) strangers (duplicate? (edgeCount tails heads) tails heads) h
+  as-whole : refusalOf c ≡ whole o s (given && unknown? n (verticesOf field)) d y rest
+  unfolding refusalOf firstOf looseChecks laterChecks size? stranger? double? ring? repeated? lacking? unled? whole lines
+  as-whole = refl
 
-  -- they are not: strangers in given channels, then duplicates
-  pub loose-late : refusal n tails heads ≡ 0 → looseRefusal c ≡ choose strangers (λ _. 3) (λ _. choose (duplicate? (edgeCount tails heads) tails heads) (λ _. 4) (λ _. 0))
-  unfolding refusal
-  loose-late h = as-cases ∙ late (outsized? n (edgeCount tails heads)) (some (edgeCount tails heads) (strange? n tails heads)) strangers (duplicate? (edgeCount tails heads) tails heads) h
+  as-alone : edgesRefusal n tails heads ≡ alone o s d y
+  unfolding edgesRefusal edges.refusal alone
+  as-alone = refl
 
-  -- ---- then the others
+  pub refused-edges : (k : ℕ) → k ≡ edgesRefusal n tails heads → k ≢ 0 → refusalOf c ≡ choose ((leb 4 k && leb k 5) && (given && unknown? n (verticesOf field))) (λ _. 3) (λ _. k)
+  refused-edges k e h = as-whole ∙ edges-refused o s (given && unknown? n (verticesOf field)) d y rest k (e ∙ as-alone) h
 
-  then : (o s d : Bool) (rest : ℕ) → ℕ
-  then o s d rest = choose o (λ _. 2) (λ _. choose s (λ _. 3) (λ _. choose d (λ _. 4) (λ _. rest)))
+  passed-edges : edgesRefusal n tails heads ≡ 0 → refusalOf c ≡ choose (given && unknown? n (verticesOf field)) (λ _. 3) (λ _. rest)
+  passed-edges e = as-whole ∙ edges-passed o s (given && unknown? n (verticesOf field)) d y rest (sym as-alone ∙ e)
 
-  as-then : (rest : ℕ) → firstOf looseChecks c rest ≡ then (size? c) (stranger? c) (double? c) rest
-  unfolding firstOf looseChecks then
-  as-then rest = refl
+  pub edges-accepted : edgesRefusal n tails heads ≡ 0 → edges.refusal n tails heads ≡ 0
+  unfolding edges.refusal
+  edges-accepted e = edges-sound o s d y (sym as-alone ∙ e)
 
-  then-refused : (o s d : Bool) (rest : ℕ) → (then o s d 0 ≡ 0 → ⊥) → then o s d rest ≡ then o s d 0
-  unfolding then
-  then-refused true s d rest h = refl
-  then-refused false true d rest h = refl
-  then-refused false false true rest h = refl
-  then-refused false false false rest h = absurd (h refl)
+-- ---- then the given channels
 
-  then-passed : (o s d : Bool) (rest : ℕ) → then o s d 0 ≡ 0 → (then o s d rest ≡ rest) × (s ≡ false)
-  unfolding then
-  then-passed true s d rest h = absurd (let z : _≡_ {A = ℕ} 2 0 = h in omega arith)
-  then-passed false true d rest h = absurd (let z : _≡_ {A = ℕ} 3 0 = h in omega arith)
-  then-passed false false true rest h = absurd (let z : _≡_ {A = ℕ} 4 0 = h in omega arith)
-  then-passed false false false rest h = (refl, refl)
+-- what the planner answers of given channels is what the checks answer
+planner-answer : (u r l b : Bool) → choose {A = ℕ} u (λ _. 3) (λ _. choose (r || l) (λ _. 6) (λ _. choose b (λ _. 7) (λ _. 0))) ≡ choose u (λ _. 3) (λ _. lines true r l b)
+unfolding lines
+planner-answer true r l b = refl
+planner-answer false true l b = refl
+planner-answer false false true b = refl
+planner-answer false false false b = refl
 
-  pub loosely-refused : (looseRefusal c ≡ 0 → ⊥) → refusalOf c ≡ looseRefusal c
-  unfolding looseRefusal refusalOf
-  loosely-refused h =
-      as-then (firstOf laterChecks c 0)
-      ∙ then-refused (size? c) (stranger? c) (double? c) (firstOf laterChecks c 0) (λ z. h (as-then 0 ∙ z)) ∙ sym (as-then 0)
+module _ (n : ℕ) (tails heads : List ℕ) (field : List ℕ) (passes : edgesRefusal n tails heads ≡ 0) where
+  -- no channels are given
+  pub bare-refusal : refusalOf (content n tails heads false field) ≡ 0
+  unfolding lines
+  bare-refusal = passed-edges n tails heads false field passes
 
-  loosely-passed : looseRefusal c ≡ 0 → (refusalOf c ≡ firstOf laterChecks c 0) × (stranger? c ≡ false)
-  unfolding looseRefusal refusalOf
-  loosely-passed h =
-      let p = then-passed (size? c) (stranger? c) (double? c) (firstOf laterChecks c 0) (sym (as-then 0) ∙ h) in
-      (as-then (firstOf laterChecks c 0) ∙ p .0, p .1)
+  -- channels are given, and checked by a relation that says what the graph says
+  pub given-refusal : (leads : ℕ → ℕ → Bool) → ((u v : ℕ) → u < n → v < n → leads u v ≡ reachable? n tails heads u v) → planner.outsized? n ≡ false
+      → givenRefusal leads n field ≡ refusalOf (content n tails heads true field)
+  unfolding givenRefusal
+  given-refusal leads same small =
+      given-same n leads (reachable? n tails heads) same field
+      ∙ ap (λ (t : Bool). choose {A = ℕ} t (λ _. 2) (λ _. choose (unknown? n (verticesOf field)) (λ _. 3) (λ _. choose (repeats? (verticesOf field) || lacks? n (verticesOf field)) (λ _. 6)
+      (λ _. choose (broken? (reachable? n tails heads) (linesOf field)) (λ _. 7) (λ _. 0))))) small
+      ∙ planner-answer (unknown? n (verticesOf field)) (repeats? (verticesOf field)) (lacks? n (verticesOf field)) (broken? (reachable? n tails heads) (linesOf field))
+      ∙ sym (passed-edges n tails heads true field passes)
 
-  as-later : firstOf laterChecks c 0 ≡ choose (some 128 (λ u. reachable? n tails heads u u)) (λ _. 5) (λ _. linesRefusal (reachable? n tails heads) n given field)
-  unfolding firstOf laterChecks ring? repeated? lacking? unled? linesRefusal
-  as-later = refl
+-- ---- the same, case by case
 
-  -- cycles, and then the given channels
-  refusal-later : looseRefusal c ≡ 0 → refusalOf c ≡ choose (some 128 (λ u. reachable? n tails heads u u)) (λ _. 5) (λ _. linesRefusal (reachable? n tails heads) n given field)
-  refusal-later h = loosely-passed h .0 ∙ as-later
+module _ (k : ℕ) (given unknown : Bool) where
+  abbrev first : ℕ
+  first = choose ((leb 4 k && leb k 5) && (given && unknown)) (λ _. 3) (λ _. k)
 
-  pub no-strangers : looseRefusal c ≡ 0 → strangers ≡ false
-  unfolding stranger?
-  no-strangers h = or-neither (some (edgeCount tails heads) (strange? n tails heads)) strangers (loosely-passed h .1) .1
+  pub first-low : k < 4 → k ≡ first
+  first-low h = sym (rw (lt-leb 4 k h) refl)
 
-  -- and the edges by themselves are accepted
-  pub edges-accepted : looseRefusal c ≡ 0 → refusal n tails heads ≡ 0
-  unfolding refusal
-  edges-accepted h = go (outsized? n (edgeCount tails heads)) (some (edgeCount tails heads) (strange? n tails heads)) (sym as-cases ∙ h)
-    where
-      go : (o s : Bool) → cases o s strangers (duplicate? (edgeCount tails heads) tails heads) ≡ 0 → verdict o s ≡ 0
-      go o s e = ⊎-elim (λ z. z) (λ z. absurd (z (sym (early o s strangers (duplicate? (edgeCount tails heads) tails heads) z) ∙ e))) (zero-or-not (verdict o s))
+  pub first-high : 5 < k → k ≡ first
+  first-high h = sym (rw (le-leb 4 k (omega arith), lt-leb k 5 h) refl)
 
-  -- an accepted graph passes each check of its given channels
-  pub passed : refusalOf c ≡ 0 → (looseRefusal c ≡ 0) × ((given && repeats? (verticesOf field)) ≡ false)
-  unfolding linesRefusal
-  passed h =
-      let loose : looseRefusal c ≡ 0 = ⊎-elim (λ z. z) (λ z. absurd (z (sym (loosely-refused z) ∙ h))) (zero-or-not (looseRefusal c)) in
-      (loose, go (some 128 (λ u. reachable? n tails heads u u)) (given && repeats? (verticesOf field)) (choose (given && lacks? n (verticesOf field)) (λ _. 6) (λ _. choose (given && broken? (reachable? n tails heads) (linesOf field)) (λ _. 7) (λ _. 0))) (sym (refusal-later loose) ∙ h))
-    where
-      go : (t r : Bool) (k : ℕ) → choose t (λ _. 5) (λ _. choose r (λ _. 6) (λ _. k)) ≡ 0 → r ≡ false
-      go true r k e = absurd (let z : _≡_ {A = ℕ} 5 0 = e in omega arith)
-      go false true k e = absurd (let z : _≡_ {A = ℕ} 6 0 = e in omega arith)
-      go false false k e = refl
+  module _ (low : 4 ≤ k) (high : k ≤ 5) where
+    pub first-bare : given ≡ false → k ≡ first
+    first-bare e = sym (rw (le-leb 4 k low, le-leb k 5 high, e) refl)
 
--- ---- given channels by a relation that is the same for all that they name
+    pub first-known : given ≡ true → unknown ≡ false → k ≡ first
+    first-known e u = sym (rw (le-leb 4 k low, le-leb k 5 high, e, u) refl)
 
-unknown-append : (n : ℕ) (l s : List ℕ) → unknown? n (l ++ s) ≡ false → (unknown? n l ≡ false) × (unknown? n s ≡ false)
-unfolding unknown?
-unknown-append n [] s e = (refl, e)
-unknown-append n (v ∷ l) s e =
-    let p = or-neither (leb n v) (unknown? n (l ++ s)) e in
-    let q = unknown-append n l s (p .1) in
-    (ap₂ (λ (a b : Bool). a || b) (p .0) (q .0), q .1)
-
-module _ (n : ℕ) (f g : ℕ → ℕ → Bool) (same : (u v : ℕ) → u < n → v < n → f u v ≡ g u v) where
-  linked-same : (l : List ℕ) → unknown? n l ≡ false → linked f l ≡ linked g l
-  unfolding linked unknown?
-  linked-same [] e = refl
-  linked-same (x ∷ []) e = refl
-  linked-same (x ∷ y ∷ l) e =
-      let p = or-neither (leb n x) (leb n y || unknown? n l) e in
-      let q = or-neither (leb n y) (unknown? n l) (p .1) in
-      ap₂ (λ (a b : Bool). a && b) (same x y (leb-false n x (p .0)) (leb-false n y (q .0))) (linked-same (y ∷ l) (p .1))
-
-  pub all-linked-same : (ls : List (List ℕ)) → unknown? n (flatten ls) ≡ false → allLinked f ls ≡ allLinked g ls
-  unfolding every flatten
-  all-linked-same [] e = refl
-  all-linked-same (l ∷ ls) e =
-      let p = unknown-append n l (flatten ls) e in
-      ap₂ (λ (a b : Bool). a && b) (linked-same l (p .0)) (all-linked-same ls (p .1))
-
-  lines-same : (given : Bool) (field : List ℕ) → (given && unknown? n (verticesOf field)) ≡ false → linesRefusal f n given field ≡ linesRefusal g n given field
-  unfolding linesRefusal broken?
-  lines-same false field e = refl
-  lines-same true field e =
-      ap (λ (b : Bool). choose (repeats? (verticesOf field)) (λ _. 6) (λ _. choose (lacks? n (verticesOf field)) (λ _. 6) (λ _. choose (not b) (λ _. 7) (λ _. 0)))) (all-linked-same (linesOf field) e)
-
--- the checks after 2 to 4, by the graph's reachability
-pub later-same : (n : ℕ) (tails heads : List ℕ) (given : Bool) (field : List ℕ) (r : Reachability) → looseRefusal (content n tails heads given field) ≡ 0 → Closure n tails heads r
-    → refusalOf (content n tails heads given field) ≡ choose (r .cyclic) (λ _. 5) (λ _. linesRefusal (leadsIn (r .table)) n given field)
-later-same n tails heads given field r passes closure =
-    let same = lines-same n (leadsIn (r .table)) (reachable? n tails heads) (table-same n tails heads r closure (closure .answer ∙ edges-accepted n tails heads given field passes)) given field (no-strangers n tails heads given field passes) in
-    refusal-later n tails heads given field passes ∙ ap₂ (λ (t : Bool) (k : ℕ). choose t (λ _. 5) (λ _. k)) (sym (closure .cycles)) (sym same)
+    pub first-unknown : given ≡ true → unknown ≡ true → 3 ≡ first
+    first-unknown e u = sym (rw (le-leb 4 k low, le-leb k 5 high, e, u) refl)

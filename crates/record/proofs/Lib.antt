@@ -1,11 +1,9 @@
 pub mod Lining
 pub mod Placing
-pub mod Pairs
-pub mod Duplicates
 pub mod Judging
-pub mod Copying
 pub mod Standing
 pub mod Readings
-pub mod Loosely
 pub mod Soundness
 pub mod Accepted
+pub mod Checking
+pub mod Handing

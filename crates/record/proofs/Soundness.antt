@@ -170,6 +170,10 @@ module _ (c : Content) where
   unfolding refusal verdict
   graph-accepted o s = rw (o, s) refl
 
+  -- a sound graph is taken by the reachability layer
+  pub sound-edges : Sound c → refusal n (c .tails) (c .heads) ≡ 0
+  sound-edges s = graph-accepted (of-size n m (s .size)) (known-ends n m (c .tails) (c .heads) (s .ends))
+
   tails-known : some m (strange? n (c .tails) (c .heads)) ≡ false → (u v : ℕ) → Edge (c .tails) (c .heads) u v → u < n
   unfolding Edge
   tails-known s u v e = subst (λ x. x < n) (e .2) (ends-known n m (c .tails) (c .heads) s (e .0) (e .1) .0)

@@ -1,17 +1,13 @@
 -- The checks of a graph with given channels, in document 01's order, each as its table of refusals words it. Assumes nothing.
-use mathlib.Core.Path.{_≡_}
-use mathlib.Core.Bool.{Bool, false, _&&_, _||_}
+use mathlib.Core.Bool.{Bool, _&&_, _||_}
 use mathlib.Core.List.{List, [], _∷_}
 use Prim.Native.Nat.{ℕ}
-use lib.Dec.{eqb}
-use lib.ListN.{getD, replicate}
 use Rattle.counting.specs.Count.{choose, some}
 use Rattle.reach.specs.Graph.{edgeCount}
 use Rattle.reach.specs.Refusal.{outsized?, strange?}
 use Rattle.reach.specs.Ends.{duplicate?}
-use Rattle.reach.specs.Closure.{Closure, reachable?}
+use Rattle.reach.specs.Closure.{reachable?}
 use Rattle.channels.specs.Given.{linesOf, verticesOf, unknown?, repeats?, lacks?, broken?}
-use Rattle.record.specs.declared.checks.Verdict.{Verdict}
 
 -- what is checked: vertices, edges, and the bytes of the given channels, if any are given
 pub record Content : Type 0 where
@@ -89,16 +85,3 @@ looseRefusal c = firstOf looseChecks c 0
 
 unfoldable pub refusalOf : Content → ℕ
 refusalOf c = firstOf looseChecks c (firstOf laterChecks c 0)
-
--- a refusal with no bit set
-abbrev pub refusedBy : ℕ → Verdict
-refusedBy k = record {
-  refusal = k;
-  reach = record { refusal = k; edges = replicate 256 0; table = replicate 256 0; counts = replicate 128 0; cyclic = false };
-}
-
--- r is the refusal with no bit set, or 0 with the graph's reachability
-pub record Judged (c : Content) (refusal : ℕ) (r : Verdict) : Type 0 where
-  pub answer : r .refusal ≡ refusal
-  pub reach : refusal ≡ 0 → Closure (c .vertices) (c .tails) (c .heads) (r .reach)
-  pub none : (refusal ≡ 0 → ⊥) → r ≡ refusedBy refusal

@@ -1,5 +1,5 @@
 pub mod Layout
-pub mod Content
 pub mod Checks
+pub mod Checked
 pub mod Reading
 pub mod Sound

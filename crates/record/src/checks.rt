@@ -1,121 +1,102 @@
-// The checks of a graph with given channels, in document 01's order.
+// The checks 2 to 7 of a graph with given channels, in document 01's order: the one place that refuses.
 ghost use mathlib.Core.Path.{_≡_};
 ghost use mathlib.Core.Bool.{_&&_};
+ghost use lib.Dec.{leb};
 ghost use Rattle.counting.specs.Count.{choose};
 ghost use Rattle.channels.specs.Given.{verticesOf, unknown?};
-ghost use Rattle.channels.specs.Table.{leadsIn};
-ghost use Rattle.record.specs.Checks.{refusedBy, content, linesRefusal, looseRefusal, refusalOf, Judged};
-use crate::edges::has_duplicate;
-use reach::Reachability;
+ghost use Rattle.channels.specs.Promise.{Plans, Gives};
+ghost use Rattle.record.specs.Checked.{uncheckedBy, Checks};
+use channels::Channels;
+use descent::descend;
 
-// Why a graph is refused, or 0 and its reachability; on a refusal every mask and count is 0.
-pub struct Verdict {
+// Why a graph is refused, or 0; how many rows it has, the row of each vertex, 0 past the last, how many vertices each reaches, and the
+// channels. On a refusal every number is 0.
+pub struct Checked {
     pub refusal: u8,
-    pub reach: Reachability,
+    pub used: u8,
+    pub rows: [u8; 128],
+    pub counts: [u8; 128],
+    pub channels: Channels,
 }
 
-fn refused(refusal: u8) -> Verdict
-    ensures { λ r. ⌜ r ≡ refusedBy refusal ⌝ }
+fn refused(refusal: u8) -> Checked
+    ensures { λ r. ⌜ r ≡ uncheckedBy refusal ⌝ }
 {
-    Verdict {
+    Checked {
         refusal,
-        reach: Reachability {
-            refusal,
-            edges: [0; 256],
-            table: [0; 256],
-            counts: [0; 128],
-            cyclic: false,
+        used: 0,
+        rows: [0; 128],
+        counts: [0; 128],
+        channels: Channels {
+            refusal: 0,
+            count: 0,
+            vertices: 0,
+            channel: [0; 128],
+            position: [0; 128],
+            order: [0; 128],
+            starts: [0; 128],
         },
     }
 }
 
-// Whether the given channels, if any, name a vertex of n or more.
-fn names_unknown(n: usize, given: bool, field: &[u8]) -> bool
-    ensures { λ r. ⌜ r ≡ (given && unknown? n (verticesOf (now (field .entry)))) ⌝ }
+// The refusal of a graph whose edges are refused with k: an unknown vertex in the given channels goes before duplicates and cycles.
+fn first_of(k: u8, n: usize, given: bool, field: &[u8]) -> u8
+    ensures { λ r. ⌜ r ≡ choose ((leb 4 k && leb k 5) && (given && unknown? n (verticesOf (now (field .entry))))) (λ _. 3) (λ _. k) ⌝ }
+{
+    if k < 4 {
+        return k;
+    }
+    if 5 < k {
+        return k;
+    }
+    if given {
+        if channels::unknown(n, field) {
+            return 3;
+        }
+    }
+    k
+}
+
+// The given channels, or the planned ones.
+fn channels_of<'a>(n: usize, table: &'a [u64], given: bool, field: &'a [u8]) -> Channels
+    ensures { λ r. ⌜ choose given (λ _. Gives n (now (table .entry)) (now (field .entry)) r) (λ _. Plans n (now (table .entry)) r) ⌝ }
 {
     if given {
-        return channels::unknown(n, field);
+        return channels::given(n, table, field);
     }
-    false
+    channels::plan(n, table)
 }
 
-// Why the given channels, if any, are refused by the table, or 0.
-fn lines_refusal(n: usize, table: [u64; 256], given: bool, field: &[u8]) -> u8
-    ensures { λ r. ⌜ r ≡ linesRefusal (leadsIn table) n given (now (field .entry)) ⌝ }
-{
-    if given {
-        if channels::repeats(field) {
-            return 6;
-        }
-        if channels::lacks(n, field) {
-            return 6;
-        }
-        if channels::broken(table, field) {
-            return 7;
-        }
-    }
-    0
-}
-
-// Why a graph that passes 2 to 4 is refused, or 0: by its cycles, then by the given channels.
-pub(crate) fn later_refusal(
+// The checks of n vertices, the edges whose ends are bytes, tail and head in turn, and the given channels in the bytes of their field, if
+// there are any: the first that fails refuses. The lists get the edges' masks, the sets of vertices by row, what reaches what, and what
+// does by two edges or more; 8, and nothing changed, where one is not as long as it must be.
+pub fn check<'a, 'f, 'e, 'b, 't, 'l>(
     n: usize,
-    table: [u64; 256],
-    cyclic: bool,
+    ends: &'a [u8],
     given: bool,
-    field: &[u8],
-) -> u8
-    ensures { λ r. ⌜ r ≡ choose cyclic (λ _. 5) (λ _. linesRefusal (leadsIn table) n given (now (field .entry))) ⌝ }
+    field: &'f [u8],
+    edges: &'e mut [u64],
+    below: &'b mut [u64],
+    table: &'t mut [u64],
+    longer: &'l mut [u64],
+) -> Checked
+    ensures { λ r. ⌜ Checks n (now (ends .entry)) given (now (field .entry)) (now (edges .entry)) (now (below .entry)) (now (table .entry)) (now (longer .entry)) r (now (edges .exit)) (now (below .exit)) (now (table .exit)) (now (longer .exit)) ⌝ }
 {
-    if cyclic {
-        return 5;
+    let d = descend(n, ends, edges, below, table, longer);
+    if d.refusal != 0 {
+        return refused(first_of(d.refusal, n, given, field));
     }
-    lines_refusal(n, table, given, field)
-}
-
-// The checks 2 to 4 of n vertices, the edges tails[i] -> heads[i], as many as both lists have, and the given channels in the bytes of
-// their field, if there are any: the first that fails refuses.
-pub fn check_loose<'a>(
-    n: usize,
-    tails: &'a [u8],
-    heads: &'a [u8],
-    given: bool,
-    field: &'a [u8],
-) -> Verdict
-    ensures { λ r. ⌜ Judged (content n (now (tails .entry)) (now (heads .entry)) given (now (field .entry))) (looseRefusal (content n (now (tails .entry)) (now (heads .entry)) given (now (field .entry)))) r ⌝ }
-{
-    let reach = reach::transitive_closure(n, tails, heads);
-    if reach.refusal != 0 {
-        return refused(reach.refusal);
+    let channels = channels_of(n, table, given, field);
+    if channels.refusal != 0 {
+        return refused(channels.refusal);
     }
-    if names_unknown(n, given, field) {
-        return refused(3);
+    let rows = d.rows;
+    let counts = d.counts;
+    Checked {
+        refusal: 0,
+        used: d.used,
+        rows,
+        counts,
+        channels,
     }
-    if has_duplicate(reach::edge_count(tails, heads), tails, heads) {
-        return refused(4);
-    }
-    Verdict { refusal: 0, reach }
-}
-
-// The checks 2 to 7: those of `check_loose`, then cycles and the given channels.
-pub fn check<'a>(
-    n: usize,
-    tails: &'a [u8],
-    heads: &'a [u8],
-    given: bool,
-    field: &'a [u8],
-) -> Verdict
-    ensures { λ r. ⌜ Judged (content n (now (tails .entry)) (now (heads .entry)) given (now (field .entry))) (refusalOf (content n (now (tails .entry)) (now (heads .entry)) given (now (field .entry)))) r ⌝ }
-{
-    let v = check_loose(n, tails, heads, given, field);
-    if v.refusal != 0 {
-        return v;
-    }
-    let reach = v.reach;
-    let table = reach.table;
-    let k = later_refusal(n, table, reach.cyclic, given, field);
-    if k != 0 {
-        return refused(k);
-    }
-    v
 }

@@ -3,7 +3,6 @@ ghost use mathlib.Core.Path.{_≡_};
 ghost use Prim.Native.Nat.{_<_};
 
 pub mod checks;
-mod edges;
 pub mod layout;
 pub mod reading;
 

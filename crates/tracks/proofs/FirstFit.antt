@@ -1,13 +1,12 @@
 -- Laws of `lowestFree`, and of the tests of `busy`; nothing else opens them. Assumes nothing.
 use mathlib.Core.Path.{_≡_, refl, sym, ap, ap₂, _∙_}
 use mathlib.Core.Logic.{_⊎_, inl, inr, ⊎-elim}
-use mathlib.Core.Bool.{Bool, true, false, _&&_, _||_}
+use mathlib.Core.Bool.{Bool, true, false, _&&_}
 use mathlib.Core.List.{List}
-use Prim.Native.Nat.{ℕ, zero, suc, _+_, _-_, _*_, _≤_, _<_, max}
+use Prim.Native.Nat.{ℕ, zero, suc, _+_, _*_, _≤_, _<_, max}
 use native.Mathlib.Omega.{arith}
 use native.Mathlib.Nat.{not-suc-le-zero}
 use native.Mathlib.Decide.{ℕ-discrete}
-use native.Mathlib.Numerals.{add-one}
 use lib.ListN.{getD}
 use lib.Dec.{eqb, leb, ltb}
 use borrow.Author.Tests.{eq-eqb, eqb-true, leb-true, le-leb, lt-ltb, le-ltb, ltb-true}
@@ -31,23 +30,6 @@ module _ (busy : ℕ → Bool) where
   lowest-last : (c : ℕ) → lowestFree busy 0 c ≡ c
   unfolding lowestFree
   lowest-last c = refl
-
-  -- the same of j numbers, c of them tried
-  pub tried-none : (j : ℕ) → lowestFree busy j 0 ≡ lowestFree busy (j - 0) 0
-  tried-none j = ap (λ k. lowestFree busy k 0) (let e : j ≡ j - 0 = omega arith in e)
-
-  module _ (j c : ℕ) where
-    pub tried-busy : c < j → busy c ≡ true → lowestFree busy (j - c) c ≡ lowestFree busy (j - (c + 1)) (c + 1)
-    tried-busy l e =
-        ap (λ k. lowestFree busy k c) (let q : j - c ≡ suc (j - (c + 1)) = omega arith in q)
-        ∙ lowest-busy (j - (c + 1)) c e
-        ∙ ap (lowestFree busy (j - (c + 1))) (sym (add-one c))
-
-    pub tried-free : c < j → busy c ≡ false → lowestFree busy (j - c) c ≡ c
-    tried-free l e = ap (λ k. lowestFree busy k c) (let q : j - c ≡ suc (j - (c + 1)) = omega arith in q) ∙ lowest-free (j - (c + 1)) c e
-
-    pub tried-all : j ≤ c → lowestFree busy (j - c) c ≡ c
-    tried-all l = ap (λ k. lowestFree busy k c) (let q : j - c ≡ 0 = omega arith in q) ∙ lowest-last c
 
   -- r is the first of the j numbers from c on that is not busy, or c + j
   pub record IsLowest (j c r : ℕ) : Type 0 where
@@ -145,26 +127,6 @@ module _ (channel first last : ℕ → ℕ) (p q : ℕ) where
   unfolding blocks
   blocks-yes a b = and-intro (earlier first p q) (meet channel first last p q) a b
 
-  -- by the code's tests: it does not
-  pub blocks-no : (channel p ≡ channel q → first p ≤ last q → first q ≤ last p → first p ≤ first q → ⊥) → false ≡ blocks channel first last p q
-  blocks-no h = sym (not-true (blocks channel first last p q) (λ e.
-      let x = blocks-fact e in
-      let m = meet-fact (x .1) in
-      h (m .0) (m .1) (m .2) (⊎-elim (λ l. omega arith) (λ l. omega arith) (earlier-fact first p q (x .0)))))
-
-  -- it begins below
-  pub blocks-below : channel p ≡ channel q → first p ≤ last q → first q ≤ last p → first p < first q → true ≡ blocks channel first last p q
-  blocks-below c a b l = sym (blocks-yes (earlier-row first p q l) (meet-yes c a b))
-
-  -- it begins in the same row
-  pub blocks-beside : channel p ≡ channel q → first p ≤ last q → first q ≤ last p → first p ≡ first q → ltb p q ≡ blocks channel first last p q
-  unfolding blocks
-  blocks-beside c a b e = sym (and-true (ltb p q)) ∙ ap₂ (λ x y. x && y) (sym (earlier-number first p q e)) (sym (meet-yes c a b))
-    where
-      and-true : (x : Bool) → (x && true) ≡ x
-      and-true true = refl
-      and-true false = refl
-
 pub meet-sym : (channel first last : ℕ → ℕ) (p q : ℕ) → meet channel first last p q ≡ true → meet channel first last q p ≡ true
 meet-sym channel first last p q e = let x = meet-fact channel first last p q e in meet-yes channel first last q p (sym (x .0)) (x .2) (x .1)
 
@@ -194,13 +156,3 @@ module _ (n : ℕ) (channel first last : ℕ → ℕ) (track : List ℕ) (b c : 
   unfolding busy
   busy-yes q l x y =
       some-found n (λ q. blocks channel first last q b && eqb (getD track q 0) c) q l (and-intro (blocks channel first last q b) (eqb (getD track q 0) c) x (eq-eqb _ _ y))
-
--- no bundle, and one more
-module _ (channel first last : ℕ → ℕ) (track : List ℕ) (b c : ℕ) where
-  pub busy-none : busy 0 channel first last track b c ≡ false
-  unfolding busy some
-  busy-none = refl
-
-  pub busy-more : (q : ℕ) → busy (q + 1) channel first last track b c ≡ (busy q channel first last track b c || (blocks channel first last q b && eqb (getD track q 0) c))
-  unfolding busy some
-  busy-more q = ap (λ m. some m (λ q. blocks channel first last q b && eqb (getD track q 0) c)) (add-one q)

@@ -4,4 +4,7 @@ pub mod Placing
 pub mod Least
 pub mod Extension
 pub mod Theorems
+pub mod Unique
+pub mod Sorting
+pub mod Ends
 pub mod Steps

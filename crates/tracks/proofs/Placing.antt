@@ -17,11 +17,11 @@ use Rattle.tracks.proofs.FirstFit.{IsLowest, lowest-is, turn, earlier-t
 
 -- the rule's steps
 module _ (n : ℕ) (channel first last : ℕ → ℕ) where
-  pub row-yes : (r b : ℕ) (track : List ℕ) → first b ≡ r → inRow n channel first last r (suc b) track ≡ placed n channel first last b (inRow n channel first last r b track)
+  row-yes : (r b : ℕ) (track : List ℕ) → first b ≡ r → inRow n channel first last r (suc b) track ≡ placed n channel first last b (inRow n channel first last r b track)
   unfolding inRow
   row-yes r b track e = rw (eq-eqb _ _ e)
 
-  pub row-no : (r b : ℕ) (track : List ℕ) → (first b ≡ r → ⊥) → inRow n channel first last r (suc b) track ≡ inRow n channel first last r b track
+  row-no : (r b : ℕ) (track : List ℕ) → (first b ≡ r → ⊥) → inRow n channel first last r (suc b) track ≡ inRow n channel first last r b track
   unfolding inRow
   row-no r b track e = rw (ne-eqb _ _ e)
 
@@ -43,7 +43,7 @@ module _ (n : ℕ) (channel first last : ℕ → ℕ) where
     pub past : (q : ℕ) → n ≤ q → getD track q 0 ≡ 0
 
   -- of n tracks one is free: fewer than n bundles block b
-  pub lowest-below : (track : List ℕ) (b : ℕ) → b < n → lowestFree (busy n channel first last track b) n 0 < n
+  lowest-below : (track : List ℕ) (b : ℕ) → b < n → lowestFree (busy n channel first last track b) n 0 < n
   lowest-below track b l = go (decLt r n)
     where
       r : ℕ
@@ -57,7 +57,7 @@ module _ (n : ℕ) (channel first last : ℕ → ℕ) where
       go (no d) = omega (arith, onto-count n r (λ w. blocks channel first last w b) (λ w. getD track w 0) onto, one-fails n (λ w. blocks channel first last w b) b l (blocks-self channel first last b))
 
   module _ (small : n ≤ 256) where
-    blocks-turn : (p q : ℕ) → p < n → blocks channel first last p q ≡ true → at p < at q
+    pub blocks-turn : (p q : ℕ) → p < n → blocks channel first last p q ≡ true → at p < at q
     blocks-turn p q l e = earlier-turn first p q (omega arith) (blocks-fact channel first last p q e .0)
 
     placed-set : (k : ℕ) (track : List ℕ) (b r : ℕ) → b < n → at b ≡ k → Placed k track → IsLowest (busy n channel first last track b) n 0 r → r < n

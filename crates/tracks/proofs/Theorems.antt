@@ -1,18 +1,19 @@
 -- What a caller knows of the tracks. Assumes nothing.
 use mathlib.Core.Path.{_≡_, refl, sym, ap, _∙_, subst}
 use mathlib.Core.List.{List}
-use Prim.Native.Nat.{ℕ, _≤_, _<_}
+use Prim.Native.Nat.{ℕ, _≤_, _<_, min, max}
 use native.Mathlib.Omega.{arith}
 use lib.ListN.{length, getD}
 use lib.Dec.{eqb}
 use borrow.Author.Tests.{eq-eqb}
 use Rattle.counting.specs.Count.{count}
 use Rattle.tracks.specs.Tracks.{mostBundles, tracks, topIn, differentIn}
-use Rattle.tracks.specs.Order.{Intervals, Packed}
-use Rattle.tracks.specs.Promise.{Assigned}
+use Rattle.tracks.specs.Order.{Rising, Intervals, Packed}
+use Rattle.tracks.specs.Promise.{Assigned, Tracked}
 use Rattle.tracks.specs.declared.Tracks.{Tracks}
 use Rattle.tracks.proofs.Different.{different-count, top-each}
 use Rattle.tracks.proofs.Placing.{placed-all}
+use Rattle.tracks.proofs.Extension.{tracks-ext}
 use Rattle.tracks.proofs.Least.{tracks-packed}
 
 module _ (n : ℕ) (channel first last : ℕ → ℕ) where
@@ -61,3 +62,17 @@ module _ (n : ℕ) (channel first last : ℕ → ℕ) (r : Tracks) (a : Assigned
   pub answer-counted : n ≤ mostBundles → Intervals n first last → (c : ℕ) → c < 128
       → getD (r .used) c 0 ≡ differentIn n (λ b. eqb (channel b) c) (λ b. getD (r .track) b 0)
   answer-counted small i c l = answer-top c l ∙ sym (answer-packed small i .counted c)
+
+-- of bundles that end no lower than they begin, the call's answer is of their own last rows
+pub tracked-rising : (n : ℕ) (channel first last : List ℕ) (r : Tracks)
+    → Rising (min n mostBundles) (λ b. getD first b 0) (λ b. getD last b 0)
+    → Tracked n channel first last r → Assigned (min n mostBundles) (λ b. getD channel b 0) (λ b. getD first b 0) (λ b. getD last b 0) r
+tracked-rising n channel first last r up t = record {
+  track = t .track ∙ same;
+  used = λ c l. t .used c l ∙ ap (λ (s : List ℕ). topIn (min n mostBundles) (λ b. eqb (getD channel b 0) c) (λ b. getD s b 0)) same;
+  sizes = t .sizes;
+}
+  where
+    same : tracks (min n mostBundles) (λ b. getD channel b 0) (λ b. getD first b 0) (λ b. max (getD first b 0) (getD last b 0))
+        ≡ tracks (min n mostBundles) (λ b. getD channel b 0) (λ b. getD first b 0) (λ b. getD last b 0)
+    same = tracks-ext (min n mostBundles) _ _ _ _ _ _ (λ b l. refl) (λ b l. refl) (λ b l. let u = up b l in omega arith)

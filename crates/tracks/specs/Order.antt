@@ -19,9 +19,13 @@ pub record Among (n : ℕ) (channel first last : ℕ → ℕ) (c n′ : ℕ) (ch
   pub firsts : (b : ℕ) → b < n → channel b ≡ c → first′ (to b) ≡ first b
   pub lasts : (b : ℕ) → b < n → channel b ≡ c → last′ (to b) ≡ last b
 
--- each bundle ends no lower than it begins, within the rows
+-- each bundle ends no lower than it begins
+abbrev pub Rising : ℕ → (ℕ → ℕ) → (ℕ → ℕ) → Type 0
+Rising n first last = (b : ℕ) → b < n → first b ≤ last b
+
+-- and begins within the rows
 pub record Intervals (n : ℕ) (first last : ℕ → ℕ) : Type 0 where
-  pub ordered : (b : ℕ) → b < n → first b ≤ last b
+  pub ordered : Rising n first last
   pub below : (b : ℕ) → b < n → first b < 256
 
 -- tracks are lawful; a channel uses as many different ones as 1 + its highest; and no lawful tracks of the same bundles are fewer

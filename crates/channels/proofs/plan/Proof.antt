@@ -19,9 +19,6 @@ returns-2 : tie.Need-returns-2
 returns-2 c =
     answers-refused _ 2 _ _ (plan-outsized _ (many-outsized _ (c .before .if2 .taken))) (λ e. omega arith) (c .empty2 .ensures)
 
-slice-aggregate-matched : tie.Need-slice-aggregate-matched
-slice-aggregate-matched c = search needs
-
 matched-requires : tie.Need-matched-requires
 matched-requires c κs = search needs
 
@@ -34,7 +31,7 @@ chains-requires c κs = search needs
 returns-3 : tie.Need-returns-3
 returns-3 c =
     let m = c .before .before in
-    let s = m .before .before in
+    let s = m .before in
     answers-taken _ _ _ (plan-taken _ (sized _ (s .before .if1 .left) (s .if2 .left))) (plan-channels _ _ _ _ (m .matched .ensures .0) (c .chains .ensures))
 
 pub plan-spec : {M : Type 1} → statement M
@@ -45,7 +42,6 @@ plan-spec =
     returns
     empty-requires-2
     returns-2
-    slice-aggregate-matched
     matched-requires
     slice-aggregate-chains
     chains-requires

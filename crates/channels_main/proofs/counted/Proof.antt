@@ -5,13 +5,16 @@ use Rattle.channels_main.proofs.counted.Statement.{statement}
 use Rattle.channels_main.proofs.counted.Tie as tie
 
 abbrev Inv-loop : tie.InvT-loop
-Inv-loop table often last₀ i₀ last i = i ≤ often
+Inv-loop often table last₀ i₀ last i = i ≤ often
 
 abbrev μ-loop : tie.MeasureT-loop
-μ-loop table often last₀ i₀ last i = often - i
+μ-loop often table last₀ i₀ last i = often - i
 
 loop-holds : tie.Need-loop-holds Inv-loop μ-loop
 loop-holds c = search needs
+
+slice-aggregate-plan : tie.Need-slice-aggregate-plan Inv-loop μ-loop
+slice-aggregate-plan c = search needs
 
 plan-requires : tie.Need-plan-requires Inv-loop μ-loop
 plan-requires c κs = search needs
@@ -38,6 +41,7 @@ counted-spec =
     Inv-loop
     μ-loop
     loop-holds
+    slice-aggregate-plan
     plan-requires
     cast-last
     add-i

@@ -6,10 +6,10 @@ use Rattle.chart.proofs.put_bundles.Statement.{statement}
 use Rattle.chart.proofs.put_bundles.Tie as tie
 
 abbrev Inv-loop : tie.InvT-loop
-Inv-loop output₀ used count bundles end₀ i₀ output end i = (i ≤ count) × (end ≤ length output) × (length output ≡ length output₀)
+Inv-loop output₀ used count bundles end₀ b₀ output end b = (b ≤ count) × (end ≤ length output) × (length output ≡ length output₀)
 
 abbrev μ-loop : tie.MeasureT-loop
-μ-loop output₀ used count bundles end₀ i₀ output end i = count - i
+μ-loop output₀ used count bundles end₀ b₀ output end b = count - b
 
 loop-holds : tie.Need-loop-holds Inv-loop μ-loop
 loop-holds c = search needs
@@ -17,20 +17,50 @@ loop-holds c = search needs
 make-room-requires : tie.Need-make-room-requires Inv-loop μ-loop
 make-room-requires c κs = search needs
 
-cast-put-bundle : tie.Need-cast-put-bundle Inv-loop μ-loop
-cast-put-bundle c = search needs
+mul-i : tie.Need-mul-i Inv-loop μ-loop
+mul-i c = search needs
 
-mul-put-bundle : tie.Need-mul-put-bundle Inv-loop μ-loop
-mul-put-bundle c = search needs
+cast-put-line : tie.Need-cast-put-line Inv-loop μ-loop
+cast-put-line c = search needs
 
-array-copy-out-put-bundle : tie.Need-array-copy-out-put-bundle Inv-loop μ-loop
-array-copy-out-put-bundle c = search needs
+mul-put-line : tie.Need-mul-put-line Inv-loop μ-loop
+mul-put-line c = search needs
 
-put-bundle-requires : tie.Need-put-bundle-requires Inv-loop μ-loop
-put-bundle-requires c κs = search needs
+shared-slice-read-put-line : tie.Need-shared-slice-read-put-line Inv-loop μ-loop
+shared-slice-read-put-line c = search needs
 
-add-i : tie.Need-add-i Inv-loop μ-loop
-add-i c = search needs
+add-put-line : tie.Need-add-put-line Inv-loop μ-loop
+add-put-line c = search needs
+
+mul-put-line-2 : tie.Need-mul-put-line-2 Inv-loop μ-loop
+mul-put-line-2 c = search needs
+
+shared-slice-read-put-line-2 : tie.Need-shared-slice-read-put-line-2 Inv-loop μ-loop
+shared-slice-read-put-line-2 c = search needs
+
+add-put-line-2 : tie.Need-add-put-line-2 Inv-loop μ-loop
+add-put-line-2 c = search needs
+
+mul-put-line-3 : tie.Need-mul-put-line-3 Inv-loop μ-loop
+mul-put-line-3 c = search needs
+
+shared-slice-read-put-line-3 : tie.Need-shared-slice-read-put-line-3 Inv-loop μ-loop
+shared-slice-read-put-line-3 c = search needs
+
+add-put-line-3 : tie.Need-add-put-line-3 Inv-loop μ-loop
+add-put-line-3 c = search needs
+
+mul-put-line-4 : tie.Need-mul-put-line-4 Inv-loop μ-loop
+mul-put-line-4 c = search needs
+
+shared-slice-read-put-line-4 : tie.Need-shared-slice-read-put-line-4 Inv-loop μ-loop
+shared-slice-read-put-line-4 c = search needs
+
+put-line-requires : tie.Need-put-line-requires Inv-loop μ-loop
+put-line-requires c κs = search needs
+
+add-b : tie.Need-add-b Inv-loop μ-loop
+add-b c = search needs
 
 loop-less : tie.Need-loop-less Inv-loop μ-loop
 loop-less c = search needs
@@ -52,11 +82,21 @@ put-bundles-spec =
     μ-loop
     loop-holds
     make-room-requires
-    cast-put-bundle
-    mul-put-bundle
-    array-copy-out-put-bundle
-    put-bundle-requires
-    add-i
+    mul-i
+    cast-put-line
+    mul-put-line
+    shared-slice-read-put-line
+    add-put-line
+    mul-put-line-2
+    shared-slice-read-put-line-2
+    add-put-line-2
+    mul-put-line-3
+    shared-slice-read-put-line-3
+    add-put-line-3
+    mul-put-line-4
+    shared-slice-read-put-line-4
+    put-line-requires
+    add-b
     loop-less
     loop-again
     same-length

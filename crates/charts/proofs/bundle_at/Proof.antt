@@ -1,7 +1,7 @@
 -- `charts::bundle_at` meets its contract: the entry is the tables' by definition. Assumes nothing.
 use mathlib.Core.Path.{refl}
 use borrow.Author.Needs.{needs}
-use Rattle.drawing.specs.Promise.{bundleAt}
+use Rattle.charts.specs.Entries.{bundleAt}
 use Rattle.charts.proofs.bundle_at.Statement.{statement}
 use Rattle.charts.proofs.bundle_at.Tie as tie
 

@@ -6,12 +6,12 @@ use denote.Struct.Laws as LL
 use denote.Triple.Spec.{tripleOf}
 use denote.Triple.Table.{entered, cited}
 use Rattle.lists.proofs.Fill.{Entry, fill-meets}
-use Rattle.drawing.specs.Promise.{bundleAt}
-use Rattle.drawing.proofs.Drawing as S
-use Rattle.drawing.proofs.Drawing.Laws as S′
+use Rattle.charts.specs.Entries.{bundleAt}
+use Rattle.charts.proofs.Sheet as S
+use Rattle.charts.proofs.Sheet.Laws as S′
 use Rattle.outline.proofs.BundleEntry as T
 use Rattle.outline.proofs.BundleEntry.Laws as T′
-use Rattle.charts.proofs.Source.{drawing}
+use Rattle.charts.proofs.Source.{sheet}
 use Rattle.charts.proofs.bundle_at.Symbol as entry-def
 use Rattle.charts.proofs.bundle_at.Symbol.{name as #entry}
 use Rattle.charts.proofs.bundle_at.Met as entry-thm
@@ -26,6 +26,6 @@ unfolding code.routine tablesOf
 fill-bundles-spec 𝓤 H 𝓜 𝓖 𝓡 =
     entered 𝓤 H (tripleOf 𝓤 H (𝓖 .A) f.signature (f.spec 𝓤 H (𝓖 .A) (𝓜 .mem) (𝓡 .run)))
     (tables 𝓤 H 𝓜 𝓡 code.env .C) (tables 𝓤 H 𝓜 𝓡 code.env .Λ) #fill code.function (code.unfolded 𝓤 H 𝓜 𝓡)
-    (fill-meets drawing T.the-type bundleAt 256 T′.the-laws #entry (spell m.table (pointee (S.the-row .written))) 𝓤 H (𝓖 .A) (givenOf 𝓤 H 𝓜 𝓖) tt
+    (fill-meets sheet T.the-type bundleAt 256 T′.the-laws #entry (spell m.table (pointee (S.the-row .written))) 𝓤 H (𝓖 .A) (givenOf 𝓤 H 𝓜 𝓖) tt
     (λ d is. LL.lawful S.the-type S′.the-laws 𝓤 H (𝓖 .A) (givenOf 𝓤 H 𝓜 𝓖) .typed d _ is .0) (tablesOf 𝓤 H 𝓜 (tables 𝓤 H 𝓜 𝓡 code.env))
-    (cited 𝓤 H (Entry drawing T.the-type bundleAt 256 𝓤 H (𝓖 .A)) 𝓜 𝓡 code.env #entry entry-def.routine code.calls-charts·bundle-at (entry-thm.met 𝓤 H 𝓜 𝓖 𝓡)))
+    (cited 𝓤 H (Entry sheet T.the-type bundleAt 256 𝓤 H (𝓖 .A)) 𝓜 𝓡 code.env #entry entry-def.routine code.calls-charts·bundle-at (entry-thm.met 𝓤 H 𝓜 𝓖 𝓡)))

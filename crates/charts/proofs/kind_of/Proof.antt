@@ -1,6 +1,6 @@
 -- `charts::kind_of` meets its contract: each return rewrites with the tests that led there. Assumes nothing.
 use borrow.Author.Tests.{eq-eqb, ne-eqb}
-use Rattle.drawing.specs.Promise.{kindOf}
+use Rattle.kinds.specs.Codes.{kindOf}
 use Rattle.charts.proofs.kind_of.Statement.{statement}
 use Rattle.charts.proofs.kind_of.Tie as tie
 

@@ -1,7 +1,7 @@
 -- `charts::vertex_at` meets its contract: the entry is the tables' by definition. Assumes nothing.
 use mathlib.Core.Path.{refl}
 use borrow.Author.Needs.{needs}
-use Rattle.drawing.specs.Promise.{vertexAt}
+use Rattle.charts.specs.Entries.{vertexAt}
 use Rattle.charts.proofs.vertex_at.Statement.{statement}
 use Rattle.charts.proofs.vertex_at.Tie as tie
 

@@ -19,7 +19,7 @@ told-requires-2 c κs = search needs
 
 returns-2 : tie.Need-returns-2
 returns-2 c =
-    let test = c .before .before .before in
+    let test = c .before .before in
     asked-tail _ _ _ _ (test .before .before .read .ensures) _ (test .if1 .left) (c .before .if2 .taken) (c .told2 .ensures)
 
 told-requires-3 : tie.Need-told-requires-3
@@ -27,7 +27,7 @@ told-requires-3 c κs = search needs
 
 returns-3 : tie.Need-returns-3
 returns-3 c =
-    let test = c .before .before .before .before in
+    let test = c .before .before .before in
     asked-head _ _ _ _ (test .before .before .read .ensures) _ (test .if1 .left) (c .before .if3 .taken) (c .told3 .ensures)
 
 slice-aggregate-contains : tie.Need-slice-aggregate-contains
@@ -35,10 +35,10 @@ slice-aggregate-contains c = search needs
 
 mul-contains : tie.Need-mul-contains
 mul-contains c =
-    let second = c .before .before .before .before in
-    let test = second .before .before in
+    let second = c .before .before .before in
+    let test = second .before in
     let l = few _ _ (test .before .before .read .ensures) (test .if1 .left) in
-    omega (arith, l, second .if2 .left, c .before .before .before .if3 .left)
+    omega (arith, l, second .if2 .left, c .before .before .if3 .left)
 
 contains-requires : tie.Need-contains-requires
 contains-requires c κs = search needs
@@ -48,9 +48,9 @@ told-requires-4 c κs = search needs
 
 returns-4 : tie.Need-returns-4
 returns-4 c =
-    let third = c .before .before .before .before .before in
+    let third = c .before .before .before .before in
     let second = third .before in
-    let test = second .before .before in
+    let test = second .before in
     asked-known _ _ _ _ (test .before .before .read .ensures) _ (test .if1 .left) (second .if2 .left) (third .if3 .left) _ (c .before .contains .ensures) (c .told4 .ensures)
 
 pub ceviloneth-leads-spec : {M : Type 1} → statement M

@@ -1,16 +1,18 @@
--- `geometry::hit_among` meets its contract: no vertex passed lies inside. Assumes nothing.
-use Prim.Native.Nat.{_-_}
+-- `geometry::hit_among` meets its contract: no vertex passed lies strictly inside. Assumes nothing.
+use native.Mathlib.Omega.{arith}
+use lib.Count.{trailing-le}
 use Rattle.geometry.specs.Segment.{pointOf}
-use Rattle.geometry.proofs.Tests.{Passed, passed-none, passed-more, passed-all, blocked-at}
+use Rattle.masks.proofs.Visiting.{Visited, visited-none, visited-more, visited-less}
+use Rattle.geometry.proofs.Among.{Missed, struck-here, struck-none}
 use borrow.Author.Needs.{needs}
 use Rattle.geometry.proofs.hit_among.Statement.{statement}
 use Rattle.geometry.proofs.hit_among.Tie as tie
 
 abbrev Inv-loop : tie.InvT-loop
-Inv-loop columns rows n tail head ax ay bx by v₀ v = Passed (pointOf columns rows) tail head v
+Inv-loop mask base columns rows n tail head ax ay bx by x₀ x = Visited mask x (Missed mask base (pointOf columns rows) n tail head)
 
 abbrev μ-loop : tie.MeasureT-loop
-μ-loop columns rows n tail head ax ay bx by v₀ v = n - v
+μ-loop mask base columns rows n tail head ax ay bx by x₀ x = x
 
 mul-ax : tie.Need-mul-ax Inv-loop μ-loop
 mul-ax c = search needs
@@ -31,10 +33,16 @@ shared-slice-read-by : tie.Need-shared-slice-read-by Inv-loop μ-loop
 shared-slice-read-by c = search needs
 
 loop-holds : tie.Need-loop-holds Inv-loop μ-loop
-loop-holds c = passed-none _ _ _
+loop-holds c = visited-none _ _ (search needs)
 
-add-next : tie.Need-add-next Inv-loop μ-loop
-add-next c = search needs
+cast-w : tie.Need-cast-w Inv-loop μ-loop
+cast-w c = omega (arith, trailing-le 64 (c .before .loop .x))
+
+add-w : tie.Need-add-w Inv-loop μ-loop
+add-w c = omega (arith, trailing-le 64 (c .before .loop .x))
+
+sub-rest : tie.Need-sub-rest Inv-loop μ-loop
+sub-rest c = search needs
 
 mul-inside : tie.Need-mul-inside Inv-loop μ-loop
 mul-inside c = search needs
@@ -49,16 +57,28 @@ inside-requires : tie.Need-inside-requires Inv-loop μ-loop
 inside-requires c κs = search needs
 
 returns : tie.Need-returns Inv-loop μ-loop
-returns c = blocked-at _ _ _ _ _ (search needs) (search needs) (search needs) (c .before .inside .ensures .holds (c .if1 .taken))
+returns c =
+    let i = c .before .before .before .before .before in
+    struck-here _ _ _ _ _ _ _ (i .before .loop .inv) (i .loop-test .taken) (search needs) (c .before .inside .ensures .holds (c .if2 .taken))
 
 loop-less : tie.Need-loop-less Inv-loop μ-loop
-loop-less c = search needs
+loop-less c =
+    let i = c .before .before .before .before .before in
+    visited-less _ _ _ (i .before .loop .inv) (i .loop-test .taken)
 
 loop-again : tie.Need-loop-again Inv-loop μ-loop
-loop-again c = passed-more _ _ _ _ (c .before .before .before .before .before .loop .inv) (c .before .inside .ensures .fails (c .if1 .left))
+loop-again c =
+    let i = c .before .before .before .before .before in
+    visited-more _ _ _ (i .before .loop .inv) (i .loop-test .taken) _ (λ j p. p) (λ _. c .before .inside .ensures .fails (c .if2 .left))
+
+loop-less-2 : tie.Need-loop-less-2 Inv-loop μ-loop
+loop-less-2 c = visited-less _ _ _ (c .before .before .loop .inv) (c .before .loop-test .taken)
+
+loop-again-2 : tie.Need-loop-again-2 Inv-loop μ-loop
+loop-again-2 c = visited-more _ _ _ (c .before .before .loop .inv) (c .before .loop-test .taken) _ (λ j p. p) (λ l. absurd (omega arith))
 
 returns-2 : tie.Need-returns-2 Inv-loop μ-loop
-returns-2 c = passed-all _ _ _ _ _ (search needs) (c .before .loop .inv)
+returns-2 c = struck-none _ _ _ _ _ _ _ (c .before .loop .inv) (c .loop-test .left)
 
 pub hit-among-spec : {M : Type 1} → statement M
 hit-among-spec =
@@ -73,7 +93,9 @@ hit-among-spec =
     shared-slice-read-bx
     shared-slice-read-by
     loop-holds
-    add-next
+    cast-w
+    add-w
+    sub-rest
     mul-inside
     shared-slice-read-inside
     shared-slice-read-inside-2
@@ -81,4 +103,6 @@ hit-among-spec =
     returns
     loop-less
     loop-again
+    loop-less-2
+    loop-again-2
     returns-2)

@@ -4,7 +4,7 @@ use native.Mathlib.Omega.{arith}
 use borrow.Author.Needs.{needs}
 use Rattle.lists.specs.Filled.{Filled}
 use Rattle.embed.specs.State.{sessionBy, stateNumber}
-use Rattle.embed.proofs.Filling.{filled-none, filled-more, filled-all}
+use Rattle.lists.proofs.Stores.{filled-none, filled-more, filled-all}
 use Rattle.embed.proofs.Spelling.{stored}
 use Rattle.embed.proofs.state.fill_state.Statement.{statement}
 use Rattle.embed.proofs.state.fill_state.Tie as tie

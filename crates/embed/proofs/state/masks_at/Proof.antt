@@ -5,7 +5,7 @@ use native.Mathlib.Omega.{arith}
 use lib.ListN.{getD, replicate}
 use borrow.Author.Needs.{needs}
 use Rattle.lists.specs.Filled.{Filled}
-use Rattle.embed.proofs.Filling.{filled-none, filled-more}
+use Rattle.lists.proofs.Stores.{filled-none, filled-more}
 use Rattle.embed.proofs.Spelling.{copied}
 use Rattle.embed.proofs.state.masks_at.Statement.{statement}
 use Rattle.embed.proofs.state.masks_at.Tie as tie

@@ -1,61 +1,99 @@
-use mathlib.Core.Path.{_≡_, sym, ap, _∙_, subst}
-use Rattle.record.specs.Checks.{content, looseRefusal, refusalOf, refusedBy, Judged}
-use Rattle.record.proofs.Judging.{judged-refused, loosely-refused, later-same}
+use mathlib.Core.Path.{refl}
 use borrow.Author.Needs.{needs}
+use Rattle.record.proofs.Checking.{edges-fail, channels-fail, all-pass}
 use Rattle.record.proofs.checks.check.Statement.{statement}
 use Rattle.record.proofs.checks.check.Tie as tie
 
-check-loose-requires : tie.Need-check-loose-requires
-check-loose-requires c κs = search needs
+descend-requires : tie.Need-descend-requires
+descend-requires c κs = search needs
 
-returns : tie.Need-returns
-returns c =
-    let a = c .before .before .before .before .before .before .args in
-    let n = a .n in
-    let tails = a .tails .now in
-    let heads = a .heads .now in
-    let field = a .field .now in
-    let x = content n tails heads (a .given) field in
-    let v = c .before .before .check-loose in
-    let refused : looseRefusal x ≡ 0 → ⊥ = λ z. c .if1 .taken (v .ensures .answer ∙ z) in
-    let same = loosely-refused n tails heads (a .given) field refused in
-    record { answer = v .ensures .answer ∙ sym same; reach = λ z. absurd (refused (sym same ∙ z)); none = λ h. v .ensures .none refused ∙ ap refusedBy (sym same) }
-
-later-refusal-requires : tie.Need-later-refusal-requires
-later-refusal-requires c κs = search needs
+first-of-requires : tie.Need-first-of-requires
+first-of-requires c κs = search needs
 
 refused-requires : tie.Need-refused-requires
 refused-requires c κs = search needs
 
+same-length : tie.Need-same-length
+same-length c = search needs
+
+same-length-2 : tie.Need-same-length-2
+same-length-2 c = search needs
+
+same-length-3 : tie.Need-same-length-3
+same-length-3 c = search needs
+
+same-length-4 : tie.Need-same-length-4
+same-length-4 c = search needs
+
+returns : tie.Need-returns
+returns c =
+    let d = c .before .before .before .before .before .before .before .before .before .before .before .before in
+    let a = d .before .before .before .before .before .before .before .before .before .before .before .args in
+    edges-fail _ _ (a .given) (a .field .now) _ _ _ _ _ _ _ _ _ (d .descend .ensures) _ _ (c .before .before .if1 .taken) (c .before .first-of .ensures) (c .refused .ensures)
+
+channels-of-requires : tie.Need-channels-of-requires
+channels-of-requires c κs = search needs
+
+refused-requires-2 : tie.Need-refused-requires-2
+refused-requires-2 c κs = search needs
+
+same-length-5 : tie.Need-same-length-5
+same-length-5 c = search needs
+
+same-length-6 : tie.Need-same-length-6
+same-length-6 c = search needs
+
+same-length-7 : tie.Need-same-length-7
+same-length-7 c = search needs
+
+same-length-8 : tie.Need-same-length-8
+same-length-8 c = search needs
+
 returns-2 : tie.Need-returns-2
 returns-2 c =
-    let a = c .before .before .before .before .before .before .before .before .before .before .before .args in
-    let n = a .n in
-    let tails = a .tails .now in
-    let heads = a .heads .now in
-    let field = a .field .now in
-    let x = content n tails heads (a .given) field in
-    let v = c .before .before .before .before .before .before .before .check-loose in
-    let passes : looseRefusal x ≡ 0 = sym (v .ensures .answer) ∙ c .before .before .before .before .before .if1 .left in
-    let closure = v .ensures .reach passes in
-    let k = c .before .before .later-refusal in
-    subst (Judged x (refusalOf x)) (sym (c .refused .ensures))
-    (judged-refused x (k .result) (refusalOf x) (c .before .if2 .taken) (later-same n tails heads (a .given) field (v .result .reach) passes closure ∙ sym (k .ensures)))
+    let d = c .before .before .before .before .before .before .before .before .before .before .before .before .before .before .before in
+    let a = d .before .before .before .before .before .before .before .before .before .before .before .args in
+    channels-fail _ _ (a .given) (a .field .now) _ _ _ _ _ _ _ _ _ (d .descend .ensures) (c .before .before .before .before .before .if1 .left) _ (c .before .before .before .channels-of .ensures) _ (c .before .if2 .taken) (c .refused2 .ensures)
+
+same-length-9 : tie.Need-same-length-9
+same-length-9 c = search needs
+
+same-length-10 : tie.Need-same-length-10
+same-length-10 c = search needs
+
+same-length-11 : tie.Need-same-length-11
+same-length-11 c = search needs
+
+same-length-12 : tie.Need-same-length-12
+same-length-12 c = search needs
 
 returns-3 : tie.Need-returns-3
 returns-3 c =
-    let a = c .before .before .before .before .before .before .before .before .before .before .args in
-    let n = a .n in
-    let tails = a .tails .now in
-    let heads = a .heads .now in
-    let field = a .field .now in
-    let x = content n tails heads (a .given) field in
-    let v = c .before .before .before .before .before .before .check-loose in
-    let passes : looseRefusal x ≡ 0 = sym (v .ensures .answer) ∙ c .before .before .before .before .if1 .left in
-    let closure = v .ensures .reach passes in
-    let k = c .before .later-refusal in
-    let sound : refusalOf x ≡ 0 = later-same n tails heads (a .given) field (v .result .reach) passes closure ∙ sym (k .ensures) ∙ c .if2 .left in
-    record { answer = v .ensures .answer ∙ passes ∙ sym sound; reach = λ z. closure; none = λ h. absurd (h sound) }
+    let d = c .before .before .before .before .before .before .before .before .before .before .before .before .before .before .before .before in
+    let a = d .before .before .before .before .before .before .before .before .before .before .before .args in
+    all-pass _ _ (a .given) (a .field .now) _ _ _ _ _ _ _ _ _ (d .descend .ensures) (c .before .before .before .before .before .before .if1 .left) _ (c .before .before .before .before .channels-of .ensures) _ (c .before .before .if2 .left) refl
 
 pub check-spec : {M : Type 1} → statement M
-check-spec = tie.close (tie.spec check-loose-requires returns later-refusal-requires refused-requires returns-2 returns-3)
+check-spec =
+    tie.close
+    (tie.spec
+    descend-requires
+    first-of-requires
+    refused-requires
+    same-length
+    same-length-2
+    same-length-3
+    same-length-4
+    returns
+    channels-of-requires
+    refused-requires-2
+    same-length-5
+    same-length-6
+    same-length-7
+    same-length-8
+    returns-2
+    same-length-9
+    same-length-10
+    same-length-11
+    same-length-12
+    returns-3)

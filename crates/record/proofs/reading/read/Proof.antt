@@ -1,97 +1,118 @@
 use mathlib.Core.Path.{_≡_, refl, sym, _∙_}
 use native.Mathlib.Omega.{arith}
-use Rattle.record.specs.Checks.{refusalOf}
-use Rattle.record.specs.Reading.{contentOf}
-use Rattle.record.proofs.Standing.{layout-good}
-use Rattle.record.proofs.Readings.{unread-reads, good-refusal, read-reads, few-edges, lines-few, read-held}
-use Rattle.record.proofs.Loosely.{loosely-first, loosely-passed, later-number}
+use Rattle.record.specs.declared.layout.Layout.the-variants.{Good}
+use Rattle.record.specs.Layout.{layoutOf}
+use Rattle.record.proofs.Standing.{LaidOut, layout-good}
+use Rattle.record.proofs.Readings.{bad-refusal, unread-reads}
+use Rattle.record.proofs.Handing.{read-refused, read-passed}
 use borrow.Author.Needs.{needs}
 use Rattle.record.proofs.reading.read.Statement.{statement}
 use Rattle.record.proofs.reading.read.Tie as tie
 
-read-loose-requires : tie.Need-read-loose-requires
-read-loose-requires c κs = search needs
+-- the fields that were found stand as they must
+good : (c : tie.After-layout) → layoutOf (c .before .before .before .before .args .b .now) ≡ Good (c .layout .given .0 .0)
+good c = sym (c .before .before .layout-of .ensures) ∙ c .layout .given .1
+
+laid : (c : tie.After-layout) → LaidOut (c .before .before .before .before .args .b .now) (c .layout .given .0 .0)
+laid c = layout-good _ _ (good c)
+
+layout-of-requires : tie.Need-layout-of-requires
+layout-of-requires c κs = search needs
+
+enum-known-layout : tie.Need-enum-known-layout
+enum-known-layout c = search needs
+
+enum-told : tie.Need-enum-told
+enum-told c = search needs
 
 unread-requires : tie.Need-unread-requires
 unread-requires c κs = search needs
 
 returns : tie.Need-returns
 returns c =
-    let b = c .before .before .before .before .before .args .b .now in
-    let loose = c .before .before .before .read-loose in
-    let no = c .before .if1 .taken in
-    unread-reads b (loose .result .refusal) (c .unread .result) (loosely-first b (λ z. no (loose .ensures .answer ∙ z)) ∙ sym (loose .ensures .answer)) no (c .unread .ensures)
+    let st = c .before .before .before in
+    unread-reads (st .before .before .args .b .now) 1 _ (bad-refusal _ (sym (st .layout-of .ensures) ∙ c .before .enum-told .given .1)) (λ z. absurd (omega arith)) (c .unread .ensures)
 
--- the fields of a record that passes 1 to 4 stand within it
+mul-to : tie.Need-mul-to
+mul-to c = omega (arith, laid (c .before .before) .edges)
+
+add-to : tie.Need-add-to
+add-to c = omega (arith, laid (c .before .before) .edges)
+
 add-end : tie.Need-add-end
-add-end c =
-    let b = c .before .before .before .before .before .before .args .b .now in
-    let loose = c .before .before .before .before .read-loose in
-    let p = loosely-passed b (loose .result) (loose .ensures) (c .before .before .if1 .left) in
-    omega (arith, layout-good b (loose .result .fields) (p .good) .lines)
+add-end c = omega (arith, laid (c .before .before .before) .lines)
 
-sub-later-refusal : tie.Need-sub-later-refusal
-sub-later-refusal c = search needs
+sub-check : tie.Need-sub-check
+sub-check c = search needs
 
-part-later-refusal-start : tie.Need-part-later-refusal-start
-part-later-refusal-start c = search needs
+part-check-start : tie.Need-part-check-start
+part-check-start c = search needs
 
-part-later-refusal-end : tie.Need-part-later-refusal-end
-part-later-refusal-end c =
-    let b = c .before .before .before .before .before .before .before .args .b .now in
-    let loose = c .before .before .before .before .before .read-loose in
-    let p = loosely-passed b (loose .result) (loose .ensures) (c .before .before .before .if1 .left) in
-    omega (arith, layout-good b (loose .result .fields) (p .good) .lines)
+part-check-end : tie.Need-part-check-end
+part-check-end c = omega (arith, laid (c .before .before .before) .edges)
 
-later-refusal-requires : tie.Need-later-refusal-requires
-later-refusal-requires c κs = search needs
+sub-check-2 : tie.Need-sub-check-2
+sub-check-2 c = search needs
+
+part-check-start-2 : tie.Need-part-check-start-2
+part-check-start-2 c = search needs
+
+part-check-end-2 : tie.Need-part-check-end-2
+part-check-end-2 c = omega (arith, laid (c .before .before .before .before) .lines)
+
+slice-aggregate-check : tie.Need-slice-aggregate-check
+slice-aggregate-check c = search needs
+
+slice-aggregate-check-2 : tie.Need-slice-aggregate-check-2
+slice-aggregate-check-2 c = search needs
+
+slice-aggregate-check-3 : tie.Need-slice-aggregate-check-3
+slice-aggregate-check-3 c = search needs
+
+slice-aggregate-check-4 : tie.Need-slice-aggregate-check-4
+slice-aggregate-check-4 c = search needs
+
+check-requires : tie.Need-check-requires
+check-requires c κs = search needs
 
 unread-requires-2 : tie.Need-unread-requires-2
 unread-requires-2 c κs = search needs
 
 returns-2 : tie.Need-returns-2
 returns-2 c =
-    let b = c .before .before .before .before .before .before .before .before .before .before .before .args .b .now in
-    let loose = c .before .before .before .before .before .before .before .before .before .read-loose in
-    let p = loosely-passed b (loose .result) (loose .ensures) (c .before .before .before .before .before .before .before .if1 .left) in
-    let k = c .before .before .later-refusal in
-    unread-reads b (k .result) (c .unread2 .result) (later-number b (loose .result) p (k .result) (k .ensures)) (c .before .if2 .taken) (c .unread2 .ensures)
-
-lines-at-requires : tie.Need-lines-at-requires
-lines-at-requires c κs =
-    let b = c .before .before .before .before .before .before .before .before .before .before .args .b .now in
-    let loose = c .before .before .before .before .before .before .before .before .read-loose in
-    let p = loosely-passed b (loose .result) (loose .ensures) (c .before .before .before .before .before .before .if1 .left) in
-    let k = c .before .later-refusal in
-    let f = loose .result .fields in
-    let laid = layout-good b f (p .good) in
-    (laid .lines, lines-few b f laid (sym (good-refusal b f (p .good)) ∙ later-number b (loose .result) p (k .result) (k .ensures) ∙ c .if2 .left))
+    let k = c .before .before .before .before .before .before .before in
+    let l = k .before .before .before .before .before .before .before .before .before .before in
+    read-refused _ _ (good l) _ _ _ _ _ (k .check .ensures) (c .before .if1 .taken) _ (c .unread2 .ensures)
 
 returns-3 : tie.Need-returns-3
 returns-3 c =
-    let b = c .before .before .before .before .before .before .before .before .before .before .before .before .before .before .args .b .now in
-    let loose = c .before .before .before .before .before .before .before .before .before .before .before .before .read-loose in
-    let p = loosely-passed b (loose .result) (loose .ensures) (c .before .before .before .before .before .before .before .before .before .before .if1 .left) in
-    let lines = c .before .before .before .lines-at in
-    let k = c .before .before .before .before .before .later-refusal in
-    let f = loose .result .fields in
-    let laid = layout-good b f (p .good) in
-    let ok : refusalOf (contentOf b f) ≡ 0 = sym (good-refusal b f (p .good)) ∙ later-number b (loose .result) p (k .result) (k .ensures) ∙ c .before .before .before .before .if2 .left in
-    read-reads b f _ (p .good) ok refl (read-held b f laid (loose .result .edges) (lines .result) (few-edges b f laid (p .passes)) (p .edged) (lines .ensures)) (p .closure)
+    let k = c .before .before .before .before .before .before in
+    let l = k .before .before .before .before .before .before .before .before .before .before in
+    read-passed _ _ (good l) _ _ _ _ _ (k .check .ensures) (c .if1 .left) _ refl
 
 pub read-spec : {M : Type 1} → statement M
 read-spec =
     tie.close
     (tie.spec
-    read-loose-requires
+    layout-of-requires
+    enum-known-layout
+    enum-told
     unread-requires
     returns
+    mul-to
+    add-to
     add-end
-    sub-later-refusal
-    part-later-refusal-start
-    part-later-refusal-end
-    later-refusal-requires
+    sub-check
+    part-check-start
+    part-check-end
+    sub-check-2
+    part-check-start-2
+    part-check-end-2
+    slice-aggregate-check
+    slice-aggregate-check-2
+    slice-aggregate-check-3
+    slice-aggregate-check-4
+    check-requires
     unread-requires-2
     returns-2
-    lines-at-requires
     returns-3)

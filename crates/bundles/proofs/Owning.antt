@@ -1,0 +1,210 @@
+-- The masks of each channel's vertices: how they are filled, and which edges out of a vertex they leave; and how a loop finds that there is
+-- none to bundle. Assumes nothing.
+use mathlib.Core.Path.{_≡_, sym, ap, _∙_, subst}
+use mathlib.Core.Logic.{⊎-elim}
+use mathlib.Core.Bool.{Bool, true, false, not, _&&_}
+use mathlib.Core.List.{List}
+use Prim.Native.Nat.{ℕ, _+_, _-_, _*_, _/_, _%_, _^_, _≤_, _<_, min}
+use native.Mathlib.Nat.{not-suc-le-zero}
+use native.Mathlib.Decide.{ℕ-discrete}
+use native.Mathlib.Omega.{arith}
+use borrow.Author.Tests.{eq-eqb, eqb-true, lt-ltb, le-ltb, ltb-true}
+use lib.Bits.{bitAnd, bitOr}
+use lib.Dec.{eqb, ltb}
+use lib.ListN.{getD, set, replicate, length-replicate}
+use Rattle.counting.proofs.Truth.{true-or-false, lt-or-le, and-intro, and-elim, same-truth}
+use Rattle.counting.proofs.Booleans.{and-no}
+use Rattle.masks.specs.Bits.{bit}
+use Rattle.masks.proofs.Bits.{bit-and, one-shl}
+use Rattle.masks.specs.Sets.{member, member?, at, inserted}
+use Rattle.masks.proofs.Sets.{inserted-length, member-lt}
+use Rattle.masks.proofs.Tables.{at-zeros, Put, put-law}
+use Rattle.bundles.specs.Sides.{adjacent?, apart?, tableSide?}
+use Rattle.bundles.specs.Steps.{Owned, Part, lowSide}
+
+-- a bit is set in a mask as the code does it
+pub stored : (s : List ℕ) (first v : ℕ) → set s (first + v / 64)
+    (bitOr (getD s (first + v / 64) 0) ((1 * 2 ^ (v % 64)) % 2 ^ 64)) ≡ inserted s first v
+unfolding inserted
+stored s first v = ap (λ (x : ℕ). set s (first + v / 64) (bitOr (getD s (first + v / 64) 0) x)) (one-shl (v % 64) (omega arith))
+
+-- ---- the table is filled
+
+pub owned-none : (channel : List ℕ) → Owned channel 0 (replicate 256 0)
+unfolding at
+owned-none channel = record {
+  size = length-replicate {A = ℕ} 256 0;
+  only = λ c v h l e. absurd (let z = at-zeros 2 256 c v in omega arith);
+  all = λ c v h l. absurd (not-suc-le-zero l);
+}
+
+module _ (channel own : List ℕ) (j : ℕ) (o : Owned channel j own) where
+  -- the channel of j is not below 128
+  pub owned-skip : 128 ≤ getD channel j 0 → Owned channel (j + 1) own
+  owned-skip high = record {
+    size = o .size;
+    only = λ c v h l e. let p = o .only c v h l e in (omega arith, p .1);
+    all = λ c v h l e. ⊎-elim
+        (λ k. o .all c v h k e)
+        (λ k. absurd (let q = ap (λ (u : ℕ). getD channel u 0) (let z : v ≡ j = omega arith in z) in omega arith))
+        (lt-or-le v j);
+  }
+
+  -- j is put into the masks of its channel
+  pub owned-put : j < 128 → getD channel j 0 < 128 → Owned channel (j + 1) (inserted own (2 * getD channel j 0) j)
+  unfolding at
+  owned-put low small = record {
+    size = inserted-length own (2 * getD channel j 0) j ∙ o .size;
+    only = λ c v h l e. only c v h l e (ℕ-discrete v j) (ℕ-discrete c (getD channel j 0));
+    all = λ c v h l e. ⊎-elim
+        (λ k. put .other c v (omega arith) (λ p q. omega arith) ∙ o .all c v h k e)
+        (λ k. last c v (let z : v ≡ j = omega arith in z) e)
+        (lt-or-le v j);
+  }
+    where
+      put : Put 2 own (getD channel j 0) j (inserted own (2 * getD channel j 0) j)
+      put = put-law 2 own (getD channel j 0) j low (let h = o .size in omega arith)
+
+      last : (c v : ℕ) → v ≡ j → getD channel v 0 ≡ c → member (inserted own (2 * getD channel j 0) j) (2 * c) v ≡ 1
+      last c v z e =
+          let q = ap (λ (u : ℕ). getD channel u 0) z in
+          let k : c ≡ getD channel j 0 = omega arith in
+          ap (λ (x : ℕ). member (inserted own (2 * getD channel j 0) j) (2 * x) v) k ∙ ap
+          (member (inserted own (2 * getD channel j 0) j) (2 * getD channel j 0)) z ∙ put .here
+
+      only : (c v : ℕ) → c < 128 → v < 128 → member (inserted own (2 * getD channel j 0) j) (2 * c) v ≡ 1 → Dec (v ≡ j) → Dec
+          (c ≡ getD channel j 0) → (v < j + 1) × (getD channel v 0 ≡ c)
+      only c v h l e (yes p) (yes q) = (omega arith, ap (λ (u : ℕ). getD channel u 0) p ∙ sym q)
+      only c v h l e (yes p) (no q) = absurd (let k = o .only c v h l (sym (put .other c v l (λ x y. q x)) ∙ e) .0 in omega arith)
+      only c v h l e (no p) q = let k = o .only c v h l (sym (put .other c v l (λ x y. p y)) ∙ e) in (omega arith, k .1)
+
+  -- the same as the code's loop takes it: k is the number of its channel
+  pub owned-more : (k : ℕ) → j < 128 → k ≡ getD channel j 0 → k < 128
+      → Owned channel (j + 1) (set own (2 * k + j / 64) (bitOr (getD own (2 * k + j / 64) 0) ((1 * 2 ^ (j % 64)) % 2 ^ 64)))
+  owned-more k low e small =
+      subst (Owned channel (j + 1)) (sym (stored own (2 * k) j ∙ ap (λ (x : ℕ). inserted own (2 * x) j) e)) (owned-put low (omega arith))
+
+-- ---- a channel's two masks
+
+-- a member of mask i of two
+pub as-bit : (s : List ℕ) (first i j : ℕ) → j < 64 → member s first (64 * i + j) ≡ bit (getD s (first + i) 0) j
+unfolding member
+as-bit s first i j l =
+    let x : (64 * i + j) / 64 ≡ i = omega arith in
+    let y : (64 * i + j) % 64 ≡ j = omega arith in
+    ap (λ (k : ℕ). bit (getD s (first + k) 0) ((64 * i + j) % 64)) x ∙ ap (bit (getD s (first + i) 0)) y
+
+module _ (n : ℕ) (small : n ≤ 128) (channel own : List ℕ) (o : Owned channel n own) (c : ℕ) (low : c < 128) where
+  pub owned-part : (i mask base : ℕ) → i < 2 → mask ≡ getD own (2 * c + i) 0 → base ≡ 64 * i → Part n channel c mask base
+  owned-part i mask base hi e z =
+      subst (Part n channel c mask) (sym z)
+      (record {
+        only = λ j l x. o .only c (64 * i + j) low (omega arith) (here j l ∙ x);
+        all = λ j l h q. sym (here j l) ∙ o .all c (64 * i + j) low h q;
+      })
+    where
+      here : (j : ℕ) → j < 64 → member own (2 * c) (64 * i + j) ≡ bit mask j
+      here j l = as-bit own (2 * c) i j l ∙ ap (λ (m : ℕ). bit m j) (sym e)
+
+  -- the edges out of u to its channel's vertices, without those next to it
+  module _ (edges position : List ℕ) (u : ℕ) (below : u < n) (c-is : c ≡ getD channel u 0) (i mask base : ℕ) (hi : i < 2)
+      (mask-is : mask ≡ bitAnd (getD edges (2 * u + i) 0) (getD own (2 * c + i) 0)) (base-is : base ≡ 64 * i) where
+    abbrev far : ℕ → Bool
+    far j = not (adjacent? (getD position u 0) (getD position (base + j) 0))
+
+    both : (j : ℕ) → j < 64 → bit mask j ≡ min (member edges (2 * u) (base + j)) (member own (2 * c) (base + j))
+    both j l =
+        ap (λ (m : ℕ). bit m j) mask-is
+        ∙ bit-and (getD edges (2 * u + i) 0) (getD own (2 * c + i) 0) j
+        ∙ sym (ap (λ (b : ℕ). min (member edges (2 * u) (b + j)) (member own (2 * c) (b + j))) base-is ∙ ap
+        (λ (x : ℕ). min x (member own (2 * c) (64 * i + j))) (as-bit edges (2 * u) i j l) ∙ ap
+        (min (bit (getD edges (2 * u + i) 0) j)) (as-bit own (2 * c) i j l))
+
+    pub masked : (j : ℕ) → j < 64 → lowSide n edges channel position u (base + j) ≡ (eqb (bit mask j) 1 && far j)
+    unfolding lowSide tableSide? apart?
+    masked j l = same-truth _ (eqb (bit mask j) 1 && far j) there back
+      where
+        there : lowSide n edges channel position u (base + j) ≡ true → (eqb (bit mask j) 1 && far j) ≡ true
+        there t =
+            let p = and-elim (member? edges (2 * u) (base + j) &&
+            ((ltb u n && ltb (base + j) n) && (eqb (getD channel u 0) (getD channel (base + j) 0) && far j)))
+            (ltb (getD channel u 0) 128) t .0 in
+            let q = and-elim (member? edges (2 * u) (base + j)) ((ltb u n && ltb (base + j) n) &&
+            (eqb (getD channel u 0) (getD channel (base + j) 0) && far j)) p in
+            let r = and-elim (ltb u n && ltb (base + j) n) (eqb (getD channel u 0) (getD channel (base + j) 0) && far j) (q .1) in
+            let s = and-elim (eqb (getD channel u 0) (getD channel (base + j) 0)) (far j) (r .1) in
+            let h = ltb-true (base + j) n (and-elim (ltb u n) (ltb (base + j) n) (r .0) .1) in
+            let e = eqb-true (getD channel u 0) (getD channel (base + j) 0) (s .0) in
+            let m = eqb-true (member edges (2 * u) (base + j)) 1 (q .0) in
+            let k = o .all c (base + j) low h (omega arith) in
+            let b = both j l in
+            and-intro (eqb (bit mask j) 1) (far j) (eq-eqb (bit mask j) 1 (omega arith)) (s .1)
+
+        back : (eqb (bit mask j) 1 && far j) ≡ true → lowSide n edges channel position u (base + j) ≡ true
+        back t =
+            let p = and-elim (eqb (bit mask j) 1) (far j) t in
+            let b = both j l in
+            let m = eqb-true (bit mask j) 1 (p .0) in
+            let x = member-lt edges (2 * u) (base + j) in
+            let y = member-lt own (2 * c) (base + j) in
+            let w = o .only c (base + j) low (omega arith) (omega arith) in
+            let w1 = w .1 in
+            and-intro _ (ltb (getD channel u 0) 128)
+            (and-intro (member? edges (2 * u) (base + j)) _ (eq-eqb (member edges (2 * u) (base + j)) 1 (omega arith))
+            (and-intro (ltb u n && ltb (base + j) n) _
+            (and-intro (ltb u n) (ltb (base + j) n) (lt-ltb u n below) (lt-ltb (base + j) n (w .0)))
+            (and-intro (eqb (getD channel u 0) (getD channel (base + j) 0)) (far j)
+            (eq-eqb (getD channel u 0) (getD channel (base + j) 0) (omega arith)) (p .1))))
+            (lt-ltb (getD channel u 0) 128 (omega arith))
+
+-- no edge out of u is bundled where its channel is not below 128
+pub high-channel : (n : ℕ) (edges channel position : List ℕ) (u : ℕ) → 128 ≤ getD channel u 0 → (v : ℕ)
+    → lowSide n edges channel position u v ≡ false
+unfolding lowSide
+high-channel n edges channel position u h v =
+    ap (λ t. tableSide? n edges (λ w. getD channel w 0) (λ w. getD position w 0) u v && t) (le-ltb (getD channel u 0) 128 h)
+    ∙ and-no (tableSide? n edges (λ w. getD channel w 0) (λ w. getD position w 0) u v)
+
+-- ---- no edge out of the vertices before u, as the loop that looks for one takes it
+
+pub record NoSide (n : ℕ) (edges channel position : List ℕ) (u : ℕ) : Type 0 where
+  pub none : (a v : ℕ) → a < u → v < n → tableSide? n edges (λ w. getD channel w 0) (λ w. getD position w 0) a v ≡ false
+
+pub no-side-start : (n : ℕ) (edges channel position : List ℕ) → NoSide n edges channel position 0
+no-side-start n edges channel position = record { none = λ a v l. absurd (not-suc-le-zero l) }
+
+module _ (n : ℕ) (edges channel position : List ℕ) (u : ℕ) where
+  -- v is of u's channel and not next to it
+  abbrev far-from-u : ℕ → Bool
+  far-from-u v = eqb (getD channel u 0) (getD channel v 0) && not (adjacent? (getD position u 0) (getD position v 0))
+
+  -- where mask i has no such vertex, there is no edge into one of its 64
+  no-side-mask : (i mask : ℕ) → mask ≡ getD edges (2 * u + i) 0 → ((j : ℕ) → bit mask j ≡ 1 → far-from-u (64 * i + j) ≡ false)
+      → (j : ℕ) → j < 64 → tableSide? n edges (λ w. getD channel w 0) (λ w. getD position w 0) u (64 * i + j) ≡ false
+  unfolding tableSide? apart?
+  no-side-mask i mask e h j l =
+      ⊎-elim
+      (λ t. ap (λ s. member? edges (2 * u) (64 * i + j) && ((ltb u n && ltb (64 * i + j) n) && s))
+      (h j (ap (λ (m : ℕ). bit m j) e ∙ sym (as-bit edges (2 * u) i j l) ∙ eqb-true _ 1 t))
+      ∙ ap (λ s. member? edges (2 * u) (64 * i + j) && s) (and-no (ltb u n && ltb (64 * i + j) n))
+      ∙ and-no (member? edges (2 * u) (64 * i + j)))
+      (λ t. ap (λ s. s && ((ltb u n && ltb (64 * i + j) n) && far-from-u (64 * i + j))) t)
+      (true-or-false (member? edges (2 * u) (64 * i + j)))
+
+  -- nor out of u, where neither of its two masks has a vertex of its channel that is not next to it
+  pub no-side-more : n ≤ 128 → NoSide n edges channel position u → (low high : ℕ) → low ≡ getD edges (2 * u + 0) 0
+      → high ≡ getD edges (2 * u + 1) 0 → ((j : ℕ) → bit low j ≡ 1 → far-from-u (0 + j) ≡ false)
+      → ((j : ℕ) → bit high j ≡ 1 → far-from-u (64 + j) ≡ false) → NoSide n edges channel position (u + 1)
+  no-side-more small o low high a b f g = record {
+    none = λ a v l m. ⊎-elim (λ k. o .none a v k m) (λ k. ap (λ (x : ℕ). side x v) (let e : a ≡ u = omega arith in e) ∙ out v m)
+        (lt-or-le a u);
+  }
+    where
+      side : ℕ → ℕ → Bool
+      side x v = tableSide? n edges (λ w. getD channel w 0) (λ w. getD position w 0) x v
+
+      out : (v : ℕ) → v < n → side u v ≡ false
+      out v m = ⊎-elim
+          (λ k. ap (side u) (let e : v ≡ 64 * 0 + v = omega arith in e) ∙ no-side-mask 0 low a f v k)
+          (λ k. ap (side u) (let e : v ≡ 64 * 1 + (v - 64) = omega arith in e) ∙ no-side-mask 1 high b g (v - 64) (omega arith))
+          (lt-or-le v 64)

@@ -1,0 +1,64 @@
+-- Channels by a table and by a relation that agrees with it on the vertices below n: they are the same. Assumes nothing.
+use mathlib.Core.Path.{_≡_, refl, ap, ap₂, subst}
+use mathlib.Core.Bool.{Bool, true, false, not, _&&_, _||_}
+use mathlib.Core.List.{List, [], _∷_, _++_, flatten}
+use Prim.Native.Nat.{ℕ, _≤_, _<_}
+use lib.Dec.{leb}
+use borrow.Author.Tests.{leb-false}
+use Rattle.counting.specs.Count.{choose}
+use Rattle.counting.proofs.Truth.{or-neither}
+use Rattle.matching.specs.Lists.{linked, every, allLinked}
+use Rattle.matching.specs.Chains.{planned}
+use Rattle.matching.proofs.Same.{planned-same}
+use Rattle.channels.specs.Table.{leadsIn}
+use Rattle.channels.specs.Given.{linesOf, verticesOf, unknown?, repeats?, lacks?, broken?}
+use Rattle.channels.specs.Promise.{Answers, Plans, Gives, outsized?, planRefusal, givenRefusal}
+use Rattle.channels.specs.declared.Channels.{Channels}
+
+unknown-append : (n : ℕ) (l s : List ℕ) → unknown? n (l ++ s) ≡ false → (unknown? n l ≡ false) × (unknown? n s ≡ false)
+unfolding unknown?
+unknown-append n [] s e = (refl, e)
+unknown-append n (v ∷ l) s e =
+    let p = or-neither (leb n v) (unknown? n (l ++ s)) e in
+    let q = unknown-append n l s (p .1) in
+    (ap₂ (λ (a b : Bool). a || b) (p .0) (q .0), q .1)
+
+module _ (n : ℕ) (leads other : ℕ → ℕ → Bool) (same : (u v : ℕ) → u < n → v < n → leads u v ≡ other u v) where
+  linked-same : (l : List ℕ) → unknown? n l ≡ false → linked leads l ≡ linked other l
+  unfolding linked unknown?
+  linked-same [] e = refl
+  linked-same (x ∷ []) e = refl
+  linked-same (x ∷ y ∷ l) e =
+      let p = or-neither (leb n x) (leb n y || unknown? n l) e in
+      let q = or-neither (leb n y) (unknown? n l) (p .1) in
+      ap₂ (λ (a b : Bool). a && b) (same x y (leb-false n x (p .0)) (leb-false n y (q .0))) (linked-same (y ∷ l) (p .1))
+
+  pub all-linked-same : (ls : List (List ℕ)) → unknown? n (flatten ls) ≡ false → allLinked leads ls ≡ allLinked other ls
+  unfolding every flatten
+  all-linked-same [] e = refl
+  all-linked-same (l ∷ ls) e =
+      let p = unknown-append n l (flatten ls) e in
+      ap₂ (λ (a b : Bool). a && b) (linked-same l (p .0)) (all-linked-same ls (p .1))
+
+  -- given channels are refused alike
+  pub given-same : (field : List ℕ) → givenRefusal leads n field ≡ givenRefusal other n field
+  unfolding givenRefusal broken?
+  given-same field =
+      ap (λ (k : ℕ). choose (outsized? n) (λ _. 2) (λ _. k))
+      (go (unknown? n (verticesOf field)) (repeats? (verticesOf field) || lacks? n (verticesOf field)) (all-linked-same (linesOf field)))
+    where
+      rest : Bool → Bool → Bool → ℕ
+      rest b c linked = choose b (λ _. 3) (λ _. choose c (λ _. 6) (λ _. choose (not linked) (λ _. 7) (λ _. 0)))
+
+      go : (b c : Bool) → (b ≡ false → allLinked leads (linesOf field) ≡ allLinked other (linesOf field))
+          → rest b c (allLinked leads (linesOf field)) ≡ rest b c (allLinked other (linesOf field))
+      go true c f = refl
+      go false c f = ap (rest false c) (f refl)
+
+module _ (n : ℕ) (table : List ℕ) (other : ℕ → ℕ → Bool)
+    (same : (u v : ℕ) → u < n → v < n → leadsIn table u v ≡ other u v) (r : Channels) where
+  pub plans-same : n ≤ 128 → Plans n table r → Answers (planRefusal n) (planned other n) r
+  plans-same small = subst (λ (ls : List (List ℕ)). Answers (planRefusal n) ls r) (planned-same n (leadsIn table) other small same)
+
+  pub gives-same : (field : List ℕ) → Gives n table field r → Answers (givenRefusal other n field) (linesOf field) r
+  gives-same field = subst (λ (k : ℕ). Answers k (linesOf field) r) (given-same n (leadsIn table) other same field)

@@ -1,0 +1,168 @@
+-- `channels::walk` meets its contract: the bytes before i are looked at, and their channels laid. Assumes nothing.
+use mathlib.Core.Path.{refl, _∙_}
+use Prim.Native.Nat.{_-_, _≤_}
+use native.Mathlib.Omega.{arith}
+use lib.ListN.{length}
+use Rattle.channels.specs.Table.{leadsIn}
+use Rattle.channels.specs.Laid.{tables}
+use Rattle.channels.proofs.Walking.{Walking, walking-none, walking-length, walked-unknown, walking-more, walked-all}
+use Rattle.channels.proofs.Tabling.{Tabling, tabling-none, tabling-length, tabling-more, walks-refused, walks-all}
+use borrow.Author.Needs.{needs}
+use Rattle.channels.proofs.walk.Statement.{statement}
+use Rattle.channels.proofs.walk.Tie as tie
+
+abbrev Inv-loop : tie.InvT-loop
+Inv-loop n table field channel₀ position₀ order₀ starts₀ seen₀ fault₀ count₀ vertices₀ p₀ last₀ left₀ i₀ channel position order starts seen fault count vertices p last left i =
+    (i ≤ length field) × Walking (leadsIn table) n field i left last seen vertices fault
+    × Tabling n field i left p (tables count vertices channel position order starts)
+
+abbrev μ-loop : tie.MeasureT-loop
+μ-loop n table field channel₀ position₀ order₀ starts₀ seen₀ fault₀ count₀ vertices₀ p₀ last₀ left₀ i₀ channel position order starts seen fault count vertices p last left i = length field - i
+
+loop-holds : tie.Need-loop-holds Inv-loop μ-loop
+loop-holds c =
+    (omega arith, walking-none _ _ _, tabling-none _ _ _ _ _ _ (c .before .before .before .before .before .before .pre .2))
+
+shared-slice-read-wide : tie.Need-shared-slice-read-wide Inv-loop μ-loop
+shared-slice-read-wide c = search needs
+
+wide-requires : tie.Need-wide-requires Inv-loop μ-loop
+wide-requires c κs = search needs
+
+add-next : tie.Need-add-next Inv-loop μ-loop
+add-next c = search needs
+
+sub-fewer : tie.Need-sub-fewer Inv-loop μ-loop
+sub-fewer c = search needs
+
+same-length : tie.Need-same-length Inv-loop μ-loop
+same-length c = search needs
+
+same-length-2 : tie.Need-same-length-2 Inv-loop μ-loop
+same-length-2 c = search needs
+
+same-length-3 : tie.Need-same-length-3 Inv-loop μ-loop
+same-length-3 c = search needs
+
+same-length-4 : tie.Need-same-length-4 Inv-loop μ-loop
+same-length-4 c = search needs
+
+returns : tie.Need-returns Inv-loop μ-loop
+returns c =
+    let o = c .before .before .before .before .before in
+    let st = o .before .before .before .before .before .before .before in
+    let l = o .loop in
+    let here = c .before .before .before .before .loop-test .taken in
+    walks-refused _ _ _ _ _ _ _ _ refl
+    (walked-unknown _ _ _ (l .i) here (l .left) (l .last) (l .seen) (l .vertices) (l .fault) (l .inv .1)
+    _ (c .before .before .wide .ensures .0) (c .before .if1 .left) (st .pre .0) (st .pre .1) (c .if2 .taken))
+
+slice-aggregate-weigh : tie.Need-slice-aggregate-weigh Inv-loop μ-loop
+slice-aggregate-weigh c = search needs
+
+weigh-requires : tie.Need-weigh-requires Inv-loop μ-loop
+weigh-requires c κs = search needs
+
+lay-requires : tie.Need-lay-requires Inv-loop μ-loop
+lay-requires c κs =
+    let o = c .before .before .before .before .before .before .before .before .before .before .before .before in
+    let t = o .loop .inv .2 in
+    let v = c .before .before .before .before .before .before .before .if2 .left in
+    let small = o .before .before .before .before .before .before .before .pre .1 in
+    (t .sizes .0, t .sizes .1, t .sizes .2, t .sizes .3, t .lines, t .place, t .some, omega arith)
+
+add-vertices : tie.Need-add-vertices Inv-loop μ-loop
+add-vertices c = search needs
+
+add-p : tie.Need-add-p Inv-loop μ-loop
+add-p c = search needs
+
+loop-less : tie.Need-loop-less Inv-loop μ-loop
+loop-less c = search needs
+
+loop-again : tie.Need-loop-again Inv-loop μ-loop
+loop-again c =
+    let l = c .before .before .before .before .loop in
+    let here = c .before .before .before .loop-test .taken in
+    let byte = c .before .wide .ensures .0 in (
+      omega arith,
+      walking-length _ _ _ (l .i) here (l .left) (l .last) (l .seen) (l .vertices) (l .fault) (l .inv .1) _ byte (c .if1 .taken),
+      tabling-length _ _ (l .i) here (l .left) (l .p) _ (l .inv .2) _ byte (c .if1 .taken),
+    )
+
+loop-less-2 : tie.Need-loop-less-2 Inv-loop μ-loop
+loop-less-2 c = search needs
+
+loop-again-2 : tie.Need-loop-again-2 Inv-loop μ-loop
+loop-again-2 c =
+    let t = c .before .before .before .before .before .before .before .before .lay in
+    let w = c .before .before .before .before .before .before .before .before .before .before .before .before .before .before in
+    let y = w .before .before in
+    let d = y .before in
+    let byte = d .before .wide .ensures in
+    let h = d .before .before .before in
+    let l = h .before .loop in
+    let sizes = l .inv .2 .sizes in (
+      omega arith,
+      walking-more _ _ _ (l .i) (h .loop-test .taken) (l .left) (l .last) (l .seen) (l .vertices) (l .fault) (l .inv .1)
+          _ (byte .0) (d .if1 .left) (byte .1) _ (w .weigh .ensures .1) (y .if2 .left) (w .weigh .kept .1 .0 ∙ l .inv .1 .masks) _ (w .weigh .ensures .0),
+      tabling-more _ _ (l .i) (h .loop-test .taken) (l .left) (l .p) _ (l .inv .2) _ (byte .0) (d .if1 .left) _ refl
+          (t .kept .0 ∙ sizes .0, t .kept .1 .0 ∙ sizes .1, t .kept .1 .1 .0 ∙ sizes .2, t .kept .1 .1 .1 .0 ∙ sizes .3) (t .ensures),
+    )
+
+settle-requires : tie.Need-settle-requires Inv-loop μ-loop
+settle-requires c κs = search needs
+
+same-length-5 : tie.Need-same-length-5 Inv-loop μ-loop
+same-length-5 c = search needs
+
+same-length-6 : tie.Need-same-length-6 Inv-loop μ-loop
+same-length-6 c = search needs
+
+same-length-7 : tie.Need-same-length-7 Inv-loop μ-loop
+same-length-7 c = search needs
+
+same-length-8 : tie.Need-same-length-8 Inv-loop μ-loop
+same-length-8 c = search needs
+
+returns-2 : tie.Need-returns-2 Inv-loop μ-loop
+returns-2 c =
+    let o = c .before .before in
+    let st = o .before .before .before .before .before .before .before in
+    let l = o .loop in
+    let done = c .before .loop-test .left in
+    walks-all _ _ (st .pre .1) _ _ _ _ _ _ (l .i) (l .left) (l .p) (l .fault) (c .settle .ensures)
+    (walked-all _ _ _ (st .pre .0) (st .pre .1) (l .i) (l .left) (l .last) (l .seen) (l .vertices) (l .fault) (l .inv .1) done)
+    done (l .inv .2)
+
+pub walk-spec : {M : Type 1} → statement M
+walk-spec =
+    tie.close
+    (tie.spec
+    Inv-loop
+    μ-loop
+    loop-holds
+    shared-slice-read-wide
+    wide-requires
+    add-next
+    sub-fewer
+    same-length
+    same-length-2
+    same-length-3
+    same-length-4
+    returns
+    slice-aggregate-weigh
+    weigh-requires
+    lay-requires
+    add-vertices
+    add-p
+    loop-less
+    loop-again
+    loop-less-2
+    loop-again-2
+    settle-requires
+    same-length-5
+    same-length-6
+    same-length-7
+    same-length-8
+    returns-2)

@@ -1,0 +1,26 @@
+-- What one walk over the bytes of given channels finds. Assumes nothing.
+use mathlib.Core.Path.{_≡_}
+use mathlib.Core.Bool.{Bool}
+use mathlib.Core.List.{List}
+use Prim.Native.Nat.{ℕ, _≤_}
+use lib.Dec.{eqb}
+use Rattle.counting.specs.Count.{choose}
+use Rattle.channels.specs.Given.{linesOf}
+use Rattle.channels.specs.Arranged.{Arranged}
+use Rattle.channels.specs.Laid.{tables}
+use Rattle.channels.specs.Promise.{givenRefusal}
+use Rattle.channels.specs.declared.Walked.{Walked}
+
+-- what is known after one vertex more: whether it stood before, whether it may follow, and what was known
+unfoldable pub weighed : Bool → Bool → ℕ → ℕ
+weighed again follows fault = choose again (λ _. 6) (λ _. choose (eqb fault 0) (λ _. choose follows (λ _. 0) (λ _. 7)) (λ _. fault))
+
+-- .. and at the end, by the number of vertices
+unfoldable pub settled : ℕ → ℕ → ℕ → ℕ
+settled fault vertices n = choose (eqb fault 6) (λ _. 6) (λ _. choose (eqb vertices n) (λ _. fault) (λ _. 6))
+
+-- the first check that fails, and the channels, at most n, where none does
+pub record Walks (leads : ℕ → ℕ → Bool) (n : ℕ) (field channel position order starts : List ℕ) (r : Walked) : Type 0 where
+  pub answer : r .refusal ≡ givenRefusal leads n field
+  pub laid : r .refusal ≡ 0 → Arranged (linesOf field) (tables (r .count) (r .vertices) channel position order starts)
+  pub few : r .refusal ≡ 0 → (r .count ≤ n) × (r .vertices ≤ n)

@@ -1,0 +1,222 @@
+-- What a sheet has: the entries of the chart, over a plan's tables, or none. Cites drawing's laws. Assumes nothing.
+use mathlib.Core.Path.{_≡_, refl, sym, ap, ap₂, subst, _∙_}
+use mathlib.Core.Bool.{Bool, true}
+use mathlib.Core.List.{List}
+use Prim.Native.Nat.{ℕ, _+_, _-_, _*_, _/_, _<_, _≤_, min}
+use native.Mathlib.Omega.{arith}
+use lib.ListN.{length, getD, take, drop}
+use Rattle.counting.proofs.Zeros.{zeros}
+use Rattle.masks.specs.Sets.{member?}
+use Rattle.reach.proofs.Ends.{tail-at, head-at}
+use Rattle.record.specs.Checks.{Content, edgesOf}
+use Rattle.record.specs.Layout.{layoutOf}
+use Rattle.record.specs.Reading.{nothing}
+use Rattle.record.specs.declared.layout.Fields.{Fields}
+use Rattle.record.specs.declared.layout.Layout.the-variants.{Good, Bad}
+use Rattle.outline.specs.Chart.{planOf, tailOf, headOf, kindBetween, transitiveEdge?, vertexEntry, edgeEntry, bundleEntry}
+use Rattle.outline.specs.declared.Kind.{Kind}
+use Rattle.kinds.specs.Codes.{codeOf, kindOf}
+use Rattle.kinds.specs.Prefixes.{Prefixes}
+use Rattle.kinds.specs.Kinds.{kindAmong}
+use Rattle.kinds.specs.declared.Code.{Code}
+use Rattle.kinds.proofs.Coding.{kind-coded}
+use Rattle.drawing.specs.Drawn.{Drawn, graphContent, graphDrawn, short?, lent, refusedBy}
+use Rattle.drawing.specs.Laid.{Laid}
+use Rattle.drawing.specs.declared.Plan.{Plan}
+use Rattle.drawing.proofs.Entries.{edges-counted, small, edges-few, bundles-few, vertex-drawn, bundle-drawn, kind-among, mark-drawn}
+use Rattle.drawing.proofs.Judging.{record-good}
+use Rattle.drawing.proofs.Nothing.{empty}
+use Rattle.drawing.proofs.Shortage.{enough, lent-short, lent-whole}
+use Rattle.charts.specs.declared.Sheet.{Sheet}
+use Rattle.charts.specs.Entries.{vertexAt, kindAt, transitive?, edgeAt, bundleAt}
+use Rattle.charts.specs.Steps.{blankOf, sheetOf, Tables, Room, SheetOf, RecordSheet, endsIn, endsOf}
+
+-- ---- an edge's entry
+
+-- a kind, from its code
+pub kind-made : (k : Code) (x : Kind) → k ≡ codeOf x → kindOf (k .code) (k .value) (k .row) ≡ x
+kind-made k x h = ap (λ (y : Code). kindOf (y .code) (y .value) (y .row)) h ∙ kind-coded x
+
+-- from its ends, its kind and its mark
+pub edge-made : (d : Sheet) (ends : List ℕ) (e u v : ℕ) (k : Kind) (t : Bool) → u ≡ getD ends (2 * e) 0 → v ≡ getD ends (2 * e + 1) 0
+    → k ≡ kindAt d u v → t ≡ transitive? d u v → record { number = e; kind = k; transitive = t } ≡ edgeAt d ends e
+unfolding edgeAt
+edge-made d ends e u v k t hu hv hk ht = rw (hk, ht, hu, hv) refl
+
+-- ---- a refusal
+
+blank-tables : (k : ℕ) (ends : List ℕ) → Tables nothing (planOf nothing) ends (blankOf k)
+blank-tables k ends = record {
+  vertices = refl;
+  edges = sym (empty .edges);
+  bundles = sym (empty .bundles);
+  rows = sym (empty .rows);
+  channels = sym (empty .channels);
+  width = sym (empty .width);
+  tracks = λ l h. zeros 128 l ∙ sym (empty .tracks l h);
+  long = refl;
+  vertex = λ v h. absurd (omega arith);
+  edge = λ e h. absurd (omega (arith, empty .edges));
+  bundle = λ b h. absurd (omega (arith, empty .bundles));
+}
+
+module _ (x : Drawn) (ends : List ℕ) (v e b : ℕ) (d : Sheet) where
+  blank-room : (k : ℕ) → Room (blankOf k) v e b
+  blank-room k = record {
+    bounded = record { vertices = omega arith; edges = omega arith; bundles = omega arith };
+    vertices = omega arith;
+    edges = omega arith;
+    bundles = omega arith;
+  }
+
+  blank-sheet : (k : ℕ) → lent v e b x ≡ refusedBy k → d ≡ blankOf k → SheetOf x ends v e b d
+  blank-sheet k l h = subst (SheetOf x ends v e b) (sym h) (record {
+    refusal = sym (ap (λ (y : Drawn). y .refusal) l);
+    tables = subst (λ (y : Drawn). Tables (y .graph) (planOf (y .graph)) ends (blankOf k)) (sym l) (blank-tables k ends);
+    room = blank-room k;
+  })
+
+  -- what is refused already is never short
+  pub refused-sheet : (k : ℕ) → x ≡ refusedBy k → d ≡ blankOf k → SheetOf x ends v e b d
+  refused-sheet k r h =
+      blank-sheet k (ap (lent v e b) r ∙ lent-whole v e b (refusedBy k)
+      (enough v e b (refusedBy k) (omega arith) (omega (arith, empty .edges)) (omega (arith, empty .bundles)))) h
+
+  pub short-sheet : short? v e b x ≡ true → d ≡ blankOf 8 → SheetOf x ends v e b d
+  short-sheet s h = blank-sheet 8 (lent-short v e b x s) h
+
+-- ---- a chart
+
+module _ (n : ℕ) (ends : List ℕ) (given : Bool) (field : List ℕ) (p : Plan) (below longer : List ℕ)
+    (l : Laid (graphContent n ends given field) p below longer) where
+  abbrev c : Content
+  c = graphContent n ends given field
+
+  abbrev m : ℕ
+  m = length ends / 2
+
+  abbrev drawn : Drawn
+  drawn = graphDrawn n ends given field
+
+  abbrev whole : Drawn
+  whole = record { refusal = 0; graph = c }
+
+  counted : edgesOf c ≡ m
+  counted = edges-counted n ends given field
+
+  -- the counts that are compared are the chart's
+  pub sizes : drawn ≡ whole
+      → (drawn .graph .vertices ≡ n) × (edgesOf (drawn .graph) ≡ m) × (length (planOf (drawn .graph) .bundles) ≡ p .bundles .count)
+  unfolding graphContent
+  sizes e = rw e (refl, edges-counted n ends given field, sym (l .bundles .counted))
+
+  few : n ≤ 128
+  unfolding graphContent
+  few = small c p below longer l
+
+  -- `left` is made of the channels by `kinds::prefixes`
+  module _ (left : List ℕ) (lefts : Prefixes 2 (min (min n 128) (length (p .channels .channel))) (λ v. getD (p .channels .channel) v 0)
+      (min (p .channels .count) 128) left) where
+    abbrev sheet : Sheet
+    sheet = sheetOf n m p below longer left
+
+    vertex-same : (v : ℕ) → v < n → vertexAt sheet v ≡ vertexEntry c (planOf c) v
+    unfolding vertexAt graphContent
+    vertex-same v h = vertex-drawn c p below longer l v h
+
+    bundle-same : (b : ℕ) → bundleAt sheet b ≡ bundleEntry (planOf c) b
+    unfolding bundleAt
+    bundle-same b = bundle-drawn c p below longer l b
+
+    module _ (e : ℕ) (h : e < edgesOf c) where
+      -- the ends are bytes of the list
+      tail-same : getD ends (2 * e) 0 ≡ tailOf c e
+      unfolding graphContent
+      tail-same = sym (tail-at ends e)
+
+      head-same : getD ends (2 * e + 1) 0 ≡ headOf c e
+      unfolding graphContent
+      head-same = sym (head-at ends e)
+
+      abbrev among : ℕ → ℕ → ℕ → Kind
+      among k = kindAmong (p .channels .channel) (p .channels .position) (p .bundles .into) (p .bundles .«out_of») (take k (p .column))
+          (take k (p .row)) below left
+
+      kind-same : kindAt sheet (getD ends (2 * e) 0) (getD ends (2 * e + 1) 0) ≡ kindBetween c (planOf c) (tailOf c e) (headOf c e)
+      unfolding kindAt graphContent
+      kind-same =
+          let all : min n 128 ≡ n = let f = few in omega arith in
+          ap (λ k. among k (getD ends (2 * e) 0) (getD ends (2 * e + 1) 0)) all
+          ∙ ap₂ (among n) tail-same head-same
+          ∙ kind-among c p below longer l e h left (λ _. lefts)
+
+      mark-same : transitive? sheet (getD ends (2 * e) 0) (getD ends (2 * e + 1) 0) ≡ transitiveEdge? c e
+      unfolding transitive?
+      mark-same = ap₂ (λ (x y : ℕ). member? longer (2 * x) y) tail-same head-same ∙ mark-drawn c p below longer l e h
+
+      edge-same : edgeAt sheet ends e ≡ edgeEntry c (planOf c) e
+      unfolding edgeAt edgeEntry
+      edge-same = rw (kind-same, mark-same) refl
+
+    tables : Tables c (planOf c) ends sheet
+    unfolding graphContent
+    tables = record {
+      vertices = refl;
+      edges = sym counted;
+      bundles = l .bundles .counted;
+      rows = l .row-count;
+      channels = l .channels;
+      width = l .width;
+      tracks = l .used;
+      long = l .tabled .4;
+      vertex = vertex-same;
+      edge = edge-same;
+      bundle = λ b h. bundle-same b;
+    }
+
+    pub whole-sheet : (v e b : ℕ) (d : Sheet) → drawn ≡ whole → n ≤ v → m ≤ e → p .bundles .count ≤ b → d ≡ sheet
+        → SheetOf drawn ends v e b d
+    whole-sheet v e b d q hv he hb is =
+        let z = sizes q in
+        let w : lent v e b drawn ≡ whole = lent-whole v e b drawn (enough v e b drawn (omega arith) (omega arith) (omega arith)) ∙ q in
+        subst (SheetOf drawn ends v e b) (sym is) (record {
+          refusal = sym (ap (λ (y : Drawn). y .refusal) w);
+          tables = subst (λ (y : Drawn). Tables (y .graph) (planOf (y .graph)) ends sheet) (sym w) tables;
+          room = record {
+            bounded = record {
+              vertices = few;
+              edges = omega (arith, edges-few c p below longer l, counted);
+              bundles = bundles-few c p below longer l;
+            };
+            vertices = hv;
+            edges = he;
+            bundles = hb;
+          };
+        })
+
+-- ---- a record is read part by part
+
+module _ (b : List ℕ) where
+  pub ends-bad : layoutOf b ≡ Bad → take 0 b ≡ endsOf b
+  unfolding endsOf
+  ends-bad e = sym (ap (endsIn b) e)
+
+  module _ (f : Fields) (good : layoutOf b ≡ Good f) where
+    ends-good : endsOf b ≡ take (2 * f .count) (drop (f .edges) b)
+    unfolding endsOf
+    ends-good = ap (endsIn b) good
+
+    part : (f .edges + 2 * f .count) - f .edges ≡ 2 * f .count
+    part = omega arith
+
+    pub ends-read : take ((f .edges + 2 * f .count) - f .edges) (drop (f .edges) b) ≡ endsOf b
+    ends-read = ap (λ k. take k (drop (f .edges) b)) part ∙ sym ends-good
+
+    pub record-sheet : (v e k : ℕ) (d : Sheet)
+        → SheetOf (graphDrawn (f .vertices) (take ((f .edges + 2 * f .count) - f .edges) (drop (f .edges) b)) (f .given)
+        (take ((f .lines + f .size) - f .lines) (drop (f .lines) b)))
+        (take ((f .edges + 2 * f .count) - f .edges) (drop (f .edges) b)) v e k d
+        → RecordSheet b v e k d
+    record-sheet v e k d h =
+        let j : (f .lines + f .size) - f .lines ≡ f .size = omega arith in
+        rw (record-good b f good, ends-good) (rw (part, j) at h)

@@ -1,0 +1,27 @@
+-- `charts::counted` meets its contract. Assumes nothing.
+use mathlib.Core.Path.{_≡_, refl}
+use mathlib.Core.Bool.{Bool, true, false, not}
+use Prim.Native.Nat.{ℕ, _+_}
+use native.Mathlib.Omega.{arith}
+use borrow.Author.Needs.{needs}
+use Rattle.counting.specs.Count.{indicator}
+use Rattle.charts.proofs.counted.Statement.{statement}
+use Rattle.charts.proofs.counted.Tie as tie
+
+stays-at : (n : ℕ) (t : Bool) → t ≡ true → n ≡ n + indicator (not t)
+stays-at n t h = rw h (omega arith)
+
+one-more : (n : ℕ) (t : Bool) → t ≡ false → n + 1 ≡ n + indicator (not t)
+one-more n t h = rw h refl
+
+returns : tie.Need-returns
+returns c = stays-at _ _ (c .if1 .taken)
+
+add-result : tie.Need-add-result
+add-result c = search needs
+
+returns-2 : tie.Need-returns-2
+returns-2 c = one-more _ _ (c .if1 .left)
+
+pub counted-spec : {M : Type 1} → statement M
+counted-spec = tie.close (tie.spec returns add-result returns-2)

@@ -1,0 +1,71 @@
+-- `charts::edges_of` meets its contract: the fields of a good record lie within it. Assumes nothing.
+use mathlib.Core.Path.{sym, _∙_}
+use native.Mathlib.Omega.{arith}
+use Rattle.record.proofs.Standing.{layout-good}
+use Rattle.charts.proofs.Sheets.{ends-bad, ends-read}
+use borrow.Author.Needs.{needs}
+use Rattle.charts.proofs.edges_of.Statement.{statement}
+use Rattle.charts.proofs.edges_of.Tie as tie
+
+layout-of-requires : tie.Need-layout-of-requires
+layout-of-requires c κs = search needs
+
+enum-known-layout : tie.Need-enum-known-layout
+enum-known-layout c = search needs
+
+enum-told : tie.Need-enum-told
+enum-told c = search needs
+
+slice-aggregate-result : tie.Need-slice-aggregate-result
+slice-aggregate-result c = search needs
+
+returns : tie.Need-returns
+returns c = ends-bad _ (sym (c .before .before .before .layout-of .ensures) ∙ c .before .enum-told .given .1)
+
+mul-to : tie.Need-mul-to
+mul-to c =
+    let b = c .before .before .before .before .before .before .args .bytes .now in
+    let good = sym (c .before .before .before .before .layout-of .ensures) ∙ c .before .before .layout .given .1 in
+    let k = layout-good b _ good in
+    let known = c .before .before .before .before .before .before .good .0 in
+    record { fits = omega arith }
+
+add-to : tie.Need-add-to
+add-to c =
+    let b = c .before .before .before .before .before .before .args .bytes .now in
+    let good = sym (c .before .before .before .before .layout-of .ensures) ∙ c .before .before .layout .given .1 in
+    let k = layout-good b _ good in
+    let known = c .before .before .before .before .before .before .good .0 in
+    record { fits = omega arith }
+
+sub-result : tie.Need-sub-result
+sub-result c = search needs
+
+part-result-start : tie.Need-part-result-start
+part-result-start c = search needs
+
+part-result-end : tie.Need-part-result-end
+part-result-end c =
+    let b = c .before .before .before .before .before .before .args .bytes .now in
+    let good = sym (c .before .before .before .before .layout-of .ensures) ∙ c .before .before .layout .given .1 in
+    let k = layout-good b _ good in
+    omega arith
+
+returns-2 : tie.Need-returns-2
+returns-2 c = ends-read _ _ (sym (c .before .before .before .before .before .layout-of .ensures) ∙ c .before .before .before .layout .given .1)
+
+pub edges-of-spec : {M : Type 1} → statement M
+edges-of-spec =
+    tie.close
+    (tie.spec
+    layout-of-requires
+    enum-known-layout
+    enum-told
+    slice-aggregate-result
+    returns
+    mul-to
+    add-to
+    sub-result
+    part-result-start
+    part-result-end
+    returns-2)

@@ -1,0 +1,63 @@
+-- `charts::kind_at` meets its contract, from what `kinds::kind_of` ensures of the code. Assumes nothing.
+use mathlib.Core.Path.{_≡_, sym, _∙_}
+use mathlib.Core.List.{List}
+use Prim.Native.Nat.{ℕ, min}
+use native.Mathlib.Omega.{arith}
+use lib.ListN.{length, take}
+use lib.Seq.{length-take-le}
+use Rattle.charts.specs.Entries.{kindAt}
+use Rattle.charts.proofs.Sheets.{kind-made}
+use borrow.Author.Needs.{needs}
+use Rattle.charts.proofs.kind_at.Statement.{statement}
+use Rattle.charts.proofs.kind_at.Tie as tie
+
+-- the first entries of a list of 128, at most as many
+first-long : (k n : ℕ) (l : List ℕ) → k ≡ min n 128 → 128 ≡ length l → k ≡ length (take k l)
+first-long k n l e h = sym (length-take-le k l (omega arith))
+
+least-requires : tie.Need-least-requires
+least-requires c κs = search needs
+
+slice-aggregate-columns : tie.Need-slice-aggregate-columns
+slice-aggregate-columns c = search needs
+
+slice-aggregate-rows : tie.Need-slice-aggregate-rows
+slice-aggregate-rows c = search needs
+
+slice-aggregate-kind-of : tie.Need-slice-aggregate-kind-of
+slice-aggregate-kind-of c =
+    let st = c .before .before .before .before .before .before .before .before .before .before .before in
+    let size : 128 ≡ length (st .before .before .before .before .args .t1 .column) = slice-aggregate-columns st in
+    first-long _ _ _ (st .before .before .before .least .ensures) size
+
+slice-aggregate-kind-of-2 : tie.Need-slice-aggregate-kind-of-2
+slice-aggregate-kind-of-2 c =
+    let st = c .before .before .before .before .before .before .before .before .before .before .before in
+    let size : 128 ≡ length (st .before .before .before .before .before .args .t1 .row) = slice-aggregate-rows st in
+    first-long _ _ _ (st .before .before .before .before .least .ensures) size
+
+kind-of-requires : tie.Need-kind-of-requires
+kind-of-requires c κs = search needs
+
+kind-of-requires-2 : tie.Need-kind-of-requires-2
+kind-of-requires-2 c κs = search needs
+
+returns : tie.Need-returns
+unfolding kindAt
+returns c =
+    let st = c .before .before .before .before .before .before .before .before .before .before .before in
+    rw (← st .before .before .before .before .before .before .before .before .before .before .least .ensures)
+    (c .kind-of2 .ensures ∙ kind-made _ _ (c .before .kind-of .ensures))
+
+pub kind-at-spec : {M : Type 1} → statement M
+kind-at-spec =
+    tie.close
+    (tie.spec
+    least-requires
+    slice-aggregate-columns
+    slice-aggregate-rows
+    slice-aggregate-kind-of
+    slice-aggregate-kind-of-2
+    kind-of-requires
+    kind-of-requires-2
+    returns)

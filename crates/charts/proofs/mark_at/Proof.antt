@@ -1,0 +1,18 @@
+-- `charts::mark_at` meets its contract: the mark is the table's by definition. Assumes nothing.
+use Rattle.charts.specs.Entries.{transitive?}
+use borrow.Author.Needs.{needs}
+use Rattle.charts.proofs.mark_at.Statement.{statement}
+use Rattle.charts.proofs.mark_at.Tie as tie
+
+mul-contains : tie.Need-mul-contains
+mul-contains c = search needs
+
+contains-requires : tie.Need-contains-requires
+contains-requires c κs = search needs
+
+returns : tie.Need-returns
+unfolding transitive?
+returns c = c .contains .ensures
+
+pub mark-at-spec : {M : Type 1} → statement M
+mark-at-spec = tie.close (tie.spec mul-contains contains-requires returns)

@@ -1,0 +1,50 @@
+-- The entries of the lists, by a sheet and the ends of the edges. Assumes nothing.
+use mathlib.Core.Bool.{Bool, not}
+use mathlib.Core.List.{List}
+use Prim.Native.Nat.{ℕ, _+_, _*_, min}
+use lib.ListN.{getD, take}
+use Rattle.masks.specs.Sets.{member?}
+use Rattle.outline.specs.declared.Kind.{Kind}
+use Rattle.outline.specs.declared.VertexEntry.{VertexEntry}
+use Rattle.outline.specs.declared.EdgeEntry.{EdgeEntry}
+use Rattle.outline.specs.declared.BundleEntry.{BundleEntry}
+use Rattle.kinds.specs.Kinds.{kindAmong}
+use Rattle.charts.specs.declared.Sheet.{Sheet}
+
+unfoldable pub vertexAt : Sheet → ℕ → VertexEntry
+vertexAt d v = record {
+  channel = getD (d .channel) v 0;
+  position = getD (d .position) v 0;
+  column = getD (d .column) v 0;
+  row = getD (d .row) v 0;
+  descendants = getD (d .descendants) v 0;
+}
+
+-- of the edge from u to v; a table has 128 vertices
+unfoldable pub kindAt : Sheet → ℕ → ℕ → Kind
+kindAt d u v =
+    kindAmong (d .channel) (d .position) (d .into) (d .«out_of») (take (min (d .vertices) 128) (d .column))
+    (take (min (d .vertices) 128) (d .row)) (d .below) (d .left) u v
+
+unfoldable pub transitive? : Sheet → ℕ → ℕ → Bool
+transitive? d u v = member? (d .longer) (2 * u) v
+
+-- edge e has its tail at byte 2 e and its head after it
+unfoldable pub edgeAt : Sheet → List ℕ → ℕ → EdgeEntry
+edgeAt d ends e = record {
+  number = e;
+  kind = kindAt d (getD ends (2 * e) 0) (getD ends (2 * e + 1) 0);
+  transitive = transitive? d (getD ends (2 * e) 0) (getD ends (2 * e + 1) 0);
+}
+
+unfoldable pub bundleAt : Sheet → ℕ → BundleEntry
+bundleAt d b = record {
+  channel = getD (d .of) b 0;
+  «first_row» = getD (d .first) b 0;
+  «last_row» = getD (d .last) b 0;
+  track = getD (d .track) b 0;
+}
+
+-- whether an edge's entry has it reduced
+abbrev pub reduced? : EdgeEntry → Bool
+reduced? x = not (x .transitive)

@@ -1,0 +1,139 @@
+-- A vertex is finished where its successors are: its set is the union of theirs and of its edges. Assumes nothing.
+use mathlib.Core.Path.{_≡_, refl, sym, ap₂, _∙_, subst}
+use mathlib.Core.Logic.{_≢_, _⊎_, inl, inr, ⊎-elim, _↔_}
+use mathlib.Core.List.{List, [], _∷_}
+use Prim.Native.Nat.{ℕ, zero, suc, _+_, _*_, _^_, _<_}
+use native.Mathlib.Omega.{arith}
+use lib.Bits.{bitOr}
+use lib.Count.{ones}
+use lib.ListN.{length, getD, set, length-set}
+use lib.Seq.{getD-set-same, getD-set-other}
+use Rattle.counting.specs.Count.{sum}
+use Rattle.counting.proofs.Sums.{sum-ext}
+use Rattle.masks.specs.Sets.{at}
+use Rattle.masks.specs.Pairs.{inPair}
+use Rattle.masks.proofs.Sets.{count-masks}
+use Rattle.masks.proofs.Pairing.{pair-lt, pair-or, pair-at, max-split, max-make}
+use Rattle.reach.specs.Graph.{Reaches, Longer}
+use Rattle.reach.specs.Graph.Reaches.{one, more}
+use Rattle.reach.proofs.Routes.{reaches-trans}
+use Rattle.descent.specs.Members.{Pictured, Nested}
+use Rattle.descent.specs.Closed.{Arc, Reached, Finished, Same, Vertex}
+
+-- ---- two masks are stored for u
+
+-- s′ has the masks a and b for u, and for the others what s has
+pub record Stored (s : List ℕ) (u a b : ℕ) (s′ : List ℕ) : Type 0 where
+  pub low : getD s′ (2 * u) 0 ≡ a
+  pub high : getD s′ (2 * u + 1) 0 ≡ b
+  pub low-other : (w : ℕ) → w ≢ u → getD s′ (2 * w) 0 ≡ getD s (2 * w) 0
+  pub high-other : (w : ℕ) → w ≢ u → getD s′ (2 * w + 1) 0 ≡ getD s (2 * w + 1) 0
+
+pub stored-law : (s : List ℕ) (u a b : ℕ) → 2 * u + 1 < length s → Stored s u a b (set (set s (2 * u) a) (2 * u + 1) b)
+stored-law s u a b h =
+    let r : List ℕ = set s (2 * u) a in
+    let k : length r ≡ length s = length-set s (2 * u) a in
+    record {
+      low = getD-set-other r (2 * u + 1) (2 * u) b 0 (λ e. omega arith) ∙ getD-set-same s (2 * u) a 0 (omega arith);
+      high = getD-set-same r (2 * u + 1) b 0 (omega arith);
+      low-other = λ w d. getD-set-other r (2 * u + 1) (2 * w) b 0 (λ e. omega arith) ∙ getD-set-other s (2 * u) (2 * w) a 0 (λ e. d (omega arith));
+      high-other = λ w d. getD-set-other r (2 * u + 1) (2 * w + 1) b 0 (λ e. d (omega arith)) ∙ getD-set-other s (2 * u) (2 * w + 1) a 0 (λ e. omega arith);
+    }
+
+pub stored-at : (s : List ℕ) (u a b : ℕ) (s′ : List ℕ) → Stored s u a b s′ → (v : ℕ) → v < 128 → at 2 s′ u v ≡ inPair a b v
+stored-at s u a b s′ o v h = sym (pair-at s′ u v h) ∙ ap₂ (λ (x y : ℕ). inPair x y v) (o .low) (o .high)
+
+-- where two masks are the same, so are the bits
+pub same-bits : (s s′ : List ℕ) (u : ℕ) → getD s′ (2 * u) 0 ≡ getD s (2 * u) 0 → getD s′ (2 * u + 1) 0 ≡ getD s (2 * u + 1) 0 → (v : ℕ) → v < 128 → at 2 s′ u v ≡ at 2 s u v
+same-bits s s′ u p q v h = sym (pair-at s′ u v h) ∙ ap₂ (λ (x y : ℕ). inPair x y v) p q ∙ pair-at s u v h
+
+-- the ones of two masks
+pub pair-count : (a b : ℕ) → a < 2 ^ 64 → b < 2 ^ 64 → ones a + ones b ≡ sum 128 (inPair a b)
+unfolding sum inPair
+pair-count a b ha hb = sym (count-masks (a ∷ b ∷ []) 0 fit 2 ∙ omega arith)
+  where
+    fit : (i : ℕ) → getD (a ∷ b ∷ []) i 0 < 2 ^ 64
+    fit zero = ha
+    fit (suc zero) = hb
+    fit (suc (suc i)) = omega arith
+
+-- ---- what is finished stays so where the lists stay
+
+pub finished-same : (e : List ℕ) (w : ℕ) (t l c t′ l′ c′ : List ℕ) → Same w t l c t′ l′ c′ → Finished e t l c w → Finished e t′ l′ c′ w
+finished-same e w t l c t′ l′ c′ s f = record {
+  reached = λ v h. subst (λ (x : ℕ). x ≡ 1 ↔ Reaches (Arc e) w v) (sym (same-bits t t′ w (s .low) (s .high) v h)) (f .reached v h);
+  farther = λ v h. subst (λ (x : ℕ). x ≡ 1 ↔ Longer (Arc e) w v) (sym (same-bits l l′ w (s .low-far) (s .high-far) v h)) (f .farther v h);
+  counted = s .number ∙ f .counted ∙ sym (sum-ext 128 (at 2 t′ w) (at 2 t w) (λ v h. same-bits t t′ w (s .low) (s .high) v h));
+}
+
+pub same-refl : (w : ℕ) (t l c : List ℕ) → Same w t l c t l c
+same-refl w t l c = record { low = refl; high = refl; low-far = refl; high-far = refl; number = refl }
+
+pub same-trans : (w : ℕ) (t l c t′ l′ c′ t″ l″ c″ : List ℕ) → Same w t l c t′ l′ c′ → Same w t′ l′ c′ t″ l″ c″ → Same w t l c t″ l″ c″
+same-trans w t l c t′ l′ c′ t″ l″ c″ p q = record {
+  low = q .low ∙ p .low;
+  high = q .high ∙ p .high;
+  low-far = q .low-far ∙ p .low-far;
+  high-far = q .high-far ∙ p .high-far;
+  number = q .number ∙ p .number;
+}
+
+-- ---- one vertex
+
+-- the sets of u's successors hold the sets of those of them that they have
+pub nested-law : (e t : List ℕ) (u low high : ℕ) → u < 128 → low ≡ getD e (2 * u) 0 → high ≡ getD e (2 * u + 1) 0 → ((w : ℕ) → Arc e u w → Reached e t w) → Nested t low high
+nested-law e t u low high hu el eh right = record {
+  holds = λ x w v hx hw hv mx mw p q.
+      let rx = right x (arc x hx mx) in
+      rx v hv .1 (reaches-trans (rx w hw .0 p) (right w (arc w hw mw) v hv .0 q));
+}
+  where
+    arc : (w : ℕ) → w < 128 → inPair low high w ≡ 1 → Arc e u w
+    arc w hw m = (hu, hw, sym (ap₂ (λ (x y : ℕ). inPair x y w) el eh ∙ pair-at e u w hw) ∙ m)
+
+module _ (e t l c : List ℕ) (u low high p q : ℕ) (hu : u < 128) (el : low ≡ getD e (2 * u) 0) (eh : high ≡ getD e (2 * u + 1) 0)
+    (m : Pictured t low high p q) (right : (w : ℕ) → Arc e u w → Reached e t w) where
+  edge-bit : (v : ℕ) → v < 128 → inPair low high v ≡ at 2 e u v
+  edge-bit v h = ap₂ (λ (x y : ℕ). inPair x y v) el eh ∙ pair-at e u v h
+
+  -- by two edges or more
+  far-bit : (v : ℕ) → v < 128 → inPair p q v ≡ 1 ↔ Longer (Arc e) u v
+  far-bit v h = (
+    (λ i. let s = m .here v h .0 i in
+        let arc : Arc e u (s .0) = (hu, s .1, sym (edge-bit (s .0) (s .1)) ∙ s .2) in
+        (s .0, arc, right (s .0) arc v h .0 (s .3))),
+    λ r. let arc = r .1 in m .here v h .1 (r .0, arc .1, edge-bit (r .0) (arc .1) ∙ arc .2, right (r .0) arc v h .1 (r .2)),
+  )
+
+  split : (v : ℕ) → Reaches (Arc e) u v → (Arc e u v) ⊎ Longer (Arc e) u v
+  split v (one a) = inl a
+  split v (more a r) = inr (_, a, r)
+
+  near-bit : (v : ℕ) → v < 128 → inPair (bitOr low p) (bitOr high q) v ≡ 1 ↔ Reaches (Arc e) u v
+  near-bit v h = (
+    (λ i. ⊎-elim
+        (λ x. one (hu, h, sym (edge-bit v h) ∙ x))
+        (λ x. let r = far-bit v h .0 x in more (r .1) (r .2))
+        (max-split (inPair low high v) (inPair p q v) (pair-lt low high v) (pair-lt p q v) (sym (pair-or low high p q v h) ∙ i))),
+    λ r. pair-or low high p q v h
+        ∙ max-make (inPair low high v) (inPair p q v) (pair-lt low high v) (pair-lt p q v)
+        (⊎-elim (λ a. inl (edge-bit v h ∙ a .2)) (λ a. inr (far-bit v h .1 a)) (split v r)),
+  )
+
+  pub vertex-law : (t′ l′ c′ : List ℕ) → Stored t u (bitOr low p) (bitOr high q) t′ → Stored l u p q l′ → getD c′ u 0 ≡ ones (bitOr low p) + ones (bitOr high q)
+      → ((w : ℕ) → w ≢ u → getD c′ w 0 ≡ getD c w 0) → bitOr low p < 2 ^ 64 → bitOr high q < 2 ^ 64 → Vertex e u t l c t′ l′ c′
+  vertex-law t′ l′ c′ st sl sc other fa fb = record {
+    own = record {
+      reached = λ v h. subst (λ (x : ℕ). x ≡ 1 ↔ Reaches (Arc e) u v) (sym (stored-at t u _ _ t′ st v h)) (near-bit v h);
+      farther = λ v h. subst (λ (x : ℕ). x ≡ 1 ↔ Longer (Arc e) u v) (sym (stored-at l u _ _ l′ sl v h)) (far-bit v h);
+      counted = sc ∙ pair-count (bitOr low p) (bitOr high q) fa fb
+          ∙ sym (sum-ext 128 (at 2 t′ u) (inPair (bitOr low p) (bitOr high q)) (λ v h. stored-at t u _ _ t′ st v h));
+    };
+    others = λ w d. record {
+      low = st .low-other w d;
+      high = st .high-other w d;
+      low-far = sl .low-other w d;
+      high-far = sl .high-other w d;
+      number = other w d;
+    };
+  }

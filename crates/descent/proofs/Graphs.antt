@@ -1,0 +1,157 @@
+-- The descent for the table of edges of a graph: its reachability, longer routes and rows. Assumes nothing.
+use mathlib.Core.Path.{_≡_, sym, ap₂, _∙_, subst}
+use mathlib.Core.Logic.{_≢_, ⊎-elim, _↔_}
+use mathlib.Core.List.{List}
+use Prim.Native.Nat.{ℕ, _+_, _*_, _≤_, _<_}
+use native.Mathlib.Nat.{lt-of-lt-of-le}
+use native.Mathlib.Decide.{ℕ-discrete}
+use native.Mathlib.Omega.{arith}
+use borrow.Author.Tests.{eq-eqb, ne-eqb, eqb-true}
+use lib.Dec.{eqb}
+use lib.ListN.{length, getD}
+use Rattle.counting.specs.Count.{count, some}
+use Rattle.counting.proofs.Truth.{lt-or-le, true-or-false, same-truth}
+use Rattle.counting.proofs.Sums.{sum-zero}
+use Rattle.counting.proofs.Somes.{some-found, some-none}
+use Rattle.masks.specs.Sets.{at}
+use Rattle.masks.specs.Pairs.{inPair}
+use Rattle.masks.proofs.Pairing.{pair-at, pair-zero}
+use Rattle.reach.specs.Graph.{Reaches, Longer, edgeCount, Edge, edge?}
+use Rattle.reach.specs.Refusal.{refusal}
+use Rattle.reach.specs.Closure.{Adjacent, reachable?, Closure, Composed}
+use Rattle.reach.specs.Steps.{Within}
+use Rattle.reach.proofs.Routes.{longer-between, begins-below, ends-below}
+use Rattle.reach.proofs.Extending.{reaches-mono}
+use Rattle.reach.proofs.Marking.{tail-below, head-below}
+use Rattle.reach.proofs.Decide.{edge-decided, reachable-decided}
+use Rattle.reach.proofs.Refusing.{accepted-within}
+use Rattle.reach.proofs.Closures.{Bits, same-count}
+use Rattle.layers.specs.Rows.{row, rowsUsed}
+use Rattle.layers.proofs.Same.{row-same, used-same}
+use Rattle.descent.specs.Closed.{Arc, edgeIn, Inside, Laid, Closed}
+use Rattle.descent.proofs.Arcs.{reached-count}
+
+module _ (n : ℕ) (tails heads e : List ℕ) (accepted : refusal n tails heads ≡ 0) (edges : (u v : ℕ) → u < 128 → v < 128 → at 2 e u v ≡ 1 ↔ Adjacent n tails heads u v) where
+  within : Within n (edgeCount tails heads) tails heads
+  within = accepted-within n tails heads accepted .0
+
+  small : n ≤ 128
+  small = accepted-within n tails heads accepted .1
+
+  -- the table has the graph's edges
+  pub arc-edge : (u v : ℕ) → Arc e u v → Edge tails heads u v
+  arc-edge u v a = edges u v (a .0) (a .1) .0 (a .2) .1
+
+  pub edge-arc : (u v : ℕ) → Edge tails heads u v → Arc e u v
+  edge-arc u v a =
+      let hu = lt-of-lt-of-le (tail-below 2 tails heads n within u v a) small in
+      let hv = lt-of-lt-of-le (head-below 2 tails heads n within u v a) small in
+      (hu, hv, edges u v hu hv .1 (accepted, a))
+
+  pub graph-inside : Inside e n
+  graph-inside = record {
+    small = small;
+    tail = λ u v a. tail-below 2 tails heads n within u v (arc-edge u v a);
+    head = λ u v a. head-below 2 tails heads n within u v (arc-edge u v a);
+  }
+
+  -- 0 rows exactly where the graph has a cycle
+  pub graph-cyclic : (r : ℕ) (rows s below : List ℕ) → Laid e n r rows s below → some 128 (λ u. reachable? n tails heads u u) ≡ eqb r 0
+  graph-cyclic r rows s below g = go (ℕ-discrete r 0)
+    where
+      go : Dec (r ≡ 0) → some 128 (λ u. reachable? n tails heads u u) ≡ eqb r 0
+      go (yes z) =
+          let u = g .cyclic z in
+          let h = small in
+          some-found 128 (λ x. reachable? n tails heads x x) (u .0) (let l = u .1 in omega arith) (reachable-decided n tails heads (u .0) (u .0) .0 (accepted, reaches-mono arc-edge (u .2)))
+          ∙ sym (eq-eqb r 0 z)
+      go (no d) =
+          some-none 128 (λ x. reachable? n tails heads x x)
+          (λ x h. ⊎-elim (λ t. absurd (g .acyclic d x (reaches-mono edge-arc (reachable-decided n tails heads x x .1 t .1)))) (λ f. f) (true-or-false (reachable? n tails heads x x)))
+          ∙ sym (ne-eqb r 0 d)
+
+  -- the rows are those of the graph's edges
+  same-edges : (u v : ℕ) → u < n → v < n → edgeIn e u v ≡ edge? tails heads u v
+  unfolding edgeIn
+  same-edges u v hu hv =
+      let h = small in
+      let b = edges u v (omega arith) (omega arith) in
+      same-truth (eqb (at 2 e u v) 1) (edge? tails heads u v)
+      (λ q. edge-decided tails heads u v .0 (b .0 (eqb-true _ _ q) .1))
+      (λ q. eq-eqb _ _ (b .1 (accepted, edge-decided tails heads u v .1 q)))
+
+  module _ (r : ℕ) (rows s below : List ℕ) (g : Laid e n r rows s below) (some : r ≢ 0) where
+    pub graph-rows : (v : ℕ) → v < n → getD s v 0 ≡ row (edge? tails heads) n v
+    graph-rows v h = g .rule some v h ∙ row-same (edgeIn e) (edge? tails heads) n same-edges v h
+
+    pub graph-used : r ≡ rowsUsed (edge? tails heads) n
+    graph-used = g .used some ∙ used-same (edgeIn e) (edge? tails heads) n same-edges
+
+    pub graph-below : (k v : ℕ) → k ≤ r → v < 128 → at 2 below k v ≡ 1 ↔ ((v < n) × (row (edge? tails heads) n v < k))
+    graph-below k v hk hv =
+        let m = g .prefixes some .members k v hk hv in
+        let same : v < n → row (edgeIn e) n v ≡ row (edge? tails heads) n v = row-same (edgeIn e) (edge? tails heads) n same-edges v in (
+          (λ i. let p = m .0 i in (p .0, subst (λ (x : ℕ). x < k) (same (p .0)) (p .1))),
+          λ p. m .1 (p .0, subst (λ (x : ℕ). x < k) (sym (same (p .0))) (p .1)),
+        )
+
+  module _ (t l c t′ l′ c′ : List ℕ) (g : Closed e n t l c t′ l′ c′) (no-t : (i : ℕ) → getD t i 0 ≡ 0) (no-l : (i : ℕ) → getD l i 0 ≡ 0) (no-c : (i : ℕ) → getD c i 0 ≡ 0) where
+    blank : (s : List ℕ) (u v : ℕ) → v < 128 → getD s (2 * u) 0 ≡ 0 → getD s (2 * u + 1) 0 ≡ 0 → at 2 s u v ≡ 0
+    blank s u v h p q = sym (pair-at s u v h) ∙ ap₂ (λ (x y : ℕ). inPair x y v) p q ∙ pair-zero v h
+
+    begins : (u v : ℕ) → Reaches (Edge tails heads) u v → u < n
+    begins u v p = begins-below (tail-below 2 tails heads n within) p
+
+    -- the table of what reaches what
+    pub graph-bits : Bits n tails heads t′
+    graph-bits u v hu hv =
+        ⊎-elim
+        (λ k. ((λ i. (accepted, reaches-mono arc-edge (g .bits u v k hv .0 i))), λ p. g .bits u v k hv .1 (reaches-mono edge-arc (p .1))))
+        (λ k.
+        let o = g .others u k in
+        let z = blank t′ u v hv (o .low ∙ no-t _) (o .high ∙ no-t _) in
+        ((λ i. absurd (omega arith)), λ p. absurd (let b = begins u v (p .1) in omega arith)))
+        (lt-or-le u n)
+
+    pub graph-counts : (u : ℕ) → u < 128 → getD c′ u 0 ≡ count 128 (reachable? n tails heads u)
+    graph-counts u hu =
+        ⊎-elim
+        (λ k. g .counted u k ∙ sym (reached-count e n graph-inside t′ u (λ v hv. g .bits u v k hv)))
+        (λ k.
+        let o = g .others u k in
+        (o .number ∙ no-c u) ∙ sym (sum-zero 128 (at 2 t′ u) (λ v hv. blank t′ u v hv (o .low ∙ no-t _) (o .high ∙ no-t _))))
+        (lt-or-le u n)
+        ∙ same-count n tails heads t′ graph-bits u hu
+
+    -- routes of two edges or more
+    pub graph-longer : (u v : ℕ) → u < 128 → v < 128 → at 2 l′ u v ≡ 1 ↔ Longer (Edge tails heads) u v
+    graph-longer u v hu hv =
+        ⊎-elim
+        (λ k. (
+          (λ i. let p = g .farther u v k hv .0 i in (p .0, arc-edge _ _ (p .1), reaches-mono arc-edge (p .2))),
+          λ p. g .farther u v k hv .1 (p .0, edge-arc _ _ (p .1), reaches-mono edge-arc (p .2)),
+        ))
+        (λ k.
+        let o = g .others u k in
+        let z = blank l′ u v hv (o .low-far ∙ no-l _) (o .high-far ∙ no-l _) in
+        ((λ i. absurd (omega arith)), λ p. absurd (let b = tail-below 2 tails heads n within u _ (p .1) in omega arith)))
+        (lt-or-le u n)
+
+    -- the graph's reachability
+    pub graph-closure : length e ≡ 256 → length t′ ≡ 256 → length c′ ≡ 128 → Closure n tails heads (record { edges = e; table = t′; counts = c′ })
+    graph-closure le lt lc = record { edge-masks = le; edge-bits = edges; masks = lt; bits = graph-bits; vertices = lc; counted = graph-counts }
+
+    -- the table followed by itself
+    pub graph-composed : length l′ ≡ 256 → Composed t′ l′
+    graph-composed ll = record {
+      masks = ll;
+      bits = λ u v hu hv. (
+        (λ i. let p = longer-between .0 (graph-longer u v hu hv .0 i) in
+            let hw = ends (p .1) in
+            (p .0, hw, graph-bits u (p .0) hu hw .1 (accepted, p .1), graph-bits (p .0) v hw hv .1 (accepted, p .2))),
+        λ p. graph-longer u v hu hv .1 (longer-between .1 (p .0, graph-bits u (p .0) hu (p .1) .0 (p .2) .1, graph-bits (p .0) v (p .1) hv .0 (p .3) .1)),
+      );
+    }
+      where
+        ends : {u w : ℕ} → Reaches (Edge tails heads) u w → w < 128
+        ends p = lt-of-lt-of-le (ends-below (head-below 2 tails heads n within) p) small

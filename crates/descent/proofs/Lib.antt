@@ -1,0 +1,14 @@
+pub mod Blanking
+pub mod Duplicates
+pub mod Scanning
+pub mod Gathering
+pub mod Skipping
+pub mod Descending
+pub mod Rowing
+pub mod Arcs
+pub mod Ranking
+pub mod Starting
+pub mod Rounding
+pub mod Graphs
+pub mod Refusals
+pub mod Answering

@@ -1,0 +1,146 @@
+-- The pass over the edges' bytes, one edge after the other. Assumes nothing.
+use mathlib.Core.Path.{_≡_, refl, sym, ap, ap₂, _∙_, subst}
+use mathlib.Core.Logic.{_⊎_, ⊎-elim}
+use mathlib.Core.Bool.{Bool, true, false, _||_}
+use mathlib.Core.List.{List}
+use Prim.Native.Nat.{ℕ, _+_, _*_, _/_, _%_, _≤_, _<_}
+use native.Mathlib.Nat.{not-suc-le-zero, lt-of-lt-of-le}
+use native.Mathlib.Numerals.{add-one}
+use native.Mathlib.Omega.{arith}
+use borrow.Author.Count.{below-more}
+use borrow.Author.Tests.{eqb-true, eqb-false, le-leb, lt-leb}
+use lib.Dec.{eqb, leb}
+use lib.ListN.{length, getD}
+use Rattle.counting.specs.Count.{choose, some}
+use Rattle.counting.proofs.Truth.{or-left, or-right}
+use Rattle.counting.proofs.Choosing.{choose-yes, choose-no}
+use Rattle.counting.proofs.Somes.{some-found, some-none}
+use Rattle.masks.specs.Bits.{bit}
+use Rattle.masks.specs.Sets.{at, member, member?, inserted}
+use Rattle.masks.proofs.Bits.{bit-of-zero}
+use Rattle.masks.proofs.Sets.{inserted-length}
+use Rattle.masks.proofs.Tables.{Put, put-law}
+use Rattle.reach.specs.Graph.{edgeCount, Edge}
+use Rattle.reach.specs.Refusal.{strange?}
+use Rattle.reach.specs.Steps.{Marked, Within}
+use Rattle.reach.specs.Ends.{tailsOf, headsOf, alike?, duplicate?}
+use Rattle.reach.proofs.Marking.{marked-more}
+use Rattle.reach.proofs.Ends.{tail-at, head-at, ends-counted}
+use Rattle.descent.specs.Scanned.{Blank, endsRefusal, Scanned}
+use Rattle.descent.proofs.Duplicates.{seen-before, not-seen}
+
+more-edges : (tails heads : List ℕ) (i : ℕ) → duplicate? (i + 1) tails heads ≡ (duplicate? i tails heads || some i (alike? tails heads i))
+unfolding duplicate? some
+more-edges tails heads i = ap (λ (k : ℕ). some k (λ j. some j (alike? tails heads j))) (add-one i)
+
+module _ (n : ℕ) (ends : List ℕ) where
+  abbrev tails : List ℕ
+  tails = tailsOf ends
+
+  abbrev heads : List ℕ
+  heads = headsOf ends
+
+  abbrev m : ℕ
+  m = edgeCount tails heads
+
+  -- ---- after i edges
+
+  pub record Scanning (i : ℕ) (t : List ℕ) (double : ℕ) : Type 0 where
+    pub masks : length t ≡ 256
+    pub marked : Marked 2 tails heads i t
+    pub within : Within n i tails heads
+    pub twice : double ≡ choose (duplicate? i tails heads) (λ _. 4) (λ _. 0)
+
+  pub scanning-none : (t : List ℕ) → Blank t → Scanning 0 t 0
+  unfolding duplicate? some at member
+  scanning-none t b = record {
+    masks = b .masks;
+    marked = record {
+      only = λ u v h e. absurd (let z : at 2 t u v ≡ 0 = ap (λ (x : ℕ). bit x (v % 64)) (b .zero (2 * u + v / 64)) ∙ bit-of-zero (v % 64) in omega arith);
+      all = λ j l. absurd (not-suc-le-zero l);
+    };
+    within = record { tail = λ j l. absurd (not-suc-le-zero l); head = λ j l. absurd (not-suc-le-zero l) };
+    twice = refl;
+  }
+
+  -- one edge more
+  module _ (i : ℕ) (t : List ℕ) (d : ℕ) (small : n ≤ 128) (f : Scanning i t d) (u v : ℕ) (eu : u ≡ getD ends (2 * i) 0) (ev : v ≡ getD ends (2 * i + 1) 0) (hu : u < n) (hv : v < n) where
+    at-tail : u ≡ getD tails i 0
+    at-tail = eu ∙ sym (tail-at ends i)
+
+    at-head : v ≡ getD heads i 0
+    at-head = ev ∙ sym (head-at ends i)
+
+    within-next : Within n (i + 1) tails heads
+    within-next = record {
+      tail = below-more (λ (j : ℕ). getD tails j 0 < n) i (f .within .tail) (subst (λ (x : ℕ). x < n) at-tail hu);
+      head = below-more (λ (j : ℕ). getD heads j 0 < n) i (f .within .head) (subst (λ (x : ℕ). x < n) at-head hv);
+    }
+
+    double-next : (b : Bool) → member? t (2 * u) v ≡ b → choose {A = ℕ} b (λ _. 4) (λ _. d) ≡ choose (duplicate? (i + 1) tails heads) (λ _. 4) (λ _. 0)
+    unfolding at
+    double-next b e =
+        ap (λ (x : ℕ). choose b (λ _. 4) (λ _. x)) (f .twice)
+        ∙ both b (duplicate? i tails heads)
+        ∙ sym (ap (λ (x : Bool). choose {A = ℕ} x (λ _. 4) (λ _. 0)) (more-edges tails heads i ∙ ap (λ x. duplicate? i tails heads || x) (alike b e)))
+      where
+        both : (b c : Bool) → choose {A = ℕ} b (λ _. 4) (λ _. choose c (λ _. 4) (λ _. 0)) ≡ choose (c || b) (λ _. 4) (λ _. 0)
+        both true true = refl
+        both true false = refl
+        both false true = refl
+        both false false = refl
+
+        here : at 2 t (getD tails i 0) (getD heads i 0) ≡ at 2 t u v
+        here = sym (ap₂ (at 2 t) at-tail at-head)
+
+        alike : (b : Bool) → eqb (at 2 t u v) 1 ≡ b → some i (alike? tails heads i) ≡ b
+        alike true e = seen-before 2 tails heads i t (f .marked) (lt-of-lt-of-le (within-next .head i (omega arith)) small) (here ∙ eqb-true _ _ e)
+        alike false e = not-seen 2 tails heads i t (f .marked) (λ z. eqb-false _ _ e (sym here ∙ z))
+
+    pub scanning-more : (s : List ℕ) (r : ℕ) → (r ≡ choose (member? t (2 * u) v) (λ _. 4) (λ _. d)) × (s ≡ inserted t (2 * u) v) → Scanning (i + 1) s r
+    scanning-more s r e = record {
+      masks = ap length (e .1) ∙ inserted-length t (2 * u) v ∙ f .masks;
+      marked = marked-more 2 tails heads i t s (λ j l. lt-of-lt-of-le (within-next .head j l) small)
+          (subst (λ (x : List ℕ). Put 2 t (getD tails i 0) (getD heads i 0) x)
+          (sym (e .1 ∙ ap₂ (λ (a b : ℕ). inserted t (2 * a) b) at-tail at-head))
+          (put-law 2 t (getD tails i 0) (getD heads i 0) (let h = within-next .head i (omega arith) in omega arith)
+          (let g = within-next .tail i (omega arith) in let h = within-next .head i (omega arith) in let l = f .masks in omega arith)))
+          (f .marked);
+      within = within-next;
+      twice = e .0 ∙ double-next (member? t (2 * u) v) refl;
+    }
+
+  -- an end of n or more
+  pub scanned-strange : (i : ℕ) (t : List ℕ) (d : ℕ) → Scanning i t d → i < length ends / 2 → (n ≤ getD ends (2 * i) 0) ⊎ (n ≤ getD ends (2 * i + 1) 0) → Scanned n ends t 3
+  unfolding strange? endsRefusal
+  scanned-strange i t d f l o = record {
+    answer = sym (choose-yes (some m (strange? n tails heads)) _ _ found);
+    masks = f .masks;
+    bits = λ ne. absurd (ne refl);
+  }
+    where
+      found : some m (strange? n tails heads) ≡ true
+      found =
+          some-found m (strange? n tails heads) i (let c = ends-counted ends in omega arith)
+          (⊎-elim
+          (λ h. or-left (leb n (getD tails i 0)) (leb n (getD heads i 0)) (le-leb n (getD tails i 0) (subst (λ (x : ℕ). n ≤ x) (sym (tail-at ends i)) h)))
+          (λ h. or-right (leb n (getD tails i 0)) (leb n (getD heads i 0)) (le-leb n (getD heads i 0) (subst (λ (x : ℕ). n ≤ x) (sym (head-at ends i)) h)))
+          o)
+
+  -- all of them
+  scanned-whole : (t : List ℕ) (d : ℕ) → n ≤ 128 → Scanning m t d → Scanned n ends t d
+  unfolding endsRefusal strange? Edge
+  scanned-whole t d small f = record {
+    answer = f .twice ∙ sym (choose-no (some m (strange? n tails heads)) _ _ none);
+    masks = f .masks;
+    bits = λ _ u v hu hv. (
+      (λ e. f .marked .only u v hv e),
+      (λ a. sym (ap₂ (at 2 t) (a .2) (a .3)) ∙ f .marked .all (a .0) (a .1)),
+    );
+  }
+    where
+      none : some m (strange? n tails heads) ≡ false
+      none = some-none m (strange? n tails heads) (λ j l. ap₂ (λ (p q : Bool). p || q) (lt-leb n (getD tails j 0) (f .within .tail j l)) (lt-leb n (getD heads j 0) (f .within .head j l)))
+
+  pub scanned-all : (i : ℕ) (t : List ℕ) (d : ℕ) → n ≤ 128 → i ≡ length ends / 2 → Scanning i t d → Scanned n ends t d
+  scanned-all i t d small e f = scanned-whole t d small (subst (λ (k : ℕ). Scanning k t d) (e ∙ sym (ends-counted ends)) f)

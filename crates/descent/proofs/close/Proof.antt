@@ -1,0 +1,186 @@
+use mathlib.Core.Path.{_≡_, refl, _∙_, subst}
+use Prim.Native.Nat.{ℕ, _+_, _-_, _*_, _≤_, _<_, zero-le}
+use native.Mathlib.Omega.{arith}
+use lib.ListN.{length}
+use borrow.Author.Needs.{needs}
+use Rattle.descent.proofs.Ranking.{Descended, descended-none, descended-more, descended-all, ready-low, ready-high}
+use Rattle.descent.proofs.close.Statement.{statement}
+use Rattle.descent.proofs.close.Tie as tie
+
+abbrev Inv-loop : tie.InvT-loop
+Inv-loop edges below n top table₀ longer₀ counts₀ r₀ table longer counts r = (r ≤ top) × (top ≤ 128) × (length below ≡ 258) × (length table ≡ 256) × (length longer ≡ 256) × (length counts ≡ 128) × Descended edges n r table₀ longer₀ counts₀ table longer counts
+
+abbrev μ-loop : tie.MeasureT-loop
+μ-loop edges below n top table₀ longer₀ counts₀ r₀ table longer counts r = r
+
+loop-holds : tie.Need-loop-holds Inv-loop μ-loop
+loop-holds c =
+    let st = c .before .before .before .before .before in
+    let a = st .args in
+    let pre = st .pre in
+    (omega arith, pre .6 .few, pre .1, pre .2, pre .3, pre .4, descended-none (a .edges .now) (a .n) (a .top) (a .below .now) (pre .5) (pre .6) (a .table .now) (a .longer .now) (a .counts .now))
+
+-- the descent so far, one row above the one that is next
+so-far : (c : tie.In-loop Inv-loop μ-loop) → let l = c .before .loop in let a = c .before .before .before .before .before .before .before .args in Descended (a .edges .now) (a .n) (l .r - 1 + 1) (a .table .now) (a .longer .now) (a .counts .now) (l .table) (l .longer) (l .counts)
+so-far c =
+    let l = c .before .loop in
+    let a = c .before .before .before .before .before .before .before .args in
+    subst (λ (r : ℕ). Descended (a .edges .now) (a .n) r (a .table .now) (a .longer .now) (a .counts .now) (l .table) (l .longer) (l .counts)) (let e : l .r ≡ l .r - 1 + 1 = (let k = c .loop-test .taken in omega arith) in e) (l .inv .6)
+
+sub-r : tie.Need-sub-r Inv-loop μ-loop
+sub-r c = search needs
+
+mul-a : tie.Need-mul-a Inv-loop μ-loop
+mul-a c = search needs
+
+add-a : tie.Need-add-a Inv-loop μ-loop
+add-a c = search needs
+
+mul-a-2 : tie.Need-mul-a-2 Inv-loop μ-loop
+mul-a-2 c = search needs
+
+shared-slice-read-a : tie.Need-shared-slice-read-a Inv-loop μ-loop
+shared-slice-read-a c = search needs
+
+mul-a-3 : tie.Need-mul-a-3 Inv-loop μ-loop
+mul-a-3 c = search needs
+
+mul-a-4 : tie.Need-mul-a-4 Inv-loop μ-loop
+mul-a-4 c = search needs
+
+shared-slice-read-a-2 : tie.Need-shared-slice-read-a-2 Inv-loop μ-loop
+shared-slice-read-a-2 c = search needs
+
+mul-b : tie.Need-mul-b Inv-loop μ-loop
+mul-b c = search needs
+
+add-b : tie.Need-add-b Inv-loop μ-loop
+add-b c = search needs
+
+mul-b-2 : tie.Need-mul-b-2 Inv-loop μ-loop
+mul-b-2 c = search needs
+
+shared-slice-read-b : tie.Need-shared-slice-read-b Inv-loop μ-loop
+shared-slice-read-b c = search needs
+
+mul-b-3 : tie.Need-mul-b-3 Inv-loop μ-loop
+mul-b-3 c = search needs
+
+add-b-2 : tie.Need-add-b-2 Inv-loop μ-loop
+add-b-2 c = search needs
+
+mul-b-4 : tie.Need-mul-b-4 Inv-loop μ-loop
+mul-b-4 c = search needs
+
+shared-slice-read-b-2 : tie.Need-shared-slice-read-b-2 Inv-loop μ-loop
+shared-slice-read-b-2 c = search needs
+
+close-row-requires : tie.Need-close-row-requires Inv-loop μ-loop
+close-row-requires c κs =
+    let st = c .before .before .before .before .before .before .before .before .before .before .before .before .before .before in
+    let a = st .args in
+    let pre = st .pre in
+    let known = c .before .before .before .before .before .before .before .before .before .before .before .before .shared-slice-known2 .given in
+    let turn = c .before .before .before .before .before .before .before in
+    let l = turn .before .loop in
+    let hr : l .r - 1 < a .top = (let i = l .inv .0 in let k = turn .loop-test .taken in omega arith) in (
+      zero-le,
+      pre .0,
+      l .inv .3,
+      l .inv .4,
+      l .inv .5,
+      ready-low (a .edges .now) (a .n) (a .top) (a .below .now) (pre .5) (pre .6) (l .r - 1) _ _ _ _ hr refl refl refl refl (known (2 * (l .r - 1)) .fits) (known (2 * (l .r - 1) + 1) .fits)
+          (a .table .now) (a .longer .now) (a .counts .now) (l .table) (l .longer) (l .counts) (so-far turn),
+    )
+
+close-row-requires-2 : tie.Need-close-row-requires-2 Inv-loop μ-loop
+close-row-requires-2 c κs =
+    let st = c .before .before .before .before .before .before .before .before .before .before .before .before .before .before .before .before .before .before .before .before .before .before .before .before in
+    let a = st .args in
+    let pre = st .pre in
+    let known = c .before .before .before .before .before .before .before .before .before .before .before .before .before .before .before .before .before .before .before .before .before .before .shared-slice-known2 .given in
+    let turn = c .before .before .before .before .before .before .before .before .before .before .before .before .before .before .before .before .before in
+    let l = turn .before .loop in
+    let hr : l .r - 1 < a .top = (let i = l .inv .0 in let k = turn .loop-test .taken in omega arith) in
+    let first = c .before .before .before .before .before .before .before .before .before .close-row in (
+      omega arith,
+      pre .0,
+      first .kept .1 .1 .1 .0 ∙ l .inv .3,
+      first .kept .1 .1 .1 .1 .0 ∙ l .inv .4,
+      first .kept .1 .1 .1 .1 .1 .0 ∙ l .inv .5,
+      ready-high (a .edges .now) (a .n) (a .top) (a .below .now) (pre .5) (pre .6) (l .r - 1) _ _ _ _ hr refl refl refl refl (known (2 * (l .r - 1)) .fits) (known (2 * (l .r - 1) + 1) .fits)
+          (a .table .now) (a .longer .now) (a .counts .now) (l .table) (l .longer) (l .counts) (so-far turn) _ _ _ (first .ensures),
+    )
+
+loop-less : tie.Need-loop-less Inv-loop μ-loop
+loop-less c = search needs
+
+loop-again : tie.Need-loop-again Inv-loop μ-loop
+loop-again c =
+    let st = c .before .before .before .before .before .before .before .before .before .before .before .before .before .before .before .before .before .before .before .before .before .before .before .before .before .before .before .before .before .before .before in
+    let a = st .args in
+    let pre = st .pre in
+    let known = c .before .before .before .before .before .before .before .before .before .before .before .before .before .before .before .before .before .before .before .before .before .before .before .before .before .before .before .before .before .shared-slice-known2 .given in
+    let turn = c .before .before .before .before .before .before .before .before .before .before .before .before .before .before .before .before .before .before .before .before .before .before .before .before in
+    let l = turn .before .loop in
+    let hr : l .r - 1 < a .top = (let i = l .inv .0 in let k = turn .loop-test .taken in omega arith) in
+    let first = c .before .before .before .before .before .before .before .before .before .before .before .before .before .before .before .before .close-row in
+    let second = c .before .before .before .before .before .before .close-row2 in (
+      omega arith,
+      l .inv .1,
+      l .inv .2,
+      second .kept .1 .1 .1 .0 ∙ first .kept .1 .1 .1 .0 ∙ l .inv .3,
+      second .kept .1 .1 .1 .1 .0 ∙ first .kept .1 .1 .1 .1 .0 ∙ l .inv .4,
+      second .kept .1 .1 .1 .1 .1 .0 ∙ first .kept .1 .1 .1 .1 .1 .0 ∙ l .inv .5,
+      descended-more (a .edges .now) (a .n) (a .top) (a .below .now) (pre .5) (pre .6) (l .r - 1) _ _ _ _ hr refl refl refl refl (known (2 * (l .r - 1)) .fits) (known (2 * (l .r - 1) + 1) .fits)
+          (a .table .now) (a .longer .now) (a .counts .now) (l .table) (l .longer) (l .counts) (so-far turn) _ _ _ (first .ensures) _ _ _ (second .ensures),
+    )
+
+same-length : tie.Need-same-length Inv-loop μ-loop
+same-length c = search needs
+
+same-length-2 : tie.Need-same-length-2 Inv-loop μ-loop
+same-length-2 c = search needs
+
+same-length-3 : tie.Need-same-length-3 Inv-loop μ-loop
+same-length-3 c = search needs
+
+returns : tie.Need-returns Inv-loop μ-loop
+returns c =
+    let st = c .before .before .before .before .before .before .before in
+    let a = st .args in
+    let l = c .before .loop in
+    descended-all (a .edges .now) (a .n) (a .top) (a .below .now) (st .pre .5) (st .pre .6) (a .table .now) (a .longer .now) (a .counts .now) (l .table) (l .longer) (l .counts)
+    (subst (λ (r : ℕ). Descended (a .edges .now) (a .n) r (a .table .now) (a .longer .now) (a .counts .now) (l .table) (l .longer) (l .counts)) (let e : l .r ≡ 0 = (let k = c .loop-test .left in omega arith) in e) (l .inv .6))
+
+pub close-spec : {M : Type 1} → statement M
+close-spec =
+    tie.close
+    (tie.spec
+    Inv-loop
+    μ-loop
+    loop-holds
+    sub-r
+    mul-a
+    add-a
+    mul-a-2
+    shared-slice-read-a
+    mul-a-3
+    mul-a-4
+    shared-slice-read-a-2
+    mul-b
+    add-b
+    mul-b-2
+    shared-slice-read-b
+    mul-b-3
+    add-b-2
+    mul-b-4
+    shared-slice-read-b-2
+    close-row-requires
+    close-row-requires-2
+    loop-less
+    loop-again
+    same-length
+    same-length-2
+    same-length-3
+    returns)

@@ -1,0 +1,93 @@
+use mathlib.Core.Path.{_≡_, refl, _∙_}
+use Prim.Native.Nat.{_<_}
+use native.Mathlib.Omega.{arith}
+use lib.Count.{trailingZeros}
+use lib.ListN.{length}
+use borrow.Author.Needs.{needs}
+use Rattle.masks.proofs.Visiting.{lowest-lt, lowest-in, visited-less}
+use Rattle.descent.proofs.Rowing.{Closing, closing-none, closing-more, closing-all}
+use Rattle.descent.proofs.close_row.Statement.{statement}
+use Rattle.descent.proofs.close_row.Tie as tie
+
+abbrev Inv-loop : tie.InvT-loop
+Inv-loop mask base edges table₀ longer₀ counts₀ x₀ table longer counts x = (length table ≡ 256) × (length longer ≡ 256) × (length counts ≡ 128) × Closing edges mask base table₀ longer₀ counts₀ table longer counts x
+
+abbrev μ-loop : tie.MeasureT-loop
+μ-loop mask base edges table₀ longer₀ counts₀ x₀ table longer counts x = x
+
+loop-holds : tie.Need-loop-holds Inv-loop μ-loop
+loop-holds c =
+    let st = c .before .before .before .before in
+    let a = st .args in
+    (st .pre .2, st .pre .3, st .pre .4, closing-none (a .edges .now) (a .mask) (a .base) (a .table .now) (a .longer .now) (a .counts .now) (st .fits .mask .fits))
+
+-- the number of the member is below 64
+small : (c : tie.In-loop Inv-loop μ-loop) → trailingZeros 64 (c .before .loop .x) < 64
+small c = lowest-lt _ (c .before .loop .x) _ (c .before .loop .inv .3 .members) (c .loop-test .taken)
+
+cast-u : tie.Need-cast-u Inv-loop μ-loop
+cast-u c = omega (arith, small c, c .before .before .before .before .before .before .pre .0)
+
+add-u : tie.Need-add-u Inv-loop μ-loop
+add-u c = omega (arith, small c, c .before .before .before .before .before .before .pre .0)
+
+sub-x : tie.Need-sub-x Inv-loop μ-loop
+sub-x c = search needs
+
+close-vertex-requires : tie.Need-close-vertex-requires Inv-loop μ-loop
+close-vertex-requires c κs =
+    let st = c .before .before .before .before .before .before .before .before .before in
+    let l = c .before .before .before .before .loop in
+    let t = c .before .before .before in
+    let k = small t in
+    let base = st .pre .0 in
+    let inside = lowest-in _ (l .x) _ (l .inv .3 .members) (t .loop-test .taken) in
+    (omega arith, st .pre .1, l .inv .0, l .inv .1, l .inv .2, λ w arc. l .inv .3 .kept w (st .pre .5 _ k inside w arc) .reached)
+
+loop-less : tie.Need-loop-less Inv-loop μ-loop
+loop-less c = let l = c .before .before .before .before .before .before .before .before .before .before .before .loop in visited-less _ (l .x) _ (l .inv .3 .members) (c .before .before .before .before .before .before .before .before .before .before .loop-test .taken)
+
+loop-again : tie.Need-loop-again Inv-loop μ-loop
+loop-again c =
+    let a = c .before .before .before .before .before .before .before .before .before .before .before .before .before .before .before .before .args in
+    let l = c .before .before .before .before .before .before .before .before .before .before .before .loop in
+    let call = c .before .before .before .before .before .before .close-vertex in (
+      call .kept .1 .1 .0 ∙ l .inv .0,
+      call .kept .1 .1 .1 .0 ∙ l .inv .1,
+      call .kept .1 .1 .1 .1 .0 ∙ l .inv .2,
+      closing-more (a .edges .now) (a .mask) (a .base) (a .table .now) (a .longer .now) (a .counts .now) (l .table) (l .longer) (l .counts) (l .x) _ _ _ _ (l .inv .3)
+          (c .before .before .before .before .before .before .before .before .before .before .loop-test .taken) refl (call .ensures),
+    )
+
+same-length : tie.Need-same-length Inv-loop μ-loop
+same-length c = search needs
+
+same-length-2 : tie.Need-same-length-2 Inv-loop μ-loop
+same-length-2 c = search needs
+
+same-length-3 : tie.Need-same-length-3 Inv-loop μ-loop
+same-length-3 c = search needs
+
+returns : tie.Need-returns Inv-loop μ-loop
+returns c =
+    let a = c .before .before .before .before .before .before .args in
+    let l = c .before .loop in
+    closing-all (a .edges .now) (a .mask) (a .base) (a .table .now) (a .longer .now) (a .counts .now) (l .table) (l .longer) (l .counts) (l .x) (l .inv .3) (c .loop-test .left)
+
+pub close-row-spec : {M : Type 1} → statement M
+close-row-spec =
+    tie.close
+    (tie.spec
+    Inv-loop
+    μ-loop
+    loop-holds
+    cast-u
+    add-u
+    sub-x
+    close-vertex-requires
+    loop-less
+    loop-again
+    same-length
+    same-length-2
+    same-length-3
+    returns)

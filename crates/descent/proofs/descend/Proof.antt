@@ -1,0 +1,201 @@
+use mathlib.Core.Path.{_≡_, refl, sym, _∙_}
+use mathlib.Core.Bool.{false}
+use Prim.Native.Nat.{_/_}
+use native.Mathlib.Omega.{arith}
+use borrow.Author.Needs.{needs}
+use borrow.Author.Tests.{not-true, not-false}
+use lib.ListN.{length}
+use Rattle.reach.specs.Refusal.{outsized?}
+use Rattle.descent.specs.Promise.{Sized}
+use Rattle.descent.specs.Closed.{Inside}
+use Rattle.descent.proofs.Refusals.{outsized-positive}
+use Rattle.descent.proofs.Answering.{fits-sized, descends-misfit, descends-outsized, descends-ends, descends-inside, descends-cyclic, descends-made}
+use Rattle.descent.proofs.descend.Statement.{statement}
+use Rattle.descent.proofs.descend.Tie as tie
+
+is-fit-requires : tie.Need-is-fit-requires
+is-fit-requires c κs = search needs
+
+no-descent-requires : tie.Need-no-descent-requires
+no-descent-requires c κs = search needs
+
+returns : tie.Need-returns
+returns c =
+    let a = c .before .before .before .before .before .before .before .before .args in
+    descends-misfit (a .n) (a .ends .now) (a .edges .now) (a .below .now) (a .table .now) (a .longer .now) _ (sym (c .before .before .is-fit .ensures) ∙ not-true _ (c .before .if1 .taken)) (c .no-descent .ensures)
+
+-- the lists have their lengths
+sized : (c : tie.Else1) → let a = c .before .before .before .before .before .before .before .args in Sized (a .edges .now) (a .below .now) (a .table .now) (a .longer .now)
+sized c = fits-sized _ _ _ _ (sym (c .before .is-fit .ensures) ∙ not-false _ (c .if1 .left))
+
+is-outsized-requires : tie.Need-is-outsized-requires
+is-outsized-requires c κs = search needs
+
+no-descent-requires-2 : tie.Need-no-descent-requires-2
+no-descent-requires-2 c κs = search needs
+
+returns-2 : tie.Need-returns-2
+returns-2 c =
+    let a = c .before .before .before .before .before .before .before .before .before .before .args in
+    descends-outsized (a .n) (a .ends .now) (a .edges .now) (a .below .now) (a .table .now) (a .longer .now) (sized (c .before .before .before)) 2 _ (c .no-descent2 .ensures)
+    _ _ _ _ (sized (c .before .before .before)) (sym (c .before .before .is-outsized .ensures) ∙ c .before .if2 .taken) refl
+
+-- neither too few vertices nor too many, nor too many edges
+within : (c : tie.Else2) → let a = c .before .before .before .before .before .before .before .before .before .args in outsized? (a .n) (length (a .ends .now) / 2) ≡ false
+within c = sym (c .before .is-outsized .ensures) ∙ c .if2 .left
+
+clear-requires : tie.Need-clear-requires
+clear-requires c κs = sized (c .before .before .before) .edges
+
+clear-requires-2 : tie.Need-clear-requires-2
+clear-requires-2 c κs = sized (c .before .before .before .before .before .before .before) .table
+
+clear-requires-3 : tie.Need-clear-requires-3
+clear-requires-3 c κs = sized (c .before .before .before .before .before .before .before .before .before .before .before) .longer
+
+scan-requires : tie.Need-scan-requires
+scan-requires c κs = (outsized-positive _ _ (within (c .before .before .before .before .before .before .before .before .before .before .before .before .before)) .1, c .before .before .before .before .before .before .before .before .before .before .before .clear .ensures)
+
+no-descent-requires-3 : tie.Need-no-descent-requires-3
+no-descent-requires-3 c κs = search needs
+
+same-length : tie.Need-same-length
+same-length c = search needs
+
+same-length-2 : tie.Need-same-length-2
+same-length-2 c = search needs
+
+same-length-3 : tie.Need-same-length-3
+same-length-3 c = search needs
+
+-- after the edges are scanned
+scanned-sized : (c : tie.After-scan) → let a = c .before .before .before .before .before .before .before .before .before .before .before .before .before .before .before .before .before .before .before .before .before .before .before .args in Sized (c .scan .last .1 .1 .0) (a .below .now) (c .before .before .before .before .before .before .before .before .clear2 .last .0) (c .before .before .before .before .clear3 .last .0)
+scanned-sized c = record {
+  edges = c .scan .ensures .masks;
+  below = sized (c .before .before .before .before .before .before .before .before .before .before .before .before .before .before .before .before) .below;
+  table = c .before .before .before .before .before .before .before .before .clear2 .ensures .masks;
+  longer = c .before .before .before .before .clear3 .ensures .masks;
+}
+
+returns-3 : tie.Need-returns-3
+returns-3 c =
+    let s = c .before .before .before .before in
+    let a = c .before .before .before .before .before .before .before .before .before .before .before .before .before .before .before .before .before .before .before .before .before .before .before .before .before .before .before .args in
+    descends-ends (a .n) (a .ends .now) (a .edges .now) (a .below .now) (a .table .now) (a .longer .now) (sized (s .before .before .before .before .before .before .before .before .before .before .before .before .before .before .before .before)) (s .scan .result) _ (c .no-descent3 .ensures)
+    _ _ _ _ (scanned-sized s) (within (s .before .before .before .before .before .before .before .before .before .before .before .before .before .before)) (s .scan .ensures) (c .before .if3 .taken)
+
+slice-aggregate-grown : tie.Need-slice-aggregate-grown
+slice-aggregate-grown c = search needs
+
+-- the edges are accepted: they join vertices
+inside : (c : tie.Else3) → Inside (c .before .before .before .scan .last .1 .1 .0) (c .before .before .before .before .before .before .before .before .before .before .before .before .before .before .before .before .before .before .before .before .before .before .before .before .before .before .args .n)
+inside c =
+    let s = c .before .before .before in
+    let a = s .before .before .before .before .before .before .before .before .before .before .before .before .before .before .before .before .before .before .before .before .before .before .before .args in
+    descends-inside (a .n) (a .ends .now) (a .edges .now) (a .below .now) (a .table .now) (a .longer .now) (sized (s .before .before .before .before .before .before .before .before .before .before .before .before .before .before .before .before)) _ (s .scan .result) (within (s .before .before .before .before .before .before .before .before .before .before .before .before .before .before)) (s .scan .ensures) (c .if3 .left)
+
+grown-requires : tie.Need-grown-requires
+grown-requires c κs =
+    let s = scanned-sized (c .before .before .before .before .before .before) in
+    (outsized-positive _ _ (within (c .before .before .before .before .before .before .before .before .before .before .before .before .before .before .before .before .before .before .before .before)) .0, s .edges, refl, s .below, inside (c .before .before .before))
+
+no-descent-requires-4 : tie.Need-no-descent-requires-4
+no-descent-requires-4 c κs = search needs
+
+same-length-4 : tie.Need-same-length-4
+same-length-4 c = search needs
+
+same-length-5 : tie.Need-same-length-5
+same-length-5 c = search needs
+
+same-length-6 : tie.Need-same-length-6
+same-length-6 c = search needs
+
+same-length-7 : tie.Need-same-length-7
+same-length-7 c = search needs
+
+-- after the rows are found
+grown-sized : (c : tie.After-grown) → let s = c .before .before .before .before .before .before .before in Sized (s .scan .last .1 .1 .0) (c .grown .last .1 .1 .1 .0) (s .before .before .before .before .before .before .before .before .clear2 .last .0) (s .before .before .before .before .clear3 .last .0)
+grown-sized c =
+    let s = scanned-sized (c .before .before .before .before .before .before .before) in
+    record { edges = s .edges; below = c .grown .kept .1 .1 .1 .0 ∙ s .below; table = s .table; longer = s .longer }
+
+returns-4 : tie.Need-returns-4
+returns-4 c =
+    let g = c .before .before .before .before .before in
+    let s = g .before .before .before .before .before .before .before in
+    let a = s .before .before .before .before .before .before .before .before .before .before .before .before .before .before .before .before .before .before .before .before .before .before .before .args in
+    descends-cyclic (a .n) (a .ends .now) (a .edges .now) (a .below .now) (a .table .now) (a .longer .now) (sized (s .before .before .before .before .before .before .before .before .before .before .before .before .before .before .before .before)) _ (s .scan .result) (within (s .before .before .before .before .before .before .before .before .before .before .before .before .before .before)) (s .scan .ensures) (g .before .before .before .before .if3 .left)
+    (g .grown .result) _ _ (g .grown .ensures) _ _ _ (c .before .if4 .taken) (c .no-descent4 .ensures) (grown-sized g)
+
+slice-aggregate-close : tie.Need-slice-aggregate-close
+slice-aggregate-close c = search needs
+
+close-requires : tie.Need-close-requires
+close-requires c κs =
+    let g = c .before .before .before .before .before .before .before .before .before in
+    let s = grown-sized g in
+    (s .edges, s .below, s .table, s .longer, refl, inside (g .before .before .before .before), g .grown .ensures .prefixes (c .before .before .before .before .before .if4 .left))
+
+cast-t43 : tie.Need-cast-t43
+cast-t43 c = omega (arith, c .before .before .before .before .before .before .before .before .before .before .before .before .before .before .before .grown .ensures .prefixes (c .before .before .before .before .before .before .before .before .before .before .before .if4 .left) .few)
+
+same-length-8 : tie.Need-same-length-8
+same-length-8 c = search needs
+
+same-length-9 : tie.Need-same-length-9
+same-length-9 c = search needs
+
+same-length-10 : tie.Need-same-length-10
+same-length-10 c = search needs
+
+same-length-11 : tie.Need-same-length-11
+same-length-11 c = search needs
+
+returns-5 : tie.Need-returns-5
+returns-5 c =
+    let k = c .before .before .before .before .before .close in
+    let g = c .before .before .before .before .before .before .before .before .before .before .before .before .before .before .before in
+    let s = g .before .before .before .before .before .before .before in
+    let a = s .before .before .before .before .before .before .before .before .before .before .before .before .before .before .before .before .before .before .before .before .before .before .before .args in
+    let was = grown-sized g in
+    descends-made (a .n) (a .ends .now) (a .edges .now) (a .below .now) (a .table .now) (a .longer .now) (sized (s .before .before .before .before .before .before .before .before .before .before .before .before .before .before .before .before)) _ (s .scan .result) (within (s .before .before .before .before .before .before .before .before .before .before .before .before .before .before)) (s .scan .ensures) (g .before .before .before .before .if3 .left)
+    (g .grown .result) _ _ (g .grown .ensures) _ _ _ _ _ (c .before .before .before .before .before .before .before .before .before .before .before .if4 .left) (s .before .before .before .before .before .before .before .before .clear2 .ensures) (s .before .before .before .before .clear3 .ensures) (k .ensures)
+    (record { edges = was .edges; below = was .below; table = k .kept .1 .1 .1 .1 .0 ∙ was .table; longer = k .kept .1 .1 .1 .1 .1 .0 ∙ was .longer })
+    (g .grown .kept .1 .1 .0) (k .kept .1 .1 .1 .1 .1 .1 .0)
+
+pub descend-spec : {M : Type 1} → statement M
+descend-spec =
+    tie.close
+    (tie.spec
+    is-fit-requires
+    no-descent-requires
+    returns
+    is-outsized-requires
+    no-descent-requires-2
+    returns-2
+    clear-requires
+    clear-requires-2
+    clear-requires-3
+    scan-requires
+    no-descent-requires-3
+    same-length
+    same-length-2
+    same-length-3
+    returns-3
+    slice-aggregate-grown
+    grown-requires
+    no-descent-requires-4
+    same-length-4
+    same-length-5
+    same-length-6
+    same-length-7
+    returns-4
+    slice-aggregate-close
+    close-requires
+    cast-t43
+    same-length-8
+    same-length-9
+    same-length-10
+    same-length-11
+    returns-5)

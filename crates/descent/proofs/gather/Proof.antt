@@ -1,0 +1,89 @@
+use mathlib.Core.Path.{_≡_, refl}
+use Prim.Native.Nat.{_≤_, _<_}
+use native.Mathlib.Omega.{arith}
+use lib.Count.{trailingZeros}
+use lib.ListN.{length}
+use borrow.Author.Needs.{needs}
+use Rattle.masks.proofs.Visiting.{lowest-lt, visited-less}
+use Rattle.descent.proofs.Gathering.{Gathering, gathering-none, gathering-more, gathering-all}
+use Rattle.descent.proofs.gather.Statement.{statement}
+use Rattle.descent.proofs.gather.Tie as tie
+
+abbrev Inv-loop : tie.InvT-loop
+Inv-loop table mask base low high a₀ b₀ x₀ a b x = (base ≤ 64) × (length table ≡ 256) × Gathering table mask base low high a b x
+
+abbrev μ-loop : tie.MeasureT-loop
+μ-loop table mask base low high a₀ b₀ x₀ a b x = x
+
+loop-holds : tie.Need-loop-holds Inv-loop μ-loop
+loop-holds c = let a = c .args in (c .pre .0, c .pre .1, gathering-none (a .table .now) (a .mask) (a .base) (a .low) (a .high) (c .fits .mask .fits))
+
+-- the number of the member is below 64
+small : (c : tie.In-loop Inv-loop μ-loop) → trailingZeros 64 (c .before .loop .x) < 64
+small c = lowest-lt _ (c .before .loop .x) _ (c .before .loop .inv .2 .members) (c .loop-test .taken)
+
+cast-w : tie.Need-cast-w Inv-loop μ-loop
+cast-w c = omega (arith, small c)
+
+add-w : tie.Need-add-w Inv-loop μ-loop
+add-w c = omega (arith, small c)
+
+mul-a : tie.Need-mul-a Inv-loop μ-loop
+mul-a c = omega (arith, small c)
+
+mul-a-2 : tie.Need-mul-a-2 Inv-loop μ-loop
+mul-a-2 c = omega (arith, small c)
+
+shared-slice-read-a : tie.Need-shared-slice-read-a Inv-loop μ-loop
+shared-slice-read-a c = omega (arith, small (c .before))
+
+mul-b : tie.Need-mul-b Inv-loop μ-loop
+mul-b c = omega (arith, small (c .before))
+
+add-b : tie.Need-add-b Inv-loop μ-loop
+add-b c = omega (arith, small (c .before))
+
+mul-b-2 : tie.Need-mul-b-2 Inv-loop μ-loop
+mul-b-2 c = omega (arith, small (c .before))
+
+shared-slice-read-b : tie.Need-shared-slice-read-b Inv-loop μ-loop
+shared-slice-read-b c = omega (arith, small (c .before .before))
+
+sub-x : tie.Need-sub-x Inv-loop μ-loop
+sub-x c = search needs
+
+loop-less : tie.Need-loop-less Inv-loop μ-loop
+loop-less c = let l = c .before .before .before .loop in visited-less _ (l .x) _ (l .inv .2 .members) (c .before .before .loop-test .taken)
+
+loop-again : tie.Need-loop-again Inv-loop μ-loop
+loop-again c =
+    let a = c .before .before .before .before .args in
+    let l = c .before .before .before .loop in
+    (l .inv .0, l .inv .1, gathering-more (a .table .now) (a .mask) (a .base) (a .low) (a .high) (l .a) (l .b) (l .x) _ _ _ (l .inv .2) (c .before .before .loop-test .taken) refl refl refl)
+
+returns : tie.Need-returns Inv-loop μ-loop
+returns c =
+    let a = c .before .before .args in
+    let l = c .before .loop in
+    gathering-all (a .table .now) (a .mask) (a .base) (a .low) (a .high) (l .a) (l .b) (l .x) (l .inv .2) (c .loop-test .left)
+
+pub gather-spec : {M : Type 1} → statement M
+gather-spec =
+    tie.close
+    (tie.spec
+    Inv-loop
+    μ-loop
+    loop-holds
+    cast-w
+    add-w
+    mul-a
+    mul-a-2
+    shared-slice-read-a
+    mul-b
+    add-b
+    mul-b-2
+    shared-slice-read-b
+    sub-x
+    loop-less
+    loop-again
+    returns)

@@ -1,0 +1,165 @@
+use mathlib.Core.Path.{_≡_, refl, _∙_, subst}
+use Prim.Native.Nat.{ℕ, _+_, _-_, _≤_, zero-le}
+use native.Mathlib.Omega.{arith}
+use lib.ListN.{length, length-set}
+use borrow.Author.Needs.{needs}
+use Rattle.descent.specs.Members.{Below}
+use Rattle.descent.proofs.Descending.{stored-law}
+use Rattle.descent.proofs.Rounding.{Round, round-none, round-more, round-over, round-refused}
+use Rattle.descent.proofs.grown.Statement.{statement}
+use Rattle.descent.proofs.grown.Tie as tie
+
+abbrev Inv-loop : tie.InvT-loop
+Inv-loop edges n rows₀ below₀ first second low₀ high₀ r₀ rows below low high r = (r ≤ n) × (n ≤ 128) × (length edges ≡ 256) × (length rows ≡ 128) × (length below ≡ 258) × Below n first second × Round edges n r low high rows₀ rows below
+
+abbrev μ-loop : tie.MeasureT-loop
+μ-loop edges n rows₀ below₀ first second low₀ high₀ r₀ rows below low high r = n - r
+
+below-n-requires : tie.Need-below-n-requires Inv-loop μ-loop
+below-n-requires c κs = c .before .before .before .pre .4 .small
+
+slice-write-below : tie.Need-slice-write-below Inv-loop μ-loop
+slice-write-below c = search needs
+
+slice-write-below-2 : tie.Need-slice-write-below-2 Inv-loop μ-loop
+slice-write-below-2 c = search needs
+
+loop-holds : tie.Need-loop-holds Inv-loop μ-loop
+loop-holds c =
+    let st = c .before .before .before .before in
+    let a = st .args in
+    let pre = st .pre in
+    let zeros = stored-law (a .below .now) 0 0 0 (omega arith) in (
+      zero-le,
+      pre .4 .small,
+      pre .1,
+      pre .2,
+      simp length-set (pre .3),
+      c .below-n .ensures,
+      round-none (a .edges .now) (a .n) (c .below-n .result .low) (c .below-n .result .high) (a .rows .now) _ (pre .0) (c .below-n .ensures) (zeros .low) (zeros .high),
+    )
+
+image-requires : tie.Need-image-requires Inv-loop μ-loop
+image-requires c κs = c .before .loop .inv .2
+
+cast-set-rows : tie.Need-cast-set-rows Inv-loop μ-loop
+cast-set-rows c = search needs
+
+set-rows-requires : tie.Need-set-rows-requires Inv-loop μ-loop
+set-rows-requires c κs = (zero-le, c .before .before .before .before .before .loop .inv .3)
+
+cast-set-rows-2 : tie.Need-cast-set-rows-2 Inv-loop μ-loop
+cast-set-rows-2 c = search needs
+
+set-rows-requires-2 : tie.Need-set-rows-requires-2 Inv-loop μ-loop
+set-rows-requires-2 c κs = (omega arith, c .before .before .before .set-rows .kept .1 .1 .1 .0 ∙ c .before .before .before .before .before .before .before .before .before .loop .inv .3)
+
+add-s : tie.Need-add-s Inv-loop μ-loop
+add-s c = search needs
+
+mul-below : tie.Need-mul-below Inv-loop μ-loop
+mul-below c = search needs
+
+mul-below-2 : tie.Need-mul-below-2 Inv-loop μ-loop
+mul-below-2 c = search needs
+
+slice-write-below-3 : tie.Need-slice-write-below-3 Inv-loop μ-loop
+slice-write-below-3 c = search needs
+
+mul-below-3 : tie.Need-mul-below-3 Inv-loop μ-loop
+mul-below-3 c = search needs
+
+add-below : tie.Need-add-below Inv-loop μ-loop
+add-below c = search needs
+
+mul-below-4 : tie.Need-mul-below-4 Inv-loop μ-loop
+mul-below-4 c = search needs
+
+slice-write-below-4 : tie.Need-slice-write-below-4 Inv-loop μ-loop
+slice-write-below-4 c = simp length-set (omega arith)
+
+same-length : tie.Need-same-length Inv-loop μ-loop
+same-length c = search needs
+
+same-length-2 : tie.Need-same-length-2 Inv-loop μ-loop
+same-length-2 c = simp length-set (omega arith)
+
+returns : tie.Need-returns Inv-loop μ-loop
+returns c =
+    let st = c .before .before .before .before .before .before .before .before .before .before .before .before .before .before .before .before .before .before in
+    let a = st .args in
+    let l = c .before .before .before .before .before .before .before .before .before .before .before .before .before .loop in
+    let hr = c .before .before .before .before .before .before .before .before .before .before .before .before .loop-test .taken in
+    let image = c .before .before .before .before .before .before .before .before .before .before .before .image in
+    let one = c .before .before .before .before .before .before .before .set-rows in
+    let two = c .before .before .before .set-rows2 in
+    round-over (a .edges .now) (a .n) (l .inv .1) (l .r) (l .low) (l .high) _ _ (image .result .low) (image .result .high) _ _ (a .rows .now) (l .rows) (l .below) (l .inv .6) (l .inv .5) (image .ensures) refl refl
+    _ _ _ (one .ensures) (two .ensures) (stored-law (l .below) (l .r + 1) _ _ (omega arith)) (st .pre .4) (omega arith) (c .if1 .taken)
+
+loop-less : tie.Need-loop-less Inv-loop μ-loop
+loop-less c = search needs
+
+loop-again : tie.Need-loop-again Inv-loop μ-loop
+loop-again c =
+    let st = c .before .before .before .before .before .before .before .before .before .before .before .before .before .before .before .before .before .before in
+    let a = st .args in
+    let l = c .before .before .before .before .before .before .before .before .before .before .before .before .before .loop in
+    let hr = c .before .before .before .before .before .before .before .before .before .before .before .before .loop-test .taken in
+    let image = c .before .before .before .before .before .before .before .before .before .before .before .image in
+    let one = c .before .before .before .before .before .before .before .set-rows in
+    let two = c .before .before .before .set-rows2 in (
+      omega arith,
+      l .inv .1,
+      l .inv .2,
+      two .kept .1 .1 .1 .0 ∙ one .kept .1 .1 .1 .0 ∙ l .inv .3,
+      simp length-set (l .inv .4),
+      l .inv .5,
+      round-more (a .edges .now) (a .n) (l .inv .1) (l .r) (l .low) (l .high) _ _ (image .result .low) (image .result .high) _ _ (a .rows .now) (l .rows) (l .below) (l .inv .6) (l .inv .5) (image .ensures) refl refl
+          _ _ _ (one .ensures) (two .ensures) (stored-law (l .below) (l .r + 1) _ _ (omega arith)) (c .if1 .left),
+    )
+
+same-length-3 : tie.Need-same-length-3 Inv-loop μ-loop
+same-length-3 c = search needs
+
+same-length-4 : tie.Need-same-length-4 Inv-loop μ-loop
+same-length-4 c = search needs
+
+returns-2 : tie.Need-returns-2 Inv-loop μ-loop
+returns-2 c =
+    let st = c .before .before .before .before .before .before in
+    let a = st .args in
+    let l = c .before .loop in
+    round-refused (a .edges .now) (a .n) (l .low) (l .high) (a .rows .now) (l .rows) (l .below) (st .pre .4)
+    (subst (λ (r : ℕ). Round (a .edges .now) (a .n) r (l .low) (l .high) (a .rows .now) (l .rows) (l .below)) (let e : l .r ≡ a .n = (let k = c .loop-test .left in let i = l .inv .0 in omega arith) in e) (l .inv .6))
+
+pub grown-spec : {M : Type 1} → statement M
+grown-spec =
+    tie.close
+    (tie.spec
+    Inv-loop
+    μ-loop
+    below-n-requires
+    slice-write-below
+    slice-write-below-2
+    loop-holds
+    image-requires
+    cast-set-rows
+    set-rows-requires
+    cast-set-rows-2
+    set-rows-requires-2
+    add-s
+    mul-below
+    mul-below-2
+    slice-write-below-3
+    mul-below-3
+    add-below
+    mul-below-4
+    slice-write-below-4
+    same-length
+    same-length-2
+    returns
+    loop-less
+    loop-again
+    same-length-3
+    same-length-4
+    returns-2)

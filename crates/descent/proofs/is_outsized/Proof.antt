@@ -1,0 +1,19 @@
+use borrow.Author.Tests.{eq-eqb, ne-eqb, lt-ltb, le-ltb}
+use Rattle.reach.specs.Refusal.{outsized?}
+use Rattle.descent.proofs.is_outsized.Statement.{statement}
+use Rattle.descent.proofs.is_outsized.Tie as tie
+
+returns : tie.Need-returns
+unfolding outsized?
+returns c = simp (eq-eqb _ _ (c .if1 .taken))
+
+returns-2 : tie.Need-returns-2
+unfolding outsized?
+returns-2 c = simp (ne-eqb _ _ (c .before .if1 .left), lt-ltb _ _ (c .if2 .taken))
+
+returns-3 : tie.Need-returns-3
+unfolding outsized?
+returns-3 c = simp (ne-eqb _ _ (c .before .if1 .left), le-ltb _ _ (c .if2 .left))
+
+pub is-outsized-spec : {M : Type 1} → statement M
+is-outsized-spec = tie.close (tie.spec returns returns-2 returns-3)

@@ -1,0 +1,97 @@
+use mathlib.Core.Path.{_≡_}
+use Prim.Native.Nat.{_<_}
+use native.Mathlib.Omega.{arith}
+use lib.Count.{trailingZeros}
+use lib.ListN.{length}
+use borrow.Author.Needs.{needs}
+use Rattle.masks.proofs.Visiting.{lowest-lt}
+use Rattle.descent.proofs.Gathering.{gathering-all, pictured-both}
+use Rattle.descent.proofs.Skipping.{First, first-none, first-more, nested-second, covered-second, skip-less}
+use Rattle.descent.proofs.reached.Statement.{statement}
+use Rattle.descent.proofs.reached.Tie as tie
+
+abbrev Inv-loop : tie.InvT-loop
+Inv-loop table low high a₀ b₀ x₀ a b x = (length table ≡ 256) × First table low high a b x
+
+abbrev μ-loop : tie.MeasureT-loop
+μ-loop table low high a₀ b₀ x₀ a b x = x
+
+loop-holds : tie.Need-loop-holds Inv-loop μ-loop
+loop-holds c =
+    let st = c .before in
+    (st .pre .0, first-none (st .args .table .now) (st .args .low) (st .args .high) (st .fits .low .fits))
+
+-- the number of the member is below 64
+small : (c : tie.In-loop Inv-loop μ-loop) → trailingZeros 64 (c .before .loop .x) < 64
+small c = lowest-lt _ (c .before .loop .x) _ (c .before .loop .inv .1 .so-far .members) (c .loop-test .taken)
+
+cast-w : tie.Need-cast-w Inv-loop μ-loop
+cast-w c = omega (arith, small c)
+
+mul-a : tie.Need-mul-a Inv-loop μ-loop
+mul-a c = omega (arith, small c)
+
+mul-a-2 : tie.Need-mul-a-2 Inv-loop μ-loop
+mul-a-2 c = omega (arith, small c)
+
+shared-slice-read-a : tie.Need-shared-slice-read-a Inv-loop μ-loop
+shared-slice-read-a c = omega (arith, small (c .before))
+
+mul-b : tie.Need-mul-b Inv-loop μ-loop
+mul-b c = omega (arith, small (c .before))
+
+add-b : tie.Need-add-b Inv-loop μ-loop
+add-b c = omega (arith, small (c .before))
+
+mul-b-2 : tie.Need-mul-b-2 Inv-loop μ-loop
+mul-b-2 c = omega (arith, small (c .before))
+
+shared-slice-read-b : tie.Need-shared-slice-read-b Inv-loop μ-loop
+shared-slice-read-b c = omega (arith, small (c .before .before))
+
+sub-x : tie.Need-sub-x Inv-loop μ-loop
+sub-x c = search needs
+
+loop-less : tie.Need-loop-less Inv-loop μ-loop
+loop-less c = let l = c .before .before .before .loop in skip-less _ (l .x) _ (l .inv .1 .so-far .members) (c .before .before .loop-test .taken) _
+
+loop-again : tie.Need-loop-again Inv-loop μ-loop
+loop-again c =
+    let st = c .before .before .before .before .before in
+    let a = st .args in
+    let l = c .before .before .before .loop in
+    (l .inv .0, first-more (a .table .now) (a .low) (a .high) (st .pre .1) (λ i. c .shared-slice-known3 .given i .fits) (l .a) (l .b) (l .x) (l .inv .1) (c .before .before .loop-test .taken))
+
+with-second-requires : tie.Need-with-second-requires Inv-loop μ-loop
+with-second-requires c κs =
+    let st = c .before .before .before in
+    let a = st .args in
+    let l = c .before .loop in
+    (l .inv .0, nested-second (a .table .now) (a .low) (a .high) (st .pre .1), covered-second (a .table .now) (a .low) (a .high) (l .a) (l .b) (l .inv .1 .covered))
+
+returns : tie.Need-returns Inv-loop μ-loop
+returns c =
+    let a = c .before .before .before .before .args in
+    let l = c .before .before .loop in
+    pictured-both (a .table .now) (a .low) (a .high) (l .a) (l .b) _ _ (gathering-all (a .table .now) (a .low) 0 0 0 (l .a) (l .b) (l .x) (l .inv .1 .so-far) (c .before .loop-test .left)) (c .with-second .ensures)
+
+pub reached-spec : {M : Type 1} → statement M
+reached-spec =
+    tie.close
+    (tie.spec
+    Inv-loop
+    μ-loop
+    loop-holds
+    cast-w
+    mul-a
+    mul-a-2
+    shared-slice-read-a
+    mul-b
+    add-b
+    mul-b-2
+    shared-slice-read-b
+    sub-x
+    loop-less
+    loop-again
+    with-second-requires
+    returns)

@@ -1,0 +1,109 @@
+use mathlib.Core.Path.{subst}
+use mathlib.Core.Logic.{inl, inr}
+use Prim.Native.Nat.{ℕ, _+_, _-_, _*_, _≤_, zero-le}
+use native.Mathlib.Omega.{arith}
+use lib.ListN.{getD}
+use Rattle.descent.proofs.Scanning.{Scanning, scanning-none, scanning-more, scanned-strange, scanned-all}
+use borrow.Author.Needs.{needs}
+use Rattle.descent.proofs.scan.Statement.{statement}
+use Rattle.descent.proofs.scan.Tie as tie
+
+abbrev Inv-loop : tie.InvT-loop
+Inv-loop ends n edges₀ m double₀ i₀ edges double i = (i ≤ m) × Scanning n ends i edges double
+
+abbrev μ-loop : tie.MeasureT-loop
+μ-loop ends n edges₀ m double₀ i₀ edges double i = m - i
+
+loop-holds : tie.Need-loop-holds Inv-loop μ-loop
+loop-holds c =
+    let st = c .before .before in
+    (zero-le, scanning-none (st .args .n) (st .args .ends .now) (st .args .edges .now) (st .pre .1))
+
+mul-at : tie.Need-mul-at Inv-loop μ-loop
+mul-at c = search needs
+
+shared-slice-read-wide : tie.Need-shared-slice-read-wide Inv-loop μ-loop
+shared-slice-read-wide c = search needs
+
+wide-requires : tie.Need-wide-requires Inv-loop μ-loop
+wide-requires c κs = search needs
+
+add-wide : tie.Need-add-wide Inv-loop μ-loop
+add-wide c = search needs
+
+shared-slice-read-wide-2 : tie.Need-shared-slice-read-wide-2 Inv-loop μ-loop
+shared-slice-read-wide-2 c = search needs
+
+wide-requires-2 : tie.Need-wide-requires-2 Inv-loop μ-loop
+wide-requires-2 c κs = search needs
+
+same-length : tie.Need-same-length Inv-loop μ-loop
+same-length c = search needs
+
+returns : tie.Need-returns Inv-loop μ-loop
+returns c =
+    let st = c .before .before .before .before .before .before .before .before .before in
+    let l = c .before .before .before .before .before .before .loop in
+    let bad : st .args .n ≤ getD (st .args .ends .now) (2 * l .i) 0 = subst (λ (x : ℕ). st .args .n ≤ x) (c .before .before .before .wide .ensures .0) (c .if1 .taken) in
+    scanned-strange (st .args .n) (st .args .ends .now) (l .i) (l .edges) (l .double) (l .inv .1) (c .before .before .before .before .before .loop-test .taken) (inl bad)
+
+same-length-2 : tie.Need-same-length-2 Inv-loop μ-loop
+same-length-2 c = search needs
+
+returns-2 : tie.Need-returns-2 Inv-loop μ-loop
+returns-2 c =
+    let st = c .before .before .before .before .before .before .before .before .before .before in
+    let l = c .before .before .before .before .before .before .before .loop in
+    let bad : st .args .n ≤ getD (st .args .ends .now) (2 * l .i + 1) 0 = subst (λ (x : ℕ). st .args .n ≤ x) (c .before .before .wide2 .ensures .0) (c .if2 .taken) in
+    scanned-strange (st .args .n) (st .args .ends .now) (l .i) (l .edges) (l .double) (l .inv .1) (c .before .before .before .before .before .before .loop-test .taken) (inr bad)
+
+mark-requires : tie.Need-mark-requires Inv-loop μ-loop
+mark-requires c κs = search needs
+
+add-i : tie.Need-add-i Inv-loop μ-loop
+add-i c = search needs
+
+loop-less : tie.Need-loop-less Inv-loop μ-loop
+loop-less c = search needs
+
+loop-again : tie.Need-loop-again Inv-loop μ-loop
+loop-again c =
+    let st = c .before .before .before .before .before .before .before .before .before .before .before .before .before .before in
+    let l = c .before .before .before .before .before .before .before .before .before .before .before .loop in
+    let here = c .before .before .before .before .before .before .before .before .before .before .loop-test .taken in (
+      omega arith,
+      scanning-more (st .args .n) (st .args .ends .now) (l .i) (l .edges) (l .double) (st .pre .0) (l .inv .1) _ _ (c .before .before .before .before .before .before .before .before .wide .ensures .0) (c .before .before .before .before .before .before .wide2 .ensures .0) (c .before .before .before .before .before .if1 .left) (c .before .before .before .before .if2 .left) _ _ (c .before .before .mark .ensures),
+    )
+
+same-length-3 : tie.Need-same-length-3 Inv-loop μ-loop
+same-length-3 c = search needs
+
+returns-3 : tie.Need-returns-3 Inv-loop μ-loop
+returns-3 c =
+    let st = c .before .before .before .before in
+    let l = c .before .loop in
+    scanned-all (st .args .n) (st .args .ends .now) (l .i) (l .edges) (l .double) (st .pre .0) (omega arith) (l .inv .1)
+
+pub scan-spec : {M : Type 1} → statement M
+scan-spec =
+    tie.close
+    (tie.spec
+    Inv-loop
+    μ-loop
+    loop-holds
+    mul-at
+    shared-slice-read-wide
+    wide-requires
+    add-wide
+    shared-slice-read-wide-2
+    wide-requires-2
+    same-length
+    returns
+    same-length-2
+    returns-2
+    mark-requires
+    add-i
+    loop-less
+    loop-again
+    same-length-3
+    returns-3)

@@ -1,0 +1,93 @@
+use mathlib.Core.Path.{_≡_}
+use Prim.Native.Nat.{_<_}
+use native.Mathlib.Omega.{arith}
+use lib.Count.{trailingZeros}
+use lib.ListN.{length}
+use borrow.Author.Needs.{needs}
+use Rattle.masks.proofs.Visiting.{lowest-lt}
+use Rattle.descent.proofs.Gathering.{gathering-all}
+use Rattle.descent.proofs.Skipping.{Second, second-none, second-more, skip-less}
+use Rattle.descent.proofs.with_second.Statement.{statement}
+use Rattle.descent.proofs.with_second.Tie as tie
+
+abbrev Inv-loop : tie.InvT-loop
+Inv-loop table mask low high a₀ b₀ x₀ a b x = (length table ≡ 256) × Second table mask low high a b x
+
+abbrev μ-loop : tie.MeasureT-loop
+μ-loop table mask low high a₀ b₀ x₀ a b x = x
+
+loop-holds : tie.Need-loop-holds Inv-loop μ-loop
+loop-holds c =
+    let a = c .args in
+    (c .pre .0, second-none (a .table .now) (a .mask) (c .pre .1) (a .low) (a .high) (c .fits .high .fits) (c .fits .mask .fits) (c .pre .2))
+
+-- the number of the member is below 64
+small : (c : tie.In-loop Inv-loop μ-loop) → trailingZeros 64 (c .before .loop .x) < 64
+small c = lowest-lt _ (c .before .loop .x) _ (c .before .loop .inv .1 .so-far .members) (c .loop-test .taken)
+
+cast-w : tie.Need-cast-w Inv-loop μ-loop
+cast-w c = omega (arith, small c)
+
+add-w : tie.Need-add-w Inv-loop μ-loop
+add-w c = omega (arith, small c)
+
+mul-a : tie.Need-mul-a Inv-loop μ-loop
+mul-a c = omega (arith, small c)
+
+mul-a-2 : tie.Need-mul-a-2 Inv-loop μ-loop
+mul-a-2 c = omega (arith, small c)
+
+shared-slice-read-a : tie.Need-shared-slice-read-a Inv-loop μ-loop
+shared-slice-read-a c = omega (arith, small (c .before))
+
+mul-b : tie.Need-mul-b Inv-loop μ-loop
+mul-b c = omega (arith, small (c .before))
+
+add-b : tie.Need-add-b Inv-loop μ-loop
+add-b c = omega (arith, small (c .before))
+
+mul-b-2 : tie.Need-mul-b-2 Inv-loop μ-loop
+mul-b-2 c = omega (arith, small (c .before))
+
+shared-slice-read-b : tie.Need-shared-slice-read-b Inv-loop μ-loop
+shared-slice-read-b c = omega (arith, small (c .before .before))
+
+sub-x : tie.Need-sub-x Inv-loop μ-loop
+sub-x c = search needs
+
+loop-less : tie.Need-loop-less Inv-loop μ-loop
+loop-less c = let l = c .before .before .before .loop in skip-less _ (l .x) _ (l .inv .1 .so-far .members) (c .before .before .loop-test .taken) _
+
+loop-again : tie.Need-loop-again Inv-loop μ-loop
+loop-again c =
+    let st = c .before .before .before .before in
+    let a = st .args in
+    let l = c .before .before .before .loop in
+    (l .inv .0, second-more (a .table .now) (a .mask) (st .pre .1) (λ i. c .shared-slice-known2 .given i .fits) (a .low) (a .high) (l .a) (l .b) (l .x) (l .inv .1) (c .before .before .loop-test .taken))
+
+returns : tie.Need-returns Inv-loop μ-loop
+returns c =
+    let a = c .before .before .args in
+    let l = c .before .loop in
+    gathering-all (a .table .now) (a .mask) 64 (a .low) (a .high) (l .a) (l .b) (l .x) (l .inv .1 .so-far) (c .loop-test .left)
+
+pub with-second-spec : {M : Type 1} → statement M
+with-second-spec =
+    tie.close
+    (tie.spec
+    Inv-loop
+    μ-loop
+    loop-holds
+    cast-w
+    add-w
+    mul-a
+    mul-a-2
+    shared-slice-read-a
+    mul-b
+    add-b
+    mul-b-2
+    shared-slice-read-b
+    sub-x
+    loop-less
+    loop-again
+    returns)

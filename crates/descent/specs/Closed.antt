@@ -1,0 +1,82 @@
+-- What the steps of the descent leave behind. A table has two masks of 64 bits a vertex. Assumes nothing.
+use mathlib.Core.Path.{_≡_}
+use mathlib.Core.Logic.{_≢_, _↔_}
+use mathlib.Core.Bool.{Bool, _&&_}
+use mathlib.Core.List.{List}
+use Prim.Native.Nat.{ℕ, _+_, _*_, _≤_, _<_}
+use lib.Dec.{eqb, ltb}
+use lib.ListN.{getD}
+use Rattle.counting.specs.Count.{sum, count}
+use Rattle.masks.specs.Bits.{bit}
+use Rattle.masks.specs.Sets.{at}
+use Rattle.reach.specs.Graph.{Reaches, Longer, reaches?}
+use Rattle.layers.specs.Rows.{row, rowsUsed}
+
+-- the table e has an edge from u to v
+abbrev pub Arc : List ℕ → ℕ → ℕ → Type 0
+Arc e u v = (u < 128) × (v < 128) × (at 2 e u v ≡ 1)
+
+-- the same, computed: bit v of the two masks of u, and with the bounds
+unfoldable pub edgeIn : List ℕ → ℕ → ℕ → Bool
+edgeIn e u v = eqb (at 2 e u v) 1
+
+unfoldable pub arc? : List ℕ → ℕ → ℕ → Bool
+arc? e u v = ltb u 128 && (ltb v 128 && edgeIn e u v)
+
+-- the set of u in t is what u reaches by the edges of e
+abbrev pub Reached : List ℕ → List ℕ → ℕ → Type 0
+Reached e t u = (v : ℕ) → v < 128 → at 2 t u v ≡ 1 ↔ Reaches (Arc e) u v
+
+-- what the lists have for u is right: what u reaches, what it reaches by two edges or more, and how many vertices it reaches
+pub record Finished (e t l c : List ℕ) (u : ℕ) : Type 0 where
+  pub reached : Reached e t u
+  pub farther : (v : ℕ) → v < 128 → at 2 l u v ≡ 1 ↔ Longer (Arc e) u v
+  pub counted : getD c u 0 ≡ sum 128 (at 2 t u)
+
+-- what the lists have for u is the same
+pub record Same (u : ℕ) (t l c t′ l′ c′ : List ℕ) : Type 0 where
+  pub low : getD t′ (2 * u) 0 ≡ getD t (2 * u) 0
+  pub high : getD t′ (2 * u + 1) 0 ≡ getD t (2 * u + 1) 0
+  pub low-far : getD l′ (2 * u) 0 ≡ getD l (2 * u) 0
+  pub high-far : getD l′ (2 * u + 1) 0 ≡ getD l (2 * u + 1) 0
+  pub number : getD c′ u 0 ≡ getD c u 0
+
+-- one vertex more
+pub record Vertex (e : List ℕ) (u : ℕ) (t l c t′ l′ c′ : List ℕ) : Type 0 where
+  pub own : Finished e t′ l′ c′ u
+  pub others : (w : ℕ) → w ≢ u → Same w t l c t′ l′ c′
+
+-- the members of a mask that begins at vertex `base`
+pub record Row (e : List ℕ) (mask base : ℕ) (t l c t′ l′ c′ : List ℕ) : Type 0 where
+  pub done : (j : ℕ) → j < 64 → bit mask j ≡ 1 → Finished e t′ l′ c′ (base + j)
+  pub kept : (w : ℕ) → Finished e t l c w → Finished e t′ l′ c′ w
+  pub others : (w : ℕ) → ((j : ℕ) → j < 64 → bit mask j ≡ 1 → w ≢ base + j) → Same w t l c t′ l′ c′
+
+-- every edge joins two of n vertices
+pub record Inside (e : List ℕ) (n : ℕ) : Type 0 where
+  pub small : n ≤ 128
+  pub tail : (u v : ℕ) → Arc e u v → u < n
+  pub head : (u v : ℕ) → Arc e u v → v < n
+
+-- set r of `below` has the vertices whose row is below r; no row is `top` or more
+pub record Prefixes (e : List ℕ) (n top : ℕ) (below : List ℕ) : Type 0 where
+  pub few : top ≤ 128
+  pub members : (r v : ℕ) → r ≤ top → v < 128 → at 2 below r v ≡ 1 ↔ ((v < n) × (row (edgeIn e) n v < r))
+  pub all : (v : ℕ) → v < n → row (edgeIn e) n v < top
+
+-- where a vertex reaches itself, r is 0; else r is the number of rows used, and s has the row of each of the n vertices. The others have
+-- what `rows` has
+pub record Laid (e : List ℕ) (n r : ℕ) (rows s below : List ℕ) : Type 0 where
+  pub cyclic : r ≡ 0 → (u : ℕ) × (u < n) × Reaches (Arc e) u u
+  pub acyclic : r ≢ 0 → (u : ℕ) → Reaches (Arc e) u u → ⊥
+  pub used : r ≢ 0 → r ≡ rowsUsed (edgeIn e) n
+  pub rule : r ≢ 0 → (v : ℕ) → v < n → getD s v 0 ≡ row (edgeIn e) n v
+  pub prefixes : r ≢ 0 → Prefixes e n r below
+  pub past : (v : ℕ) → n ≤ v → getD s v 0 ≡ getD rows v 0
+
+-- the lists have what is right for each of n vertices, and for the others what they had
+pub record Closed (e : List ℕ) (n : ℕ) (t l c t′ l′ c′ : List ℕ) : Type 0 where
+  pub bits : (u v : ℕ) → u < n → v < 128 → at 2 t′ u v ≡ 1 ↔ Reaches (Arc e) u v
+  pub farther : (u v : ℕ) → u < n → v < 128 → at 2 l′ u v ≡ 1 ↔ Longer (Arc e) u v
+  pub counted : (u : ℕ) → u < n → getD c′ u 0 ≡ count 128 (reaches? (arc? e) n u)
+  pub others : (u : ℕ) → n ≤ u → Same u t l c t′ l′ c′

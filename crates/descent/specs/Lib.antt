@@ -1,0 +1,4 @@
+pub mod Members
+pub mod Scanned
+pub mod Closed
+pub mod Promise

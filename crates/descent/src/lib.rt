@@ -1,0 +1,364 @@
+// Layer 1: from the bytes of a graph's edges to its tables (document 01: 'Descent', 'Rows'). Rows are found by rounds; then, from the highest
+// row down, each vertex gets the union of its successors' sets. A table has two masks of 64 bits a vertex: bit v mod 64, lowest first, of
+// mask 2 u + v / 64 says that v is in the set of u.
+ghost use mathlib.Core.Path.{_≡_};
+ghost use Prim.Native.Nat.{ℕ, _+_, _*_, _≤_, _<_};
+ghost use lib.ListN.{length};
+ghost use Rattle.counting.specs.Count.{choose};
+ghost use Rattle.masks.specs.Bits.{bit};
+ghost use Rattle.masks.specs.Sets.{member?, inserted};
+ghost use Rattle.reach.specs.Refusal.{outsized?};
+ghost use Rattle.descent.specs.Members.{Below, Gathered, Pictured, Nested, Covered, Written};
+ghost use Rattle.descent.specs.Scanned.{Blank, Scanned};
+ghost use Rattle.descent.specs.Closed.{Arc, Reached, Finished, Vertex, Row, Inside, Prefixes, Laid, Closed};
+ghost use Rattle.descent.specs.Promise.{noDescent, fits?, Descends};
+
+// The most vertices and edges of a graph.
+const MOST_VERTICES: usize = 128;
+
+const MOST_EDGES: usize = 4096;
+
+// Why the edges are refused, or 0; rows used, the row of each vertex, 0 past the last, and how many vertices each reaches.
+pub struct Descent {
+    pub refusal: u8,
+    pub used: u8,
+    pub rows: [u8; 128],
+    pub counts: [u8; 128],
+}
+
+// The two masks of a set.
+struct Pair {
+    low: u64,
+    high: u64,
+}
+
+// A byte as a usize: asks nothing of the byte, where a cast of an element asks that it fits.
+fn wide(x: u8) -> usize
+    ensures { λ r. ⌜ (r ≡ x) × (r < 256) ⌝ }
+{
+    x as usize
+}
+
+// ---- the edges
+
+// No bit set in 256 masks.
+fn clear(masks: &mut [u64])
+    requires { ⌜ length (now masks) ≡ 256 ⌝ }
+    ensures { λ _. ⌜ Blank (now (masks .exit)) ⌝ }
+{
+    for i in 0..256usize {
+        masks[i] = 0;
+    }
+}
+
+// Puts v into the set of u: 4 where it stood there before, else what came in.
+fn mark(edges: &mut [u64], u: usize, v: usize, double: u8) -> u8
+    requires { ⌜ (u < 128) × (v < 128) × (length (now edges) ≡ 256) ⌝ }
+    ensures { λ r. ⌜ (r ≡ choose (member? (now (edges .entry)) (2 * u) v) (λ _. 4) (λ _. double)) × (now (edges .exit) ≡ inserted (now (edges .entry)) (2 * u) v) ⌝ }
+{
+    let w = 2 * u + v / 64;
+    let old = edges[w];
+    edges[w] = old | (1u64 << (v % 64));
+    if (old >> (v % 64)) & 1 == 1 {
+        return 4;
+    }
+    double
+}
+
+// The checks 3 and 4 of edges, two bytes each, among n vertices: the first that fails, else 0. Unless it answers 3, `edges` has the
+// edges' bits and no other.
+fn scan(ends: &[u8], n: usize, edges: &mut [u64]) -> u8
+    requires { ⌜ (n ≤ 128) × Blank (now edges) ⌝ }
+    ensures { λ r. ⌜ Scanned n (now (ends .entry)) (now (edges .exit)) r ⌝ }
+{
+    let m = ends.len() / 2;
+    let mut double: u8 = 0;
+    for i in 0..m {
+        let at = 2 * i;
+        let u = wide(ends[at]);
+        let v = wide(ends[at + 1]);
+        if n <= u {
+            return 3;
+        }
+        if n <= v {
+            return 3;
+        }
+        double = mark(edges, u, v, double);
+    }
+    double
+}
+
+// ---- unions
+
+// The set of the vertices below n.
+fn below_n(n: usize) -> Pair
+    requires { ⌜ n ≤ 128 ⌝ }
+    ensures { λ r. ⌜ Below n (r .low) (r .high) ⌝ }
+{
+    if n < 64 {
+        return Pair {
+            low: (1u64 << n) - 1,
+            high: 0,
+        };
+    }
+    if n < 128 {
+        return Pair {
+            low: !0,
+            high: (1u64 << (n - 64)) - 1,
+        };
+    }
+    Pair { low: !0, high: !0 }
+}
+
+// The set of two masks with the sets of the members of a mask, which begins at vertex `base`, put in.
+fn gather(table: &[u64], mask: u64, base: usize, low: u64, high: u64) -> Pair
+    requires { ⌜ (base ≤ 64) × (length (now table) ≡ 256) ⌝ }
+    ensures { λ r. ⌜ Gathered (now (table .entry)) mask base low high (r .low) (r .high) ⌝ }
+{
+    let mut a = low;
+    let mut b = high;
+    let mut x = mask;
+    while x != 0 {
+        let w = base + u64::trailing_zeros(x) as usize;
+        a = a | table[2 * w];
+        b = b | table[2 * w + 1];
+        x = x & (x - 1);
+    }
+    Pair { low: a, high: b }
+}
+
+// The union of the sets of the members of a set of two masks.
+fn image(table: &[u64], low: u64, high: u64) -> Pair
+    requires { ⌜ length (now table) ≡ 256 ⌝ }
+    ensures { λ r. ⌜ Pictured (now (table .entry)) low high (r .low) (r .high) ⌝ }
+{
+    let p = gather(table, low, 0, 0, 0);
+    gather(table, high, 64, p.low, p.high)
+}
+
+// A set with the sets of the members of its second mask put in, where it holds the sets of those that it has: they are left out.
+fn with_second(table: &[u64], mask: u64, low: u64, high: u64) -> Pair
+    requires { ⌜ (length (now table) ≡ 256) × Nested (now table) 0 mask × Covered (now table) 0 mask low high ⌝ }
+    ensures { λ r. ⌜ Gathered (now (table .entry)) mask 64 low high (r .low) (r .high) ⌝ }
+{
+    let mut a = low;
+    let mut b = high;
+    let mut x = mask & !b;
+    while x != 0 {
+        let w = 64 + u64::trailing_zeros(x) as usize;
+        a = a | table[2 * w];
+        b = b | table[2 * w + 1];
+        x = x & (x - 1) & !b;
+    }
+    Pair { low: a, high: b }
+}
+
+// The union of sets that hold the sets of their own members among `low`, `high`: those that are in the union already are left out.
+fn reached(table: &[u64], low: u64, high: u64) -> Pair
+    requires { ⌜ (length (now table) ≡ 256) × Nested (now table) low high ⌝ }
+    ensures { λ r. ⌜ Pictured (now (table .entry)) low high (r .low) (r .high) ⌝ }
+{
+    let mut a: u64 = 0;
+    let mut b: u64 = 0;
+    let mut x = low;
+    while x != 0 {
+        let w = u64::trailing_zeros(x) as usize;
+        a = a | table[2 * w];
+        b = b | table[2 * w + 1];
+        x = x & (x - 1) & !a;
+    }
+    with_second(table, high, a, b)
+}
+
+// ---- the rows
+
+// Row r for each member of a mask that begins at vertex `base`.
+fn set_rows(mask: u64, base: usize, r: u8, rows: &mut [u8])
+    requires { ⌜ (base ≤ 64) × (length (now rows) ≡ 128) ⌝ }
+    ensures { λ _. ⌜ Written mask base r (now (rows .entry)) (now (rows .exit)) ⌝ }
+{
+    let mut x = mask;
+    while x != 0 {
+        let v = base + u64::trailing_zeros(x) as usize;
+        x = x & (x - 1);
+        rows[v] = r;
+    }
+}
+
+// The row of each of n vertices, and for each number up to that of the rows used the set of the vertices of lower rows. The number of rows
+// used, or 0 where a vertex reaches itself.
+fn grown(edges: &[u64], n: usize, rows: &mut [u8], below: &mut [u64]) -> usize
+    requires { ⌜ (0 < n) × (length (now edges) ≡ 256) × (length (now rows) ≡ 128) × (length (now below) ≡ 258) × Inside (now edges) n ⌝ }
+    ensures { λ r. ⌜ Laid (now (edges .entry)) n r (now (rows .entry)) (now (rows .exit)) (now (below .exit)) ⌝ }
+{
+    let all = below_n(n);
+    let first = all.low;
+    let second = all.high;
+    below[0] = 0;
+    below[1] = 0;
+    let mut low = first;
+    let mut high = second;
+    let mut r: usize = 0;
+    while r < n {
+        let p = image(edges, low, high);
+        let a = low & p.low;
+        let b = high & p.high;
+        set_rows(low & !a, 0, r as u8, rows);
+        set_rows(high & !b, 64, r as u8, rows);
+        let s = r + 1;
+        below[2 * s] = first & !a;
+        below[2 * s + 1] = second & !b;
+        if a | b == 0 {
+            return s;
+        }
+        low = a;
+        high = b;
+        r = s;
+    }
+    0
+}
+
+// ---- the closure
+
+// The sets of u from those of its successors.
+fn close_vertex(u: usize, edges: &[u64], table: &mut [u64], longer: &mut [u64], counts: &mut [u8])
+    requires { ⌜ (u < 128) × (length (now edges) ≡ 256) × (length (now table) ≡ 256) × (length (now longer) ≡ 256) × (length (now counts) ≡ 128) × ((w : ℕ) → Arc (now edges) u w → Reached (now edges) (now table) w) ⌝ }
+    ensures { λ _. ⌜ Vertex (now (edges .entry)) u (now (table .entry)) (now (longer .entry)) (now (counts .entry)) (now (table .exit)) (now (longer .exit)) (now (counts .exit)) ⌝ }
+{
+    let low = edges[2 * u];
+    let high = edges[2 * u + 1];
+    let p = reached(table, low, high);
+    longer[2 * u] = p.low;
+    longer[2 * u + 1] = p.high;
+    let a = low | p.low;
+    let b = high | p.high;
+    table[2 * u] = a;
+    table[2 * u + 1] = b;
+    counts[u] = (u64::count_ones(a) + u64::count_ones(b)) as u8;
+}
+
+// The sets of the members of a mask that begins at vertex `base`, where those of all their successors stand.
+fn close_row(
+    mask: u64,
+    base: usize,
+    edges: &[u64],
+    table: &mut [u64],
+    longer: &mut [u64],
+    counts: &mut [u8],
+)
+    requires { ⌜ (base ≤ 64) × (length (now edges) ≡ 256) × (length (now table) ≡ 256) × (length (now longer) ≡ 256) × (length (now counts) ≡ 128) × ((j : ℕ) → j < 64 → bit mask j ≡ 1 → (w : ℕ) → Arc (now edges) (base + j) w → Finished (now edges) (now table) (now longer) (now counts) w) ⌝ }
+    ensures { λ _. ⌜ Row (now (edges .entry)) mask base (now (table .entry)) (now (longer .entry)) (now (counts .entry)) (now (table .exit)) (now (longer .exit)) (now (counts .exit)) ⌝ }
+{
+    let mut x = mask;
+    while x != 0 {
+        let u = base + u64::trailing_zeros(x) as usize;
+        x = x & (x - 1);
+        close_vertex(u, edges, table, longer, counts);
+    }
+}
+
+// What each of n vertices reaches, what it reaches by two edges or more, and how many it reaches, from the highest row down.
+fn close(
+    edges: &[u64],
+    below: &[u64],
+    n: usize,
+    top: usize,
+    table: &mut [u64],
+    longer: &mut [u64],
+    counts: &mut [u8],
+)
+    requires { ⌜ (length (now edges) ≡ 256) × (length (now below) ≡ 258) × (length (now table) ≡ 256) × (length (now longer) ≡ 256) × (length (now counts) ≡ 128) × Inside (now edges) n × Prefixes (now edges) n top (now below) ⌝ }
+    ensures { λ _. ⌜ Closed (now (edges .entry)) n (now (table .entry)) (now (longer .entry)) (now (counts .entry)) (now (table .exit)) (now (longer .exit)) (now (counts .exit)) ⌝ }
+{
+    let mut r = top;
+    while 0 < r {
+        r -= 1;
+        let a = below[2 * r + 2] & !below[2 * r];
+        let b = below[2 * r + 3] & !below[2 * r + 1];
+        close_row(a, 0, edges, table, longer, counts);
+        close_row(b, 64, edges, table, longer, counts);
+    }
+}
+
+// ---- the whole
+
+// Refused: no row is used, and every number is 0.
+fn no_descent(refusal: u8) -> Descent
+    ensures { λ r. ⌜ r ≡ noDescent refusal ⌝ }
+{
+    Descent {
+        refusal,
+        used: 0,
+        rows: [0; 128],
+        counts: [0; 128],
+    }
+}
+
+// Whether work lists of these lengths have room.
+fn is_fit(edges: usize, below: usize, table: usize, longer: usize) -> bool
+    ensures { λ r. ⌜ r ≡ fits? edges below table longer ⌝ }
+{
+    if edges != 256 {
+        return false;
+    }
+    if below != 258 {
+        return false;
+    }
+    if table != 256 {
+        return false;
+    }
+    longer == 256
+}
+
+// Whether n vertices and m edges are too few or too many.
+fn is_outsized(n: usize, m: usize) -> bool
+    ensures { λ r. ⌜ r ≡ outsized? n m ⌝ }
+{
+    if n == 0 {
+        return true;
+    }
+    if MOST_VERTICES < n {
+        return true;
+    }
+    MOST_EDGES < m
+}
+
+// The tables of n vertices and of edges of two bytes each, tail and head. Refused with 8 (a work list of another length: nothing is changed),
+// 2 (no vertex, more than 128, or more than 4,096 edges), 3 (an end of n or more), 4 (an edge twice) or 5 (a cycle).
+pub fn descend(
+    n: usize,
+    ends: &[u8],
+    edges: &mut [u64],
+    below: &mut [u64],
+    table: &mut [u64],
+    longer: &mut [u64],
+) -> Descent
+    ensures { λ r. ⌜ Descends n (now (ends .entry)) (now (edges .entry)) (now (below .entry)) (now (table .entry)) (now (longer .entry)) r (now (edges .exit)) (now (below .exit)) (now (table .exit)) (now (longer .exit)) ⌝ }
+{
+    if !is_fit(edges.len(), below.len(), table.len(), longer.len()) {
+        return no_descent(8);
+    }
+    if is_outsized(n, ends.len() / 2) {
+        return no_descent(2);
+    }
+    clear(edges);
+    clear(table);
+    clear(longer);
+    let k = scan(ends, n, edges);
+    if k != 0 {
+        return no_descent(k);
+    }
+    let mut rows = [0u8; 128];
+    let top = grown(edges, n, &mut rows, below);
+    if top == 0 {
+        return no_descent(5);
+    }
+    let mut counts = [0u8; 128];
+    close(edges, below, n, top, table, longer, &mut counts);
+    Descent {
+        refusal: 0,
+        used: top as u8,
+        rows,
+        counts,
+    }
+}

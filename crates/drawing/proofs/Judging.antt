@@ -1,0 +1,48 @@
+-- What is drawn of a graph, and of a record: its graph's, or nothing. Assumes nothing.
+use mathlib.Core.Path.{_≡_, refl, ap, _∙_}
+use mathlib.Core.Bool.{Bool}
+use mathlib.Core.List.{List}
+use Prim.Native.Nat.{ℕ, _*_}
+use lib.Dec.{eqb}
+use lib.ListN.{take, drop}
+use borrow.Author.Tests.{ne-eqb}
+use Rattle.counting.specs.Count.{choose}
+use Rattle.record.specs.Checks.{refusalOf}
+use Rattle.record.specs.Layout.{layoutOf}
+use Rattle.record.specs.Reading.{nothing, contentOf, contentIn, refusalIn, recordRefusal, said}
+use Rattle.record.specs.declared.layout.Fields.{Fields}
+use Rattle.record.specs.declared.layout.Layout.{Layout}
+use Rattle.record.specs.declared.layout.Layout.the-variants.{Good, Bad}
+use Rattle.drawing.specs.Drawn.{Drawn, judged, graphContent, graphDrawn, recordDrawn, refusedBy}
+
+module _ (n : ℕ) (ends : List ℕ) (given : Bool) (field : List ℕ) where
+  pub graph-refused : (k : ℕ) → k ≡ refusalOf (graphContent n ends given field) → (k ≡ 0 → ⊥) → graphDrawn n ends given field ≡ refusedBy k
+  unfolding graphDrawn judged
+  graph-refused k e ne = rw (← e) (rw (ne-eqb k 0 ne) refl)
+
+  pub graph-whole : 0 ≡ refusalOf (graphContent n ends given field)
+      → graphDrawn n ends given field ≡ record { refusal = 0; graph = graphContent n ends given field }
+  unfolding graphDrawn judged
+  graph-whole e = rw (← e) refl
+
+-- ---- by where the fields of the record stand
+
+drawnIn : List ℕ → Layout → Drawn
+drawnIn b l = record {
+  refusal = refusalIn refusalOf b l;
+  graph = choose (eqb (refusalIn refusalOf b l) 0) (λ _. contentIn b l) (λ _. nothing);
+}
+
+module _ (b : List ℕ) where
+  record-drawn : recordDrawn b ≡ drawnIn b (layoutOf b)
+  unfolding recordDrawn recordRefusal said drawnIn
+  record-drawn = refl
+
+  pub record-bad : layoutOf b ≡ Bad → recordDrawn b ≡ refusedBy 1
+  unfolding drawnIn
+  record-bad e = record-drawn ∙ ap (drawnIn b) e
+
+  pub record-good : (f : Fields) → layoutOf b ≡ Good f
+      → recordDrawn b ≡ graphDrawn (f .vertices) (take (2 * f .count) (drop (f .edges) b)) (f .given) (take (f .size) (drop (f .lines) b))
+  unfolding drawnIn graphDrawn judged graphContent contentOf
+  record-good f e = record-drawn ∙ ap (drawnIn b) e

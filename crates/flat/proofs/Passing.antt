@@ -1,0 +1,100 @@
+-- Entries, one more at a time. Assumes nothing.
+use mathlib.Core.Path.{_≡_, refl, sym, ap, ap₂, _∙_}
+use mathlib.Core.Bool.{Bool, true, false, not}
+use mathlib.Core.List.{List}
+use Prim.Native.Nat.{ℕ, zero, suc, _+_, _-_, _*_, _/_, _%_, _^_, _<_}
+use native.Mathlib.Omega.{arith}
+use lib.Bits.{bitAnd}
+use lib.Dec.{eqb}
+use lib.ListN.{getD, set}
+use Rattle.counting.specs.Count.{count, sum, indicator}
+use Rattle.counting.proofs.Sums.{sum-more}
+use Rattle.masks.specs.Sets.{member, member?}
+use Rattle.masks.proofs.Bits.{bit-lt}
+use Rattle.masks.proofs.Sets.{member-test}
+use Rattle.kinds.specs.Codes.{codeOf}
+use Rattle.kinds.specs.Kinds.{kindAmong}
+use Rattle.kinds.specs.declared.Code.{Code}
+use Rattle.flat.specs.Blocks.{stored}
+use Rattle.flat.specs.Chart.{wordNumber, arrowNumber, bundleNumber}
+use Rattle.flat.specs.Numbers.{Given, tailAt, headAt, kindAt, implied?, arrowFrom, wordFrom, bundleFrom}
+use Rattle.flat.specs.Pass.{arrowAt}
+use Rattle.flat.proofs.Blocks.{five, four}
+
+-- ---- a vertex and a bundle
+
+pub word-stored : (channel position column row descendants : List ℕ) (v : ℕ) (l : List ℕ)
+    → set (set (set (set (set l (v * 5) (getD channel v 0)) (v * 5 + 1) (getD position v 0)) (v * 5 + 2) (getD column v 0)) (v * 5 + 3)
+    (getD row v 0)) (v * 5 + 4) (getD descendants v 0)
+    ≡ stored (wordNumber (wordFrom channel position column row descendants v)) (v * 5) 5 l
+unfolding wordNumber wordFrom
+word-stored channel position column row descendants v l =
+    five (wordNumber (wordFrom channel position column row descendants v)) (v * 5) _ _ _ _ _ l refl refl refl refl refl
+
+pub bundle-stored : (channel first last track : List ℕ) (b : ℕ) (l : List ℕ)
+    → set (set (set (set l (b * 4) (getD channel b 0)) (b * 4 + 1) (getD first b 0)) (b * 4 + 2) (getD last b 0)) (b * 4 + 3)
+    (getD track b 0)
+    ≡ stored (bundleNumber (bundleFrom channel first last track b)) (b * 4) 4 l
+unfolding bundleNumber bundleFrom
+bundle-stored channel first last track b l =
+    four (bundleNumber (bundleFrom channel first last track b)) (b * 4) _ _ _ _ l refl refl refl refl
+
+-- ---- an edge, as the code has it: u and v are its ends
+
+module _ (g : Given) (e u v : ℕ) (tail : u ≡ tailAt g e) (head : v ≡ headAt g e) where
+  pub mark-here : (mark : ℕ) → mark ≡ indicator (member? (g .longer) (2 * u) v) → mark ≡ indicator (implied? g e)
+  unfolding implied?
+  mark-here mark h = rw tail at (rw head at h)
+
+  kind-here : (k : Code)
+      → k ≡ codeOf (kindAmong (g .channel) (g .position) (g .into) (g .out-of) (g .columns) (g .rows) (g .below) (g .left) u v)
+      → k ≡ codeOf (kindAt g e)
+  unfolding kindAt
+  kind-here k h = rw tail at (rw head at h)
+
+  pub arrow-stored : (mark : ℕ) (k : Code) (l : List ℕ)
+      → k ≡ codeOf (kindAmong (g .channel) (g .position) (g .into) (g .out-of) (g .columns) (g .rows) (g .below) (g .left) u v)
+      → mark ≡ indicator (implied? g e)
+      → set (set (set (set (set l (e * 5) e) (e * 5 + 1) (k .code)) (e * 5 + 2) (k .value)) (e * 5 + 3) (k .row)) (e * 5 + 4) mark
+      ≡ stored (arrowAt g e) (e * 5) 5 l
+  unfolding arrowNumber arrowFrom
+  arrow-stored mark k l h q =
+      let s = kind-here k h in
+      five (arrowAt g e) (e * 5) e (k .code) (k .value) (k .row) mark l refl
+      (ap (λ (x : Code). x .code) s) (ap (λ (x : Code). x .value) s) (ap (λ (x : Code). x .row) s) q
+
+-- ---- marks
+
+one-or-none : (x : ℕ) → x < 2 → x ≡ indicator (eqb x 1)
+one-or-none zero h = refl
+one-or-none (suc zero) h = refl
+one-or-none (suc (suc x)) h = absurd (omega arith)
+
+member-lt : (s : List ℕ) (first v : ℕ) → member s first v < 2
+unfolding member
+member-lt s first v = bit-lt (getD s (first + v / 64) 0) (v % 64)
+
+pub mark-is : (s : List ℕ) (first v x : ℕ) → x ≡ bitAnd (getD s (first + v / 64) 0 / 2 ^ (v % 64)) 1
+    → (x ≡ indicator (member? s first v)) × (x < 2)
+mark-is s first v x e =
+    let q : x ≡ member s first v = e ∙ member-test s first v in
+    let h = member-lt s first v in
+    (q ∙ one-or-none (member s first v) h, omega arith)
+
+-- 1 less a mark counts what has none
+pub unmarked : (b : Bool) (x : ℕ) → x ≡ indicator b → 1 - x ≡ indicator (not b)
+unmarked true x e = rw e refl
+unmarked false x e = rw e refl
+
+module _ (g : Given) where
+  pub firm-none : 0 ≡ count 0 (λ e. not (implied? g e))
+  unfolding count sum
+  firm-none = refl
+
+  pub firm-more : (k x r : ℕ) → x ≡ count k (λ e. not (implied? g e)) → r ≡ indicator (not (implied? g k))
+      → x + r ≡ count (k + 1) (λ e. not (implied? g e))
+  unfolding count
+  firm-more k x r q e = ap₂ _+_ q e ∙ sym (sum-more k (λ e. indicator (not (implied? g e))))
+
+  pub firm-all : (m k x : ℕ) → k ≡ m → x ≡ count k (λ e. not (implied? g e)) → x ≡ count m (λ e. not (implied? g e))
+  firm-all m k x e q = q ∙ ap (λ (j : ℕ). count j (λ e. not (implied? g e))) e

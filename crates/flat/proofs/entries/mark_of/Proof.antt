@@ -1,0 +1,44 @@
+-- `flat::entries::mark_of` meets its contract, by the law of a mask's bit (`Passing.antt`). Assumes nothing.
+use mathlib.Core.Path.{refl}
+use Prim.Native.Nat.{_*_}
+use native.Mathlib.Omega.{arith}
+use Rattle.flat.proofs.Passing.{mark-is}
+use borrow.Author.Needs.{needs}
+use Rattle.flat.proofs.entries.mark_of.Statement.{statement}
+use Rattle.flat.proofs.entries.mark_of.Tie as tie
+
+mul-result : tie.Need-mul-result
+mul-result c = search needs
+
+add-result : tie.Need-add-result
+add-result c = search needs
+
+mul-result-2 : tie.Need-mul-result-2
+mul-result-2 c = search needs
+
+shared-slice-read-result : tie.Need-shared-slice-read-result
+shared-slice-read-result c = search needs
+
+shr-result : tie.Need-shr-result
+shr-result c = search needs
+
+cast-result : tie.Need-cast-result
+cast-result c =
+    let a = c .before .args in
+    let h = mark-is (a .longer .now) (2 * a .u) (a .v) _ refl in
+    record { fits = omega arith }
+
+returns : tie.Need-returns
+returns c = let a = c .before .args in mark-is (a .longer .now) (2 * a .u) (a .v) _ refl
+
+pub mark-of-spec : {M : Type 1} → statement M
+mark-of-spec =
+    tie.close
+    (tie.spec
+    mul-result
+    add-result
+    mul-result-2
+    shared-slice-read-result
+    shr-result
+    cast-result
+    returns)

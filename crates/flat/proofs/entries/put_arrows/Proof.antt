@@ -1,0 +1,73 @@
+-- `flat::entries::put_arrows` meets its contract. The invariant: the first e entries stand, and the reduced ones are counted. Assumes nothing.
+use mathlib.Core.Path.{_≡_}
+use mathlib.Core.Bool.{not}
+use Prim.Native.Nat.{_-_, _≤_}
+use native.Mathlib.Omega.{arith}
+use borrow.Author.Needs.{needs}
+use Rattle.counting.specs.Count.{count}
+use Rattle.flat.specs.Numbers.{given, implied?}
+use Rattle.flat.specs.Pass.{arrowAt}
+use Rattle.flat.proofs.Blocks.{entered, entered-none, entered-more, entered-long, entered-all}
+use Rattle.flat.proofs.Passing.{firm-none, firm-more, firm-all}
+use Rattle.flat.proofs.entries.put_arrows.Statement.{statement}
+use Rattle.flat.proofs.entries.put_arrows.Tie as tie
+
+abbrev Inv-loop : tie.InvT-loop
+Inv-loop out₀ ends longer channel position into out-of columns rows below left m firm₀ e₀ out firm e =
+    let g = given ends longer channel position into out-of columns rows below left in
+    (e ≤ m) × (out ≡ entered 5 (arrowAt g) out₀ e) × (firm ≡ count e (λ i. not (implied? g i))) × (firm ≤ e)
+
+abbrev μ-loop : tie.MeasureT-loop
+μ-loop out₀ ends longer channel position into out-of columns rows below left m firm₀ e₀ out firm e = m - e
+
+loop-holds : tie.Need-loop-holds Inv-loop μ-loop
+loop-holds c = (omega arith, entered-none _ _ _, firm-none _, omega arith)
+
+put-arrow-requires : tie.Need-put-arrow-requires Inv-loop μ-loop
+put-arrow-requires c κs = (
+  omega (arith, entered-long _ _ _ _ _ (c .before .before .loop .inv .1)),
+  c .before .before .before .before
+      .before .before .before .before .before .before .before .before .before .before .pre .2 _ (omega arith),
+)
+
+add-firm : tie.Need-add-firm Inv-loop μ-loop
+add-firm c = search needs
+
+add-e : tie.Need-add-e Inv-loop μ-loop
+add-e c = search needs
+
+loop-less : tie.Need-loop-less Inv-loop μ-loop
+loop-less c = search needs
+
+loop-again : tie.Need-loop-again Inv-loop μ-loop
+loop-again c =
+    let st = c .before .before .before .before .before .loop in
+    let put = c .before .before .put-arrow in
+    (omega arith, entered-more _ _ _ _ _ _ (st .inv .1) (put .ensures .0), firm-more _ _ _ _ (st .inv .2) (put .ensures .1), omega arith)
+
+same-length : tie.Need-same-length Inv-loop μ-loop
+same-length c = entered-long _ _ _ _ _ (c .before .loop .inv .1)
+
+returns : tie.Need-returns Inv-loop μ-loop
+returns c =
+    let st = c .before .loop in
+    record {
+      entries = entered-all _ _ _ _ _ _ (omega arith) (omega arith) (omega arith) (st .inv .1);
+      counted = firm-all _ _ _ _
+          (omega arith) (st .inv .2);
+    }
+
+pub put-arrows-spec : {M : Type 1} → statement M
+put-arrows-spec =
+    tie.close
+    (tie.spec
+    Inv-loop
+    μ-loop
+    loop-holds
+    put-arrow-requires
+    add-firm
+    add-e
+    loop-less
+    loop-again
+    same-length
+    returns)

@@ -1,0 +1,106 @@
+-- `flat::entries::put_words` meets its contract. The invariant: the first v entries stand in the list. Assumes nothing.
+use mathlib.Core.Path.{_≡_, _∙_}
+use Prim.Native.Nat.{_-_, _≤_}
+use native.Mathlib.Omega.{arith}
+use borrow.Author.Needs.{needs}
+use Rattle.flat.specs.Chart.{wordNumber}
+use Rattle.flat.specs.Numbers.{wordFrom}
+use Rattle.flat.proofs.Blocks.{entered, entered-none, entered-more, entered-long, entered-all}
+use Rattle.flat.proofs.Passing.{word-stored}
+use Rattle.flat.proofs.entries.put_words.Statement.{statement}
+use Rattle.flat.proofs.entries.put_words.Tie as tie
+
+abbrev Inv-loop : tie.InvT-loop
+Inv-loop out₀ channel position column row descendants n v₀ out v =
+    (v ≤ n) × (out ≡ entered 5 (λ w. wordNumber (wordFrom channel position column row descendants w)) out₀ v)
+
+abbrev μ-loop : tie.MeasureT-loop
+μ-loop out₀ channel position column row descendants n v₀ out v = n - v
+
+loop-holds : tie.Need-loop-holds Inv-loop μ-loop
+loop-holds c = (omega arith, entered-none _ _ _)
+
+mul-put-five : tie.Need-mul-put-five Inv-loop μ-loop
+mul-put-five c = search needs
+
+shared-slice-read-put-five : tie.Need-shared-slice-read-put-five Inv-loop μ-loop
+shared-slice-read-put-five c = search needs
+
+cast-put-five : tie.Need-cast-put-five Inv-loop μ-loop
+cast-put-five c = let fit = c .shared-slice-known6 .given (c .before .before .before .loop .v) .fits in record { fits = omega arith }
+
+shared-slice-read-put-five-2 : tie.Need-shared-slice-read-put-five-2 Inv-loop μ-loop
+shared-slice-read-put-five-2 c = search needs
+
+cast-put-five-2 : tie.Need-cast-put-five-2 Inv-loop μ-loop
+cast-put-five-2 c = let fit = c .shared-slice-known7 .given (c .before .before .before .before .loop .v) .fits in record {
+  fits =
+      omega arith;
+}
+
+mul-put-five-2 : tie.Need-mul-put-five-2 Inv-loop μ-loop
+mul-put-five-2 c = search needs
+
+shared-slice-read-put-five-3 : tie.Need-shared-slice-read-put-five-3 Inv-loop μ-loop
+shared-slice-read-put-five-3 c = search needs
+
+shared-slice-read-put-five-4 : tie.Need-shared-slice-read-put-five-4 Inv-loop μ-loop
+shared-slice-read-put-five-4 c = search needs
+
+cast-put-five-3 : tie.Need-cast-put-five-3 Inv-loop μ-loop
+cast-put-five-3 c = let fit = c .shared-slice-known9 .given (c .before .before .before .before .before
+    .before .loop .v) .fits in record { fits = omega arith }
+
+shared-slice-read-put-five-5 : tie.Need-shared-slice-read-put-five-5 Inv-loop μ-loop
+shared-slice-read-put-five-5 c = search needs
+
+cast-put-five-4 : tie.Need-cast-put-five-4 Inv-loop μ-loop
+cast-put-five-4 c = let fit = c .shared-slice-known10 .given (c .before .before .before .before .before .before
+    .before .loop .v) .fits in record { fits = omega arith }
+
+put-five-requires : tie.Need-put-five-requires Inv-loop μ-loop
+put-five-requires c κs = omega (arith, entered-long _ _ _ _ _ (c .before .before .before .before .before .before .before .loop .inv .1))
+
+add-v : tie.Need-add-v Inv-loop μ-loop
+add-v c = search needs
+
+loop-less : tie.Need-loop-less Inv-loop μ-loop
+loop-less c = search needs
+
+loop-again : tie.Need-loop-again Inv-loop μ-loop
+loop-again c = (
+  omega arith,
+  entered-more _ _ _ _ _ _ (c .before .before .before .before .before .before .before .before .before
+      .before .loop .inv .1) (c .before .before .put-five .ensures ∙ word-stored _ _ _ _ _ _ _),
+)
+
+same-length : tie.Need-same-length Inv-loop μ-loop
+same-length c = entered-long _ _ _ _ _ (c .before .loop .inv .1)
+
+returns : tie.Need-returns Inv-loop μ-loop
+returns c = entered-all _ _ _ _ _ _ (omega arith) (omega arith) (omega arith) (c .before .loop .inv .1)
+
+pub put-words-spec : {M : Type 1} → statement M
+put-words-spec =
+    tie.close
+    (tie.spec
+    Inv-loop
+    μ-loop
+    loop-holds
+    mul-put-five
+    shared-slice-read-put-five
+    cast-put-five
+    shared-slice-read-put-five-2
+    cast-put-five-2
+    mul-put-five-2
+    shared-slice-read-put-five-3
+    shared-slice-read-put-five-4
+    cast-put-five-3
+    shared-slice-read-put-five-5
+    cast-put-five-4
+    put-five-requires
+    add-v
+    loop-less
+    loop-again
+    same-length
+    returns)

@@ -1,0 +1,5 @@
+pub mod Chart
+pub mod Blocks
+pub mod Numbers
+pub mod Pass
+pub mod Hand

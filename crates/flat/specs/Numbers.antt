@@ -1,0 +1,72 @@
+-- The entries that tables have. Assumes nothing.
+use mathlib.Core.Bool.{Bool}
+use mathlib.Core.List.{List}
+use Prim.Native.Nat.{ℕ, _+_, _*_}
+use lib.ListN.{getD}
+use Rattle.masks.specs.Sets.{member?}
+use Rattle.outline.specs.declared.Kind.{Kind}
+use Rattle.outline.specs.declared.VertexEntry.{VertexEntry}
+use Rattle.outline.specs.declared.EdgeEntry.{EdgeEntry}
+use Rattle.outline.specs.declared.BundleEntry.{BundleEntry}
+use Rattle.kinds.specs.Kinds.{kindAmong}
+
+unfoldable pub wordFrom : List ℕ → List ℕ → List ℕ → List ℕ → List ℕ → ℕ → VertexEntry
+wordFrom channel position column row descendants v = record {
+  channel = getD channel v 0;
+  position = getD position v 0;
+  column = getD column v 0;
+  row = getD row v 0;
+  descendants = getD descendants v 0;
+}
+
+unfoldable pub bundleFrom : List ℕ → List ℕ → List ℕ → List ℕ → ℕ → BundleEntry
+bundleFrom channel first last track b = record {
+  channel = getD channel b 0;
+  «first_row» = getD first b 0;
+  «last_row» = getD last b 0;
+  track = getD track b 0;
+}
+
+-- what edges are made from: two bytes an edge, the pairs with a vertex between, the places and the bundles of their ends, and the sets of
+-- the vertices below each row and left of each channel
+pub record Given : Type 0 where
+  pub ends : List ℕ
+  pub longer : List ℕ
+  pub channel : List ℕ
+  pub position : List ℕ
+  pub into : List ℕ
+  pub out-of : List ℕ
+  pub columns : List ℕ
+  pub rows : List ℕ
+  pub below : List ℕ
+  pub left : List ℕ
+
+abbrev pub given : List ℕ → List ℕ → List ℕ → List ℕ → List ℕ → List ℕ → List ℕ → List ℕ → List ℕ → List ℕ → Given
+given ends longer channel position into out-of columns rows below left = record {
+  ends = ends;
+  longer = longer;
+  channel = channel;
+  position = position;
+  into = into;
+  out-of = out-of;
+  columns = columns;
+  rows = rows;
+  below = below;
+  left = left;
+}
+
+module _ (g : Given) where
+  abbrev pub tailAt : ℕ → ℕ
+  tailAt e = getD (g .ends) (2 * e) 0
+
+  abbrev pub headAt : ℕ → ℕ
+  headAt e = getD (g .ends) (2 * e + 1) 0
+
+  unfoldable pub implied? : ℕ → Bool
+  implied? e = member? (g .longer) (2 * tailAt e) (headAt e)
+
+  unfoldable pub kindAt : ℕ → Kind
+  kindAt e = kindAmong (g .channel) (g .position) (g .into) (g .out-of) (g .columns) (g .rows) (g .below) (g .left) (tailAt e) (headAt e)
+
+  unfoldable pub arrowFrom : ℕ → EdgeEntry
+  arrowFrom e = record { number = e; kind = kindAt e; transitive = implied? e }

@@ -1,0 +1,27 @@
+-- The one pass over the edges. Assumes nothing.
+use mathlib.Core.Path.{_≡_}
+use mathlib.Core.Bool.{not}
+use mathlib.Core.List.{List}
+use Prim.Native.Nat.{ℕ, _+_, _*_, _≤_, _<_}
+use lib.ListN.{length}
+use Rattle.counting.specs.Count.{count}
+use Rattle.lists.specs.Filled.{Filled}
+use Rattle.flat.specs.Chart.{arrowNumber, arrows}
+use Rattle.flat.specs.Numbers.{Given, tailAt, headAt, implied?, arrowFrom}
+
+-- number f of edge e
+abbrev pub arrowAt : Given → ℕ → ℕ → ℕ
+arrowAt g e = arrowNumber (arrowFrom g e)
+
+-- edge e has two bytes, which are vertices, and each vertex has a set of the vertices past one between
+pub record Ready (g : Given) (e : ℕ) : Type 0 where
+  pub few : e < 4096
+  pub ends : 2 * e + 2 ≤ length (g .ends)
+  pub tail : tailAt g e < 128
+  pub head : headAt g e < 128
+  pub longer : length (g .longer) ≡ 256
+
+-- the first m entries stand in the list, every number past them is as it was, and the reduced ones are counted
+pub record Passed (g : Given) (was : List ℕ) (m : ℕ) (is : List ℕ) (r : ℕ) : Type 0 where
+  pub entries : Filled was (arrows (arrowFrom g)) (m * 5) is
+  pub counted : r ≡ count m (λ e. not (implied? g e))

@@ -1,0 +1,186 @@
+// The entries of the lists, from tables: the edges in one pass over the bytes of their ends.
+ghost use mathlib.Core.Path.{_≡_};
+ghost use mathlib.Core.Bool.{not};
+ghost use Prim.Native.Nat.{ℕ, _+_, _*_, _≤_, _<_};
+ghost use lib.ListN.{length, set};
+ghost use Rattle.counting.specs.Count.{indicator};
+ghost use Rattle.masks.specs.Sets.{member?};
+ghost use Rattle.lists.specs.Filled.{Filled};
+ghost use Rattle.flat.specs.Blocks.{stored};
+ghost use Rattle.flat.specs.Chart.{words, bundles};
+ghost use Rattle.flat.specs.Numbers.{given, implied?, wordFrom, bundleFrom};
+ghost use Rattle.flat.specs.Pass.{arrowAt, Ready, Passed};
+use crate::wide;
+
+// How many numbers an entry has.
+pub(crate) const WORD_NUMBERS: usize = 5;
+
+pub(crate) const ARROW_NUMBERS: usize = 5;
+
+pub(crate) const BUNDLE_NUMBERS: usize = 4;
+
+// ---- an entry's numbers, from place i on
+
+fn put_five(out: &mut [u16], i: usize, a: u16, b: u16, c: u16, d: u16, e: u16)
+    requires { ⌜ i + 5 ≤ length (now out) ⌝ }
+    ensures { λ _. ⌜ now (out .exit) ≡ set (set (set (set (set (now (out .entry)) i a) (i + 1) b) (i + 2) c) (i + 3) d) (i + 4) e ⌝ }
+{
+    out[i] = a;
+    out[i + 1] = b;
+    out[i + 2] = c;
+    out[i + 3] = d;
+    out[i + 4] = e;
+}
+
+fn put_four(out: &mut [u16], i: usize, a: u16, b: u16, c: u16, d: u16)
+    requires { ⌜ i + 4 ≤ length (now out) ⌝ }
+    ensures { λ _. ⌜ now (out .exit) ≡ set (set (set (set (now (out .entry)) i a) (i + 1) b) (i + 2) c) (i + 3) d ⌝ }
+{
+    out[i] = a;
+    out[i + 1] = b;
+    out[i + 2] = c;
+    out[i + 3] = d;
+}
+
+// ---- edges
+
+// 1 where the edge from u to v is transitive (document 01: implied), else 0.
+fn mark_of(longer: &[u64], u: usize, v: usize) -> u16
+    requires { ⌜ (length (now longer) ≡ 256) × (u < 128) × (v < 128) ⌝ }
+    ensures { λ r. ⌜ (r ≡ indicator (member? (now (longer .entry)) (2 * u) v)) × (r < 2) ⌝ }
+{
+    ((longer[2 * u + v / 64] >> (v % 64)) & 1) as u16
+}
+
+// Puts edge e at its place; 1 if it is reduced (document 01: firm), else 0.
+fn put_arrow<'e, 'l, 'a>(
+    out: &mut [u16],
+    ends: &'e [u8],
+    longer: &'l [u64],
+    channel: &'a [u8],
+    position: &'a [u8],
+    into: &'a [u16],
+    out_of: &'a [u16],
+    columns: &'a [u16],
+    rows: &'a [u8],
+    below: &'a [u64],
+    left: &'a [u64],
+    e: usize,
+) -> u16
+    requires { ⌜ (e * 5 + 5 ≤ length (now out)) × Ready (given (now ends) (now longer) (now channel) (now position) (now into) (now «out_of») (now columns) (now rows) (now below) (now left)) e ⌝ }
+    ensures { λ r. ⌜ (now (out .exit) ≡ stored (arrowAt (given (now (ends .entry)) (now (longer .entry)) (now (channel .entry)) (now (position .entry)) (now (into .entry)) (now («out_of» .entry)) (now (columns .entry)) (now (rows .entry)) (now (below .entry)) (now (left .entry))) e) (e * 5) 5 (now (out .entry))) × (r ≡ indicator (not (implied? (given (now (ends .entry)) (now (longer .entry)) (now (channel .entry)) (now (position .entry)) (now (into .entry)) (now («out_of» .entry)) (now (columns .entry)) (now (rows .entry)) (now (below .entry)) (now (left .entry))) e))) × (r < 2) ⌝ }
+{
+    let u = wide(ends[2 * e]);
+    let v = wide(ends[2 * e + 1]);
+    let mark = mark_of(longer, u, v);
+    let k = kinds::kind_of(
+        channel,
+        position,
+        into,
+        out_of,
+        columns,
+        rows,
+        below,
+        left,
+        u,
+        v,
+    );
+    put_five(
+        out,
+        e * ARROW_NUMBERS,
+        e as u16,
+        k.code as u16,
+        k.value,
+        k.row as u16,
+        mark,
+    );
+    1 - mark
+}
+
+// Puts the first m edges; how many of them are reduced.
+pub(crate) fn put_arrows<'e, 'l, 'a>(
+    out: &mut [u16],
+    ends: &'e [u8],
+    longer: &'l [u64],
+    channel: &'a [u8],
+    position: &'a [u8],
+    into: &'a [u16],
+    out_of: &'a [u16],
+    columns: &'a [u16],
+    rows: &'a [u8],
+    below: &'a [u64],
+    left: &'a [u64],
+    m: usize,
+) -> u16
+    requires { ⌜ (m * 5 ≤ length (now out)) × (m ≤ 4096) × ((e : ℕ) → e < m → Ready (given (now ends) (now longer) (now channel) (now position) (now into) (now «out_of») (now columns) (now rows) (now below) (now left)) e) ⌝ }
+    ensures { λ r. ⌜ Passed (given (now (ends .entry)) (now (longer .entry)) (now (channel .entry)) (now (position .entry)) (now (into .entry)) (now («out_of» .entry)) (now (columns .entry)) (now (rows .entry)) (now (below .entry)) (now (left .entry))) (now (out .entry)) m (now (out .exit)) r ⌝ }
+{
+    let mut firm: u16 = 0;
+    for e in 0..m {
+        firm += put_arrow(
+            out,
+            ends,
+            longer,
+            channel,
+            position,
+            into,
+            out_of,
+            columns,
+            rows,
+            below,
+            left,
+            e,
+        );
+    }
+    firm
+}
+
+// ---- vertices and bundles
+
+pub(crate) fn put_words<'c, 'p, 'l, 'r, 'd>(
+    out: &mut [u16],
+    channel: &'c [u8],
+    position: &'p [u8],
+    column: &'l [u16],
+    row: &'r [u8],
+    descendants: &'d [u8],
+    n: usize,
+)
+    requires { ⌜ (n * 5 ≤ length (now out)) × (n ≤ 128) × (length (now channel) ≡ 128) × (length (now position) ≡ 128) × (length (now column) ≡ 128) × (length (now row) ≡ 128) × (length (now descendants) ≡ 128) ⌝ }
+    ensures { λ _. ⌜ Filled (now (out .entry)) (words (wordFrom (now (channel .entry)) (now (position .entry)) (now (column .entry)) (now (row .entry)) (now (descendants .entry)))) (n * 5) (now (out .exit)) ⌝ }
+{
+    for v in 0..n {
+        put_five(
+            out,
+            v * WORD_NUMBERS,
+            channel[v] as u16,
+            position[v] as u16,
+            column[v],
+            row[v] as u16,
+            descendants[v] as u16,
+        );
+    }
+}
+
+pub(crate) fn put_bundles<'c, 'f, 'l, 't>(
+    out: &mut [u16],
+    channel: &'c [u8],
+    first_row: &'f [u8],
+    last_row: &'l [u8],
+    track: &'t [u8],
+    count: usize,
+)
+    requires { ⌜ (count * 4 ≤ length (now out)) × (count ≤ 256) × (length (now channel) ≡ 256) × (length (now «first_row») ≡ 256) × (length (now «last_row») ≡ 256) × (length (now track) ≡ 256) ⌝ }
+    ensures { λ _. ⌜ Filled (now (out .entry)) (bundles (bundleFrom (now (channel .entry)) (now («first_row» .entry)) (now («last_row» .entry)) (now (track .entry)))) (count * 4) (now (out .exit)) ⌝ }
+{
+    for b in 0..count {
+        put_four(
+            out,
+            b * BUNDLE_NUMBERS,
+            channel[b] as u16,
+            first_row[b] as u16,
+            last_row[b] as u16,
+            track[b] as u16,
+        );
+    }
+}

@@ -1,0 +1,63 @@
+-- `geometry::course_among` meets its contract. Assumes nothing.
+use mathlib.Core.Path.{sym, _∙_}
+use native.Mathlib.Omega.{arith}
+use lib.Dec.{eqb}
+use Rattle.masks.specs.Pairs.{inPair}
+use Rattle.geometry.specs.Segment.{pointOf, vertexCount, BlockedAmong}
+use Rattle.geometry.proofs.Segments.{hit-rise}
+use Rattle.geometry.proofs.Among.{among-blocked, among-free}
+use borrow.Author.Needs.{needs}
+use Rattle.geometry.proofs.course_among.Statement.{statement}
+use Rattle.geometry.proofs.course_among.Tie as tie
+
+blocked-among-requires : tie.Need-blocked-among-requires
+blocked-among-requires c κs = search needs
+
+-- past the test a candidate is in the way
+known : (c : tie.Then1) →
+    let a = c .before .before .before .before .args in
+    BlockedAmong (λ w. eqb (inPair (a .low) (a .high) w) 1)
+    (pointOf (a .columns .now) (a .rows .now)) (vertexCount (a .columns .now) (a .rows .now)) (a .tail) (a .head)
+known c = c .before .blocked-among .ensures .holds (c .if1 .taken)
+
+mul-bend-beside : tie.Need-mul-bend-beside
+mul-bend-beside c = let b = known c .blocked in omega arith
+
+shared-slice-read-bend-beside : tie.Need-shared-slice-read-bend-beside
+shared-slice-read-bend-beside c = let b = known (c .before) .blocked in omega arith
+
+mul-bend-beside-2 : tie.Need-mul-bend-beside-2
+mul-bend-beside-2 c = let b = known (c .before) .blocked in omega arith
+
+shared-slice-read-bend-beside-2 : tie.Need-shared-slice-read-bend-beside-2
+shared-slice-read-bend-beside-2 c = let b = known (c .before .before) .blocked in omega arith
+
+shared-slice-read-bend-beside-3 : tie.Need-shared-slice-read-bend-beside-3
+shared-slice-read-bend-beside-3 c = let b = known (c .before .before .before) .blocked in omega arith
+
+sub-bend-beside : tie.Need-sub-bend-beside
+sub-bend-beside c = omega (arith, hit-rise (known (c .before .before .before) .blocked .hit))
+
+bend-beside-requires : tie.Need-bend-beside-requires
+bend-beside-requires c κs = search needs
+
+returns : tie.Need-returns
+returns c = c .bend-beside .ensures ∙ sym (among-blocked _ _ _ _ _ (known (c .before .before .before .before)))
+
+returns-2 : tie.Need-returns-2
+returns-2 c = sym (among-free _ _ _ _ _ (c .before .blocked-among .ensures .fails (c .if1 .left)))
+
+pub course-among-spec : {M : Type 1} → statement M
+course-among-spec =
+    tie.close
+    (tie.spec
+    blocked-among-requires
+    mul-bend-beside
+    shared-slice-read-bend-beside
+    mul-bend-beside-2
+    shared-slice-read-bend-beside-2
+    shared-slice-read-bend-beside-3
+    sub-bend-beside
+    bend-beside-requires
+    returns
+    returns-2)

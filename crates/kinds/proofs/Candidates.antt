@@ -1,0 +1,110 @@
+-- Where columns stand by blocks, candidates are enough: each vertex strictly inside the segment of a cross edge is one. Assumes nothing.
+use mathlib.Core.Path.{_≡_, refl, sym, ap, _∙_}
+use mathlib.Core.Logic.{_↔_, ⊎-elim}
+use mathlib.Core.Bool.{true}
+use mathlib.Core.List.{List}
+use Prim.Native.Nat.{ℕ, _+_, _≤_, _<_, min, max}
+use native.Mathlib.Decide.{ℕ-discrete}
+use native.Mathlib.Omega.{arith}
+use borrow.Author.Tests.{eq-eqb, lt-ltb}
+use lib.ListN.{length, getD}
+use Rattle.counting.proofs.Truth.{and-intro, two-cases}
+use Rattle.masks.specs.Sets.{at}
+use Rattle.masks.proofs.Tables.{at-lt}
+use Rattle.geometry.specs.Segment.{pointOf, vertexCount, Hit}
+use Rattle.geometry.specs.Placement.{Widths, ownColumn}
+use Rattle.geometry.proofs.Segments.{inside-low, inside-high, column-past, column-back}
+use Rattle.geometry.proofs.Blocks.{lower-or-higher, own-apart}
+use Rattle.geometry.proofs.Among.{among-enough}
+use Rattle.outline.specs.Chart.{crossing}
+use Rattle.kinds.specs.Prefixes.{Prefixes}
+use Rattle.kinds.specs.Kinds.{kindIn, strictly?, candidate?, kindAmong}
+use Rattle.kinds.proofs.Coding.{across, among-within, among-across}
+
+-- n vertices stand by blocks; `below` has the sets of the vertices below each row, and `left` those left of each channel, as `prefixes`
+-- gives them. Between two channels nothing stands: where there are no more, any `left` will do
+pub record Ready (W : Widths) (n top count : ℕ) (channel columns rows below left : List ℕ) : Type 0 where
+  pub counted : vertexCount columns rows ≡ n
+  pub few : n ≤ 128
+  pub long : n ≤ length channel
+  pub few-channels : count ≤ 128
+  pub row-low : (v : ℕ) → v < n → getD rows v 0 < top
+  pub by-row : (k v : ℕ) → k ≤ top → v < 128 → at 2 below k v ≡ 1 ↔ ((v < n) × (getD rows v 0 < k))
+  pub channel-low : (v : ℕ) → v < n → getD channel v 0 < count
+  pub by-channel : 2 < count → Prefixes 2 (min (min n 128) (length channel)) (λ v. getD channel v 0) (min count 128) left
+  pub on-own : (v : ℕ) → v < n → getD columns v 0 ≡ ownColumn W (getD channel v 0)
+
+-- a column further right is a later channel's
+own-back : (W : Widths) (c d : ℕ) → ownColumn W c < ownColumn W d → c < d
+own-back W c d l =
+    lower-or-higher c d
+    (λ p. p)
+    (λ e. absurd (let q = ap (ownColumn W) e in omega arith))
+    (λ p. absurd (let q = own-apart W d c p in omega arith))
+
+-- in set b and not in set a + 1
+strictly-true : (t : List ℕ) (a b w : ℕ) → at 2 t b w ≡ 1 → (at 2 t (a + 1) w ≡ 1 → ⊥) → strictly? t a b w ≡ true
+strictly-true t a b w p q =
+    and-intro _ _ (eq-eqb _ _ p) (⊎-elim (λ z. rw z refl) (λ o. absurd (q o)) (two-cases (at 2 t (a + 1) w) (at-lt 2 t (a + 1) w)))
+
+module _ (W : Widths) (n top count : ℕ) (channel columns rows below left : List ℕ) (R : Ready W n top count channel columns rows below left)
+    (u v w : ℕ) (hu : u < n) (hv : v < n) (hw : w < n) (apart : getD channel u 0 ≡ getD channel v 0 → ⊥)
+    (h : Hit (pointOf columns rows u) (pointOf columns rows v) (pointOf columns rows w)) where
+  -- strictly inside is strictly between by channels
+  channel-between :
+      (min (getD channel u 0) (getD channel v 0) < getD channel w 0) × (getD channel w 0 < max (getD channel u 0) (getD channel v 0))
+  channel-between =
+      let ou = R .on-own u hu in
+      let ov = R .on-own v hv in
+      let ow = R .on-own w hw in
+      lower-or-higher (getD channel u 0) (getD channel v 0)
+      (λ l.
+      let c = column-past h (let a = own-apart W _ _ l in omega arith) in
+      let p = own-back W (getD channel u 0) (getD channel w 0) (omega (arith, c .0)) in
+      let q = own-back W (getD channel w 0) (getD channel v 0) (omega (arith, c .1)) in
+      (omega arith, omega arith))
+      (λ e. absurd (apart e))
+      (λ l.
+      let c = column-back h (let a = own-apart W _ _ l in omega arith) in
+      let p = own-back W (getD channel v 0) (getD channel w 0) (omega (arith, c .0)) in
+      let q = own-back W (getD channel w 0) (getD channel u 0) (omega (arith, c .1)) in
+      (omega arith, omega arith))
+
+  inside-candidate : candidate? below left (getD rows u 0) (getD rows v 0) (getD channel u 0) (getD channel v 0) w ≡ true
+  unfolding candidate?
+  inside-candidate =
+      let f = R .few in
+      let a : getD rows u 0 < getD rows w 0 = inside-low (h .rises) (h .inside) in
+      let b : getD rows w 0 < getD rows v 0 = inside-high (h .rises) (h .inside) in
+      let c = channel-between in
+      let rv = R .row-low v hv in
+      let cu = R .channel-low u hu in
+      let cv = R .channel-low v hv in
+      let l = R .long in
+      let m = R .few-channels in
+      let by = R .by-channel (omega (arith, c .0, c .1)) in
+      and-intro _ _ (lt-ltb w 128 (omega arith)) (and-intro _ _
+      (strictly-true below (getD rows u 0) (getD rows v 0) w
+      (R .by-row (getD rows v 0) w (omega arith) (omega arith) .1 (hw, b))
+      (λ o. let s = R .by-row (getD rows u 0 + 1) w (omega arith) (omega arith) .0 o .1 in omega arith))
+      (strictly-true left (min (getD channel u 0) (getD channel v 0)) (max (getD channel u 0) (getD channel v 0)) w
+      (by .sets-by-key (max (getD channel u 0) (getD channel v 0)) w (omega arith) (omega arith) .1 (omega arith, c .1))
+      (λ o.
+      let s = by .sets-by-key (min (getD channel u 0) (getD channel v 0) + 1) w (omega arith) (omega arith) .0 o .1 in
+      omega (arith, c .0))))
+
+-- The kind by candidates is the kind.
+pub kind-candidates : (W : Widths) (n top count : ℕ) (channel position into outOf columns rows below left : List ℕ)
+    → Ready W n top count channel columns rows below left → (u v : ℕ) → u < n → v < n
+    → kindAmong channel position into outOf columns rows below left u v ≡ kindIn channel position into outOf columns rows u v
+kind-candidates W n top count channel position into outOf columns rows below left R u v hu hv =
+    go (ℕ-discrete (getD channel u 0) (getD channel v 0))
+  where
+    go : Dec (getD channel u 0 ≡ getD channel v 0)
+        → kindAmong channel position into outOf columns rows below left u v ≡ kindIn channel position into outOf columns rows u v
+    go (yes e) = among-within channel position into outOf columns rows u v below left e
+    go (no d) =
+        among-across channel position into outOf columns rows u v below left d
+        ∙ ap crossing (among-enough _ (pointOf columns rows) (vertexCount columns rows) u v
+        (λ w hw h. inside-candidate W n top count channel columns rows below left R u v w hu hv (let e = R .counted in omega arith) d h))
+        ∙ sym (across channel position into outOf columns rows u v d)

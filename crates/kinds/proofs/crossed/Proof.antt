@@ -1,0 +1,24 @@
+-- `kinds::crossed` meets its contract. Assumes nothing.
+use mathlib.Core.Path.{sym, ap}
+use Rattle.outline.specs.Chart.{crossing}
+use Rattle.kinds.specs.Codes.{codeOf}
+use borrow.Author.Needs.{needs}
+use Rattle.kinds.proofs.crossed.Statement.{statement}
+use Rattle.kinds.proofs.crossed.Tie as tie
+
+enum-told : tie.Need-enum-told
+enum-told c = search needs
+
+enum-known-c : tie.Need-enum-known-c
+enum-known-c c = search needs
+
+returns : tie.Need-returns
+unfolding codeOf
+returns c = ap (λ x. codeOf (crossing x)) (sym (c .enum-told .given .1))
+
+returns-2 : tie.Need-returns-2
+unfolding codeOf
+returns-2 c = ap (λ x. codeOf (crossing x)) (sym (c .before .c .given .1))
+
+pub crossed-spec : {M : Type 1} → statement M
+crossed-spec = tie.close (tie.spec enum-told enum-known-c returns returns-2)

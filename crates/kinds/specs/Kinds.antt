@@ -1,0 +1,44 @@
+-- The kind of an edge by tables of its ends' places and bundles. Assumes nothing.
+use mathlib.Core.Bool.{Bool, not, _&&_}
+use mathlib.Core.List.{List}
+use Prim.Native.Nat.{ℕ, _+_, _-_, _^_, min, max}
+use lib.Bits.{bitAnd}
+use lib.Dec.{eqb, ltb}
+use lib.ListN.{getD}
+use Rattle.counting.specs.Count.{choose}
+use Rattle.masks.specs.Sets.{at}
+use Rattle.geometry.specs.Segment.{pointOf, vertexCount}
+use Rattle.geometry.specs.Courses.{courseOf, courseAmong}
+use Rattle.bundles.specs.Sides.{adjacent?}
+use Rattle.outline.specs.Chart.{crossing}
+use Rattle.outline.specs.declared.Kind.{Kind}
+use Rattle.outline.specs.declared.Kind.the-variants.{Path, PathTransitive}
+
+-- the kind of an edge by tables of its ends' places and bundles
+unfoldable pub kindIn : List ℕ → List ℕ → List ℕ → List ℕ → List ℕ → List ℕ → ℕ → ℕ → Kind
+kindIn channel position into outOf columns rows u v =
+    choose (eqb (getD channel u 0) (getD channel v 0))
+    (λ _. choose (adjacent? (getD position u 0) (getD position v 0)) (λ _. Path) (λ _. PathTransitive (min (getD into v 0) (getD outOf u 0))))
+    (λ _. crossing (courseOf (pointOf columns rows) (vertexCount columns rows) u v))
+
+-- ---- the same by candidates
+
+-- of a table of sets by key: w is in set b and not in set a + 1, so that its key is strictly between a and b
+abbrev pub strictly? : List ℕ → ℕ → ℕ → ℕ → Bool
+strictly? sets a b w = eqb (at 2 sets b w) 1 && not (eqb (at 2 sets (a + 1) w) 1)
+
+-- vertex w can be in the way from row a and channel c to row b and channel d, by the sets of the vertices below each row and left of
+-- each channel; the sets, of two masks, have vertices below 128
+unfoldable pub candidate? : List ℕ → List ℕ → ℕ → ℕ → ℕ → ℕ → ℕ → Bool
+candidate? below left a b c d w = ltb w 128 && (strictly? below a b w && strictly? left (min c d) (max c d) w)
+
+unfoldable pub kindAmong : List ℕ → List ℕ → List ℕ → List ℕ → List ℕ → List ℕ → List ℕ → List ℕ → ℕ → ℕ → Kind
+kindAmong channel position into outOf columns rows below left u v =
+    choose (eqb (getD channel u 0) (getD channel v 0))
+    (λ _. choose (adjacent? (getD position u 0) (getD position v 0)) (λ _. Path) (λ _. PathTransitive (min (getD into v 0) (getD outOf u 0))))
+    (λ _. crossing (courseAmong (candidate? below left (getD rows u 0) (getD rows v 0) (getD channel u 0) (getD channel v 0))
+    (pointOf columns rows) (vertexCount columns rows) u v))
+
+-- the vertices of one mask that two sets have and two others lack
+abbrev pub between : ℕ → ℕ → ℕ → ℕ → ℕ
+between high low to from = bitAnd (bitAnd high ((2 ^ 64 - 1) - low)) (bitAnd to ((2 ^ 64 - 1) - from))

@@ -1,0 +1,217 @@
+// The kind of an edge from tables of its ends' places and bundles. What can be in the way of a cross edge is looked for among the
+// few vertices whose row and channel are strictly between those of its ends. An entry that a list lacks counts as 0.
+ghost use mathlib.Core.Path.{_≡_};
+ghost use Prim.Native.Nat.{ℕ, _+_, _*_, _≤_, _<_, min, max};
+ghost use lib.ListN.{length, getD};
+ghost use Rattle.geometry.specs.Segment.{pointOf, vertexCount};
+ghost use Rattle.geometry.specs.Courses.{courseAmong};
+ghost use Rattle.bundles.specs.Sides.{adjacent?};
+ghost use Rattle.outline.specs.Chart.{crossing};
+ghost use Rattle.kinds.specs.Codes.{codeOf};
+ghost use Rattle.kinds.specs.Prefixes.{Prefixes, Stage};
+ghost use Rattle.kinds.specs.Kinds.{between, candidate?, kindAmong};
+use geometry::Course;
+
+// The number of a kind, with its bundle or its bend.
+pub struct Code {
+    pub code: u8,
+    pub value: u16,
+    pub row: u8,
+}
+
+// A byte as a usize.
+fn wide(x: u8) -> usize
+    ensures { λ r. ⌜ (r ≡ x) × (r < 256) ⌝ }
+{
+    x as usize
+}
+
+fn least(a: usize, b: usize) -> usize
+    ensures { λ r. ⌜ r ≡ min a b ⌝ }
+{
+    if a < b {
+        return a;
+    }
+    b
+}
+
+fn largest(a: usize, b: usize) -> usize
+    ensures { λ r. ⌜ r ≡ max a b ⌝ }
+{
+    if a < b {
+        return b;
+    }
+    a
+}
+
+// Puts each set of two masks into the next, from set 0 to set `top`.
+fn join(sets: &mut [u64], top: usize)
+    requires { ⌜ (2 * top + 2 ≤ length (now sets)) × (top ≤ 128) ⌝ }
+    ensures { λ _. ⌜ ((n : ℕ) (key : ℕ → ℕ) → Stage 2 n key top 0 (now (sets .entry)) → Prefixes 2 n key top (now (sets .exit))) ⌝ }
+{
+    for k in 0..top {
+        let i = 2 * k;
+        let a = sets[i];
+        let b = sets[i + 1];
+        sets[i + 2] |= a;
+        sets[i + 3] |= b;
+    }
+}
+
+// Sets of vertices by their keys, two masks a set: set k has the vertices whose key is below k, for k up to `top`, at most 128. The
+// vertices are the first n entries of the list, and at most 128.
+pub fn prefixes(keys: &[u8], n: usize, top: usize) -> [u64; 258]
+    ensures { λ r. ⌜ Prefixes 2 (min (min n 128) (length (now (keys .entry)))) (λ v. getD (now (keys .entry)) v 0) (min top 128) r ⌝ }
+{
+    let m = least(least(n, 128), keys.len());
+    let mut sets = [0; 258];
+    for v in 0..m {
+        masks::insert(&mut sets, 2 * (wide(keys[v]) + 1), v);
+    }
+    join(&mut sets, least(top, 128));
+    sets
+}
+
+// Entry i of a list, 0 past its end.
+fn byte_at(list: &[u8], i: usize) -> u8
+    ensures { λ r. ⌜ r ≡ getD (now (list .entry)) i 0 ⌝ }
+{
+    if i < list.len() {
+        return list[i];
+    }
+    0
+}
+
+fn number_at(list: &[u16], i: usize) -> u16
+    ensures { λ r. ⌜ r ≡ getD (now (list .entry)) i 0 ⌝ }
+{
+    if i < list.len() {
+        return list[i];
+    }
+    0
+}
+
+fn mask_at(list: &[u64], i: usize) -> u64
+    ensures { λ r. ⌜ r ≡ getD (now (list .entry)) i 0 ⌝ }
+{
+    if i < list.len() {
+        return list[i];
+    }
+    0
+}
+
+// One mask of the vertices that a set of each table has and another lacks, by the numbers of the sets' masks.
+fn inner<'a>(
+    below: &'a [u64],
+    left: &'a [u64],
+    high: usize,
+    low: usize,
+    to: usize,
+    from: usize,
+) -> u64
+    ensures { λ r. ⌜ r ≡ between (getD (now (below .entry)) high 0) (getD (now (below .entry)) low 0) (getD (now (left .entry)) to 0) (getD (now (left .entry)) from 0) ⌝ }
+{
+    (mask_at(below, high) & !mask_at(below, low)) & (mask_at(left, to) & !mask_at(left, from))
+}
+
+// The course of the edge u -> v from channel c to channel d, by the sets of the vertices below each row and left of each channel.
+fn course_between<'a>(
+    below: &'a [u64],
+    left: &'a [u64],
+    c: u8,
+    d: u8,
+    columns: &'a [u16],
+    rows: &'a [u8],
+    u: usize,
+    v: usize,
+) -> Course
+    ensures { λ r. ⌜ r ≡ courseAmong (candidate? (now (below .entry)) (now (left .entry)) (getD (now (rows .entry)) u 0) (getD (now (rows .entry)) v 0) c d) (pointOf (now (columns .entry)) (now (rows .entry))) (vertexCount (now (columns .entry)) (now (rows .entry))) u v ⌝ }
+{
+    let a = byte_at(rows, u);
+    let b = byte_at(rows, v);
+    // Nothing lies strictly between rows next to each other: no set is read.
+    if geometry::low_rise(a, b) {
+        return Course::Straight;
+    }
+    let high = 2 * wide(b);
+    let low = 2 * (wide(a) + 1);
+    let p = wide(c);
+    let q = wide(d);
+    let to = 2 * largest(p, q);
+    let from = 2 * (least(p, q) + 1);
+    let first = inner(below, left, high, low, to, from);
+    let second = inner(below, left, high + 1, low + 1, to + 1, from + 1);
+    geometry::course_among(first, second, columns, rows, u, v)
+}
+
+// Whether positions are next to each other.
+fn adjacent(p: u8, q: u8) -> bool
+    ensures { λ r. ⌜ r ≡ adjacent? p q ⌝ }
+{
+    if wide(p) + 1 == wide(q) {
+        return true;
+    }
+    wide(q) + 1 == wide(p)
+}
+
+fn lesser(a: u16, b: u16) -> u16
+    ensures { λ r. ⌜ r ≡ min a b ⌝ }
+{
+    if a < b {
+        return a;
+    }
+    b
+}
+
+// The code of an edge across channels.
+fn crossed(c: Course) -> Code
+    ensures { λ r. ⌜ r ≡ codeOf (crossing c) ⌝ }
+{
+    match c {
+        Course::Straight => Code {
+            code: 2,
+            value: 0,
+            row: 0,
+        },
+        Course::Bent(column, row) => Code {
+            code: 3,
+            value: column,
+            row,
+        },
+    }
+}
+
+// The code of the edge u -> v, by the channels, positions, bundles, columns and rows of its ends, and the sets of the vertices below
+// each row and left of each channel.
+pub fn kind_of<'a>(
+    channel: &'a [u8],
+    position: &'a [u8],
+    into: &'a [u16],
+    out_of: &'a [u16],
+    columns: &'a [u16],
+    rows: &'a [u8],
+    below: &'a [u64],
+    left: &'a [u64],
+    u: usize,
+    v: usize,
+) -> Code
+    ensures { λ r. ⌜ r ≡ codeOf (kindAmong (now (channel .entry)) (now (position .entry)) (now (into .entry)) (now («out_of» .entry)) (now (columns .entry)) (now (rows .entry)) (now (below .entry)) (now (left .entry)) u v) ⌝ }
+{
+    let c = byte_at(channel, u);
+    let d = byte_at(channel, v);
+    if c == d {
+        if adjacent(byte_at(position, u), byte_at(position, v)) {
+            return Code {
+                code: 0,
+                value: 0,
+                row: 0,
+            };
+        }
+        return Code {
+            code: 1,
+            value: lesser(number_at(into, v), number_at(out_of, u)),
+            row: 0,
+        };
+    }
+    crossed(course_between(below, left, c, d, columns, rows, u, v))
+}
