@@ -299,7 +299,7 @@ fn write_chart(record: &[u8]) {
     let n = lesser(chart.words, 128);
     let m = lesser(lesser(chart.arrows, 4096), ends.len() / 2);
     let k = lesser(chart.bundles, 256);
-    let mut output = [0u8; 8192];
+    let mut output = [0u8; 512];
     let a = put_header(&mut output, 0, chart, n as u16, m as u16, k as u16);
     let b = put_words(&mut output, a, n, &words);
     let c = put_arrows(&mut output, b, m, &arrows, ends);
