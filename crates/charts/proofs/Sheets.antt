@@ -165,7 +165,7 @@ module _ (n : ℕ) (ends : List ℕ) (given : Bool) (field : List ℕ) (p : Plan
       edges = sym counted;
       bundles = l .bundles .counted;
       rows = l .row-count;
-      channels = l .channels;
+      channels = l .channels .counted;
       width = l .width;
       tracks = l .used;
       long = l .tabled .4;

@@ -101,7 +101,7 @@ module _ (c : Content) (p : Plan) (below longer : List ℕ) (l : Laid c p below 
       })
       (vertexEntry c planned v)
   unfolding vertexEntry
-  vertex-drawn v h = rw (l .channel v, l .position v, l .column v h, l .rows v h, l .descendants v h) refl
+  vertex-drawn v h = rw (l .channels .channel v, l .channels .position v, l .column v h, l .rows v h, l .descendants v (omega (arith, small))) refl
 
   pub bundle-drawn : (b : ℕ) → _≡_ {A = BundleEntry}
       (record {
@@ -134,7 +134,7 @@ module _ (c : Content) (p : Plan) (below longer : List ℕ) (l : Laid c p below 
 
   pub channels-small : p .channels .count ≤ 128
   unfolding planOf chart.bundled chart.tracked
-  channels-small = omega (arith, l .channels, channels-few c (l .sound), small)
+  channels-small = omega (arith, l .channels .counted, channels-few c (l .sound), small)
 
   row-same : (v : ℕ) → v < n → getD rows v 0 ≡ rowOf c v
   row-same v h = getD-take n (p .row) v 0 h ∙ l .rows v h
@@ -147,11 +147,11 @@ module _ (c : Content) (p : Plan) (below longer : List ℕ) (l : Laid c p below 
 
   channel-known : (v : ℕ) → v < n → getD (p .channels .channel) v 0 < p .channels .count
   unfolding planOf chart.bundled chart.tracked
-  channel-known v h = omega (arith, l .channel v, l .channels, channel-below c (l .sound) v h)
+  channel-known v h = omega (arith, l .channels .channel v, l .channels .counted, channel-below c (l .sound) v h)
 
   column-own : (v : ℕ) → v < n → getD columns v 0 ≡ ownColumn (widths planned) (getD (p .channels .channel) v 0)
   unfolding columnIn
-  column-own v h = getD-take n (p .column) v 0 h ∙ l .column v h ∙ ap (ownColumn (widths planned)) (sym (l .channel v))
+  column-own v h = getD-take n (p .column) v 0 h ∙ l .column v h ∙ ap (ownColumn (widths planned)) (sym (l .channels .channel v))
 
   -- `left` is what `kinds::prefixes` makes of the channels, where there are more than two
   abbrev pub LeftOf : List ℕ → Type 0
@@ -163,7 +163,7 @@ module _ (c : Content) (p : Plan) (below longer : List ℕ) (l : Laid c p below 
   candidates left q = record {
     counted = vertices-same;
     few = small;
-    long = omega (arith, l .placed .0, small);
+    long = omega (arith, l .channels .sizes .2, small);
     few-channels = channels-small;
     row-low = λ v h. omega (arith, row-same v h, row-counted c (l .sound) v h);
     by-row = below-same;
@@ -197,7 +197,7 @@ module _ (c : Content) (p : Plan) (below longer : List ℕ) (l : Laid c p below 
         ≡ kindBetween c planned u v
     unfolding kindIn kindBetween
     kind-drawn =
-        rw (l .channel u, l .channel v, l .position u, l .position v)
+        rw (l .channels .channel u, l .channels .channel v, l .channels .position u, l .channels .position v)
         (kind-picked (eqb (channelOf ls u) (channelOf ls v)) (adjacent? (positionOf ls u) (positionOf ls v)) _ _ _ _ side-same
         (λ f. ap crossing course-drawn))
 

@@ -131,9 +131,9 @@ module _ (n : ℕ) (ends : List ℕ) (given : Bool) (field : List ℕ) (accepted
   unfolding rowOf graphContent
   below-laid j v h hv = p .descended .below j v (let q = rows-counted in omega arith) hv
 
-  descendants-laid : (v : ℕ) → v < n → getD (k .counts) v 0 ≡ descendantsOf c v
+  descendants-laid : (v : ℕ) → v < 128 → getD (k .counts) v 0 ≡ descendantsOf c v
   unfolding descendantsOf leads? graphContent
-  descendants-laid v h = p .descended .closure .counted v (omega (arith, small))
+  descendants-laid v h = p .descended .closure .counted v h
 
   -- ---- bundles and tracks
 
@@ -223,18 +223,18 @@ module _ (n : ℕ) (ends : List ℕ) (given : Bool) (field : List ℕ) (accepted
           sound = s;
           row-count = rows-counted;
           rows = rows-laid;
+          rows-past = p .descended .past;
           descendants = descendants-laid;
-          channels = arranged .counted;
-          channel = arranged .channel;
-          position = arranged .position;
+          channels = arranged;
+          accepted = p .accepted;
           bundles = bundles-laid;
           track = rising .track ∙ tracks-same;
           used = used-laid;
           column = column-laid;
+          column-past = d .standing .past;
           width = d .owns .end ∙ width-same;
           longer-pairs = longer-laid;
           below-rows = below-laid;
-          placed = (arranged .sizes .2, arranged .sizes .3);
           tabled = (p .descended .sizes .0, p .descended .sizes .1, d .standing .long, rising .sizes .0, rising .sizes .1);
           masks = (long, p .descended .longer .masks);
         }

@@ -80,7 +80,7 @@ module _ (n : ℕ) (ends : List ℕ) (given : Bool) (field : List ℕ) (p : Plan
     arrow-room = he;
     bundle-room = hb;
     ready = ready;
-    placed = l .placed;
+    placed = (l .channels .sizes .2, l .channels .sizes .3);
     tabled = (l .tabled .2, l .tabled .0, l .tabled .1);
     bundled = (l .bundles .sizes .0, l .bundles .sizes .1, l .bundles .sizes .2, l .tabled .3);
   }

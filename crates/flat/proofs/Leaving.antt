@@ -87,7 +87,7 @@ module _ (n : ℕ) (ends : List ℕ) (given : Bool) (field : List ℕ) (p : Plan
       arrows-written = sym (edges-counted n ends given field);
       bundles-written = l .bundles .counted;
       rows = l .row-count;
-      lines = l .channels;
+      lines = l .channels .counted;
       firm = h .reduced;
       width = l .width;
       side-columns = l .used;

@@ -6,7 +6,7 @@ use Prim.Native.Nat.{ℕ, _+_, _*_, _≤_, _<_}
 use lib.ListN.{length}
 use Rattle.masks.specs.Sets.{at}
 
--- of n vertices, for the sets 0 to top
+-- of n vertices, for the sets 0 to top; what the table has past them is left free
 pub record Prefixes (w n : ℕ) (key : ℕ → ℕ) (top : ℕ) (sets : List ℕ) : Type 0 where
   pub sets-by-key : (k v : ℕ) → k ≤ top → v < w * 64 → at w sets k v ≡ 1 ↔ ((v < n) × (key v < k))
 

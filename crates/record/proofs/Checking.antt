@@ -120,6 +120,10 @@ module _ (n : ℕ) (ends : List ℕ) (given : Bool) (field e b t l : List ℕ) (
             answer = λ s. sym z ∙ same-answer s;
             short = λ s. absurd (fits s);
             none = λ h. absurd (h refl);
-            passes = λ _. record { descended = subst (λ (k : ℕ). Descended n tails heads (record { refusal = k; used = d .used; rows = d .rows; counts = d .counts }) e′ b′ t′ l′) passed (promised .made passed); arranged = laid-out z given refl lined };
+            passes = λ _. record {
+              descended = subst (λ (k : ℕ). Descended n tails heads (record { refusal = k; used = d .used; rows = d .rows; counts = d .counts }) e′ b′ t′ l′) passed (promised .made passed);
+              arranged = laid-out z given refl lined;
+              accepted = z;
+            };
             long = promised .long;
           })

@@ -29,6 +29,7 @@ uncheckedBy k = record {
 pub record Passes (n : ℕ) (ends : List ℕ) (given : Bool) (field : List ℕ) (r : Checked) (e b t l : List ℕ) : Type 0 where
   pub descended : Descended n (tailsOf ends) (headsOf ends) (record { refusal = 0; used = r .used; rows = r .rows; counts = r .counts }) e b t l
   pub arranged : Arranged (choose given (λ _. linesOf field) (λ _. planned (leadsIn t) n)) (r .channels)
+  pub accepted : r .channels .refusal ≡ 0
 
 -- r is the first check that fails and no count, or 0 and what passes; e, b, t and l are the lists that are lent, and e′ to l′ what they hold
 -- afterwards. On a refusal but 8 it is left free what they hold
