@@ -1,11 +1,10 @@
--- Laws of the choice: no vertex goes before the best, and how a scan finds it. Assumes nothing.
+-- Laws of the choice: no vertex goes before the best. Assumes nothing.
 use mathlib.Core.Path.{_≡_, refl, sym, ap, _∙_, subst}
 use mathlib.Core.Logic.{_⊎_, inl, inr, ⊎-elim}
 use mathlib.Core.Bool.{Bool, true, false, true≢false, _&&_, _||_}
 use mathlib.Core.List.{List}
 use Prim.Native.Nat.{ℕ, zero, suc, _+_, _≤_, _<_}
 use native.Mathlib.Nat.{not-suc-le-zero}
-use native.Mathlib.Numerals.{add-one}
 use native.Mathlib.Omega.{arith}
 use borrow.Author.Tests.{eq-eqb, ne-eqb, eqb-true, ltb-true, ltb-false}
 use lib.Dec.{eqb, ltb}
@@ -13,7 +12,7 @@ use lib.ListN.{getD}
 use Rattle.counting.specs.Count.{choose}
 use Rattle.counting.proofs.Truth.{true-or-false, lt-or-le, and-intro, and-elim, or-elim, or-neither}
 use Rattle.bundles.specs.Bundles.{before, best, better}
-use Rattle.bundles.specs.Steps.{endOf, loadAt, Finds}
+use Rattle.bundles.specs.Steps.{endOf, loadAt}
 use Rattle.counting.proofs.Choosing.{choose-yes, choose-no}
 
 -- x edges at position p, and y at position q
@@ -110,105 +109,6 @@ best-ext p q f g (suc (suc j)) a b =
     let low = best-below q g (suc j) (omega arith) in
     let at : (v w : ℕ) → v < suc (suc j) → w < suc (suc j) → before p f v w ≡ before q g v w = λ v w l m. simp (a v l, a w m, b v l, b w m) in
     ap (λ (x : ℕ). better p f x (suc j)) ih ∙ ap (λ (t : Bool). choose t (λ _. suc j) (λ _. best q (suc j) g)) (at (suc j) (best q (suc j) g) (omega arith) (omega arith))
-
--- ---- the scan
-
-module _ (position : ℕ → ℕ) (f : ℕ → ℕ) where
-  pub finds-none : Finds position 0 f 0 0
-  finds-none = record { none = λ e. refl; most = λ l. absurd (not-suc-le-zero l); which = λ l. absurd (not-suc-le-zero l) }
-
-  module _ (v a m : ℕ) (o : Finds position v f a m) where
-    -- how the best of v vertices stands to what is found
-    known : ((v ≡ 0) × (m ≡ 0)) ⊎ ((0 < v) × (m ≡ f (best position v f)))
-    known = ⊎-elim (λ l. inr (l, o .most l)) (λ l. let z : v ≡ 0 = omega arith in inl (z, o .none z)) (lt-or-le 0 v)
-
-    first-is : v ≡ 0 → best position (suc v) f ≡ v
-    first-is z = ap (λ (k : ℕ). best position (suc k) f) z ∙ best-first position f ∙ sym z
-
-    -- nothing waits at v
-    pub finds-skip : f v ≡ 0 → Finds position (suc v) f a m
-    finds-skip z = record {
-      none = λ e. absurd (omega arith);
-      most = λ l. ⊎-elim
-          (λ k. let e = ap f (first-is (k .0)) in let h = k .1 in omega arith)
-          (λ k. let h = k .1 in ⊎-elim
-          (λ p. let e = ap f (p .1) in ⊎-elim (λ x. absurd (omega arith)) (λ x. let y = x .0 in omega arith) (before-yes position f v (best position v f) (p .0)))
-          (λ p. h ∙ ap f (sym (p .1)))
-          (best-cases position f v))
-          known;
-      which = λ l. ⊎-elim
-          (λ k. absurd (let h = k .1 in omega arith))
-          (λ k. let h = k .1 in ⊎-elim
-          (λ p. absurd (⊎-elim (λ x. omega arith) (λ x. let y = x .0 in omega arith) (before-yes position f v (best position v f) (p .0))))
-          (λ p. o .which l ∙ sym (p .1))
-          (best-cases position f v))
-          known;
-    }
-
-    -- v goes before what was found
-    pub finds-take : (ltb m (f v) || (eqb m (f v) && ltb (position v) (position a))) ≡ true → Finds position (suc v) f v (f v)
-    finds-take t = record {
-      none = λ e. absurd (omega arith);
-      most = λ l. ⊎-elim
-          (λ k. ap f (sym (first-is (k .0))))
-          (λ k. let h = k .1 in ⊎-elim
-          (λ p. ap f (sym (p .1)))
-          (λ p. let e = ap f (p .1) in let n = before-no position f v (best position v f) (p .0) in ⊎-elim (λ x. omega arith) (λ x. let y = x .0 in omega arith) ahead)
-          (best-cases position f v))
-          known;
-      which = λ l. ⊎-elim
-          (λ k. sym (first-is (k .0)))
-          (λ k. let h = k .1 in ⊎-elim
-          (λ p. sym (p .1))
-          (λ p. let n = before-no position f v (best position v f) (p .0) in absurd (⊎-elim
-          (λ x. omega arith)
-          (λ x. let y = x .0 in let lower = x .1 in let q = ap position (o .which (omega arith)) in let r = n .1 (omega arith) in omega arith)
-          ahead))
-          (best-cases position f v))
-          known;
-    }
-      where
-        ahead : (m < f v) ⊎ ((m ≡ f v) × (position v < position a))
-        ahead = ahead-yes (f v) (position v) m (position a) t
-
-    -- it does not
-    pub finds-pass : (ltb m (f v) || (eqb m (f v) && ltb (position v) (position a))) ≡ false → Finds position (suc v) f a m
-    finds-pass t = record {
-      none = λ e. absurd (omega arith);
-      most = λ l. ⊎-elim
-          (λ k. let e = ap f (first-is (k .0)) in let h = k .1 in let b = behind .0 in omega arith)
-          (λ k. let h = k .1 in ⊎-elim
-          (λ p. let e = ap f (p .1) in let b = behind .0 in ⊎-elim (λ x. absurd (omega arith)) (λ x. let y = x .0 in omega arith) (before-yes position f v (best position v f) (p .0)))
-          (λ p. h ∙ ap f (sym (p .1)))
-          (best-cases position f v))
-          known;
-      which = λ l. ⊎-elim
-          (λ k. absurd (let h = k .1 in omega arith))
-          (λ k. let h = k .1 in ⊎-elim
-          (λ p. let b = behind .0 in absurd (⊎-elim
-          (λ x. omega arith)
-          (λ x. let y = x .0 in let lower = x .1 in let q = ap position (o .which l) in let r = behind .1 (omega arith) in omega arith)
-          (before-yes position f v (best position v f) (p .0))))
-          (λ p. o .which l ∙ sym (p .1))
-          (best-cases position f v))
-          known;
-    }
-      where
-        behind : (f v ≤ m) × (f v ≡ m → position a ≤ position v)
-        behind = ahead-no (f v) (position v) m (position a) t
-
--- ---- the same as the code's loop takes it: x edges wait at v, and t is the answer of the test
-
-module _ (position f : ℕ → ℕ) (v a m : ℕ) where
-  module _ (x : ℕ) {t : Bool} (load : f v ≡ x) (test : t ≡ (ltb m x || (eqb m x && ltb (position v) (position a)))) where
-    as-load : t ≡ (ltb m (f v) || (eqb m (f v) && ltb (position v) (position a)))
-    as-load = test ∙ ap (λ (y : ℕ). ltb m y || (eqb m y && ltb (position v) (position a))) (sym load)
-
-    pub finds-take′ : t ≡ true → Finds position v f a m → Finds position (v + 1) f v x
-    finds-take′ e o = subst (λ (k : ℕ). Finds position k f v x) (sym (add-one v)) (subst (Finds position (suc v) f v) load (finds-take position f v a m o (sym as-load ∙ e)))
-
-    pub finds-pass′ : t ≡ false → Finds position v f a m → Finds position (v + 1) f a m
-    finds-pass′ e o = subst (λ (k : ℕ). Finds position k f a m) (sym (add-one v)) (finds-pass position f v a m o (sym as-load ∙ e))
 
 -- a vertex of the channel has its load, and another none
 module _ (channel load : List ℕ) (c : ℕ) (d : Bool) (v : ℕ) where

@@ -2,10 +2,6 @@ pub mod Numbers
 pub mod Extremes
 pub mod Choices
 pub mod Rising
-pub mod Scanning
-pub mod Levels
-pub mod Topping
-pub mod Picking
 pub mod Waiting
 pub mod Rounds
 pub mod Extension
@@ -18,5 +14,7 @@ pub mod Filling
 pub mod Gathering
 pub mod Standing
 pub mod Going
+pub mod Lining
+pub mod Levels
 pub mod Theorems
 pub mod Answers

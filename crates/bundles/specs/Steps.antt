@@ -4,18 +4,17 @@ use mathlib.Core.Path.{_≡_}
 use mathlib.Core.Logic.{_≢_, _⊎_}
 use mathlib.Core.Bool.{Bool, true, false, not, _&&_, _||_}
 use mathlib.Core.List.{List}
-use Prim.Native.Nat.{ℕ, _+_, _*_, _≤_, _<_, min, max}
+use Prim.Native.Nat.{ℕ, suc, _+_, _-_, _*_, _≤_, _<_, min, max}
 use lib.Dec.{eqb, ltb}
 use lib.ListN.{length, getD, set}
 use Rattle.counting.specs.Count.{choose, indicator, sum, count}
 use Rattle.masks.specs.Bits.{bit}
 use Rattle.masks.specs.Sets.{member, member?}
-use Rattle.masks.specs.Pairs.{inPair}
-use Rattle.bundles.specs.Bundles.{Bundle, along, waitsAt, best, lowest, highest}
+use Rattle.sorting.specs.Sorted.{Sorted}
+use Rattle.bundles.specs.Bundles.{Bundle, along, waitsAt, best, lowest, highest, rounds, bundles}
+use Rattle.bundles.specs.Choice.{live}
 use Rattle.bundles.specs.Sides.{adjacent?, tableSide?}
 use Rattle.bundles.specs.Promise.{noBundle, empty, numberFrom}
-use Rattle.bundles.specs.declared.End.{End}
-use Rattle.bundles.specs.declared.Ties.{Ties}
 use Rattle.bundles.specs.declared.Span.{Span}
 
 -- the number of an end: of the edges into v, or out of v
@@ -82,65 +81,58 @@ pub record Marking (mask base u : ℕ) (position sets load : List ℕ) : Type 0 
 abbrev pub loadAt : ℕ → List ℕ → List ℕ → Bool → ℕ → ℕ
 loadAt c channel load into v = choose (eqb (getD channel v 0) c) (λ _. getD load (endOf into v) 0) (λ _. 0)
 
--- the best of the first n vertices by f, and its load; no matter which, where none has an edge
-pub record Finds (position : ℕ → ℕ) (n : ℕ) (f : ℕ → ℕ) (vertex load : ℕ) : Type 0 where
-  pub none : n ≡ 0 → load ≡ 0
-  pub most : 0 < n → load ≡ f (best position n f)
-  pub which : 0 < load → vertex ≡ best position n f
-
--- r is the best of the direction that has more, and of 'into' where both have as many
-pub record Picks (position : ℕ → ℕ) (n : ℕ) (f : Bool → ℕ → ℕ) (r : End) : Type 0 where
-  pub found : Finds position n (f (r .into)) (r .vertex) (r .load)
-  pub into : r .into ≡ true → 0 < n → f false (best position n (f false)) ≤ r .load
-  pub out-of : r .into ≡ false → 0 < n → f true (best position n (f true)) < r .load
-
--- of the n vertices the mask has those at which f is not 0 and some more, vertex base + j for bit j, and f is their load
-pub record Covers (mask base n : ℕ) (f load : ℕ → ℕ) : Type 0 where
-  pub only : (j : ℕ) → j < 64 → bit mask j ≡ 1 → (base + j < n) × (f (base + j) ≡ load (base + j))
-  pub rest : (j : ℕ) → j < 64 → base + j < n → bit mask j ≡ 0 → f (base + j) ≡ 0
-
--- what was found of the vertices before the mask's becomes what is found with them
-abbrev pub Scanned : ℕ → ℕ → (ℕ → ℕ) → (ℕ → ℕ) → ℕ → ℕ → ℕ → ℕ → Type 0
-Scanned mask base position load vertex₀ load₀ vertex most =
-    (n : ℕ) (f : ℕ → ℕ) → Covers mask base n f load → Finds position (min base n) f vertex₀ load₀ → Finds position
-    (min (base + 64) n) f vertex most
-
--- the best of the vertices of two masks is that of all
-abbrev pub Best : ℕ → ℕ → (ℕ → ℕ) → (ℕ → ℕ) → ℕ → ℕ → Type 0
-Best low high position load vertex most =
-    (n : ℕ) (f : ℕ → ℕ) → n ≤ 128 → Covers low 0 n f load → Covers high 64 n f load → Finds position n f vertex most
-
-abbrev pub Chosen : ℕ → ℕ → (ℕ → ℕ) → (Bool → ℕ → ℕ) → End → Type 0
-Chosen low high position load r =
-    (n : ℕ) (f : Bool → ℕ → ℕ) → n ≤ 128 → ((d : Bool) → Covers low 0 n (f d) (load d)) → ((d : Bool) → Covers high 64 n (f d) (load d))
-    → Picks position n f r
-
--- no member of the mask has a load above `most`, and those with so much are in `ties`
-pub record Level (mask base : ℕ) (load : ℕ → ℕ) (most ties : ℕ) : Type 0 where
-  pub sub : (j : ℕ) → j < 64 → bit ties j ≡ 1 → bit mask j ≡ 1
-  pub bound : (j : ℕ) → j < 64 → bit mask j ≡ 1 → load (base + j) ≤ most
-  pub all : (j : ℕ) → j < 64 → bit mask j ≡ 1 → load (base + j) ≡ most → bit ties j ≡ 1
-
--- unless `most` is what it was before, a member has it
-abbrev pub Attained : ℕ → ℕ → (ℕ → ℕ) → ℕ → ℕ → Type 0
-Attained mask base load least most =
-    (most ≡ least) ⊎ ((j : ℕ) × (j < 64) × (bit mask j ≡ 1) × (load (base + j) ≡ most))
-
-pub record Tied (low high : ℕ) (load : Bool → ℕ → ℕ) (t : Ties) : Type 0 where
-  pub into-low : Level low 0 (load true) (t .most) (t .«into_low»)
-  pub into-high : Level high 64 (load true) (t .most) (t .«into_high»)
-  pub out-low : Level low 0 (load false) (t .most) (t .«out_low»)
-  pub out-high : Level high 64 (load false) (t .most) (t .«out_high»)
-
--- unless it is 0, an end of a member of two masks has so many edges
-abbrev pub Reached : ℕ → ℕ → (Bool → ℕ → ℕ) → ℕ → Type 0
-Reached low high load most =
-    (most ≡ 0) ⊎ ((d : Bool) × (u : ℕ) × (u < 128) × (inPair low high u ≡ 1) × (load d u ≡ most))
+-- v is the best in its direction, and that has more than the other, or as many where it is 'into'
+pub record Picked (position : ℕ → ℕ) (n : ℕ) (f : Bool → ℕ → ℕ) (into : Bool) (v : ℕ) : Type 0 where
+  pub vertex : v < n
+  pub some : 0 < f into v
+  pub which : best position n (f into) ≡ v
+  pub into-most : into ≡ true → (u : ℕ) → u < n → f false u ≤ f into v
+  pub out-most : into ≡ false → (u : ℕ) → u < n → f true u < f into v
 
 -- of the n vertices, the mask has those of channel c among the 64 from `base` on
 pub record Part (n : ℕ) (channel : List ℕ) (c mask base : ℕ) : Type 0 where
   pub only : (j : ℕ) → j < 64 → bit mask j ≡ 1 → (base + j < n) × (getD channel (base + j) 0 ≡ c)
   pub all : (j : ℕ) → j < 64 → base + j < n → getD channel (base + j) 0 ≡ c → bit mask j ≡ 1
+
+-- a vertex of channel c, one of n
+unfoldable pub ownIn : ℕ → List ℕ → ℕ → ℕ → Bool
+ownIn n channel c v = ltb v n && eqb (getD channel v 0) c
+
+-- `len` vertices in line, of those below v that pass a test, as v does
+pub record Sinks (len v : ℕ) (position line : List ℕ) : Type 0 where
+  pub own : ℕ → Bool
+  pub mine : own v ≡ true
+  pub sorted : Sorted own v len (λ w. getD position w 0) (λ i. getD line i 0)
+
+-- those of a channel below `base`; the mask has its vertices from there on
+pub record Lines (mask base len : ℕ) (position line : List ℕ) : Type 0 where
+  pub n : ℕ
+  pub channel : List ℕ
+  pub c : ℕ
+  pub part : Part n channel c mask base
+  pub sorted : Sorted (ownIn n channel c) base len (λ w. getD position w 0) (λ i. getD line i 0)
+
+-- ---- the ends with the most edges, by the first `len` vertices of a line
+
+-- no end has more than r edges, and one has so many, unless r is 0
+pub record Most (line : List ℕ) (len : ℕ) (load : List ℕ) (r : ℕ) : Type 0 where
+  pub bound : (d : Bool) (k : ℕ) → k < len → getD load (endOf d (getD line k 0)) 0 ≤ r
+  pub attained : (r ≡ 0) ⊎ ((d : Bool) × (k : ℕ) × (k < len) × (getD load (endOf d (getD line k 0)) 0 ≡ r))
+
+-- no end has more than `most` edges; fewer has every end in direction `into` of the first i, and, where that is 'out of', every end 'into'
+pub record Level (line : List ℕ) (len most : ℕ) (into : Bool) (i : ℕ) (load : List ℕ) : Type 0 where
+  pub some : 0 < most
+  pub bound : (d : Bool) (k : ℕ) → k < len → getD load (endOf d (getD line k 0)) 0 ≤ most
+  pub passed : (k : ℕ) → k < i → getD load (endOf into (getD line k 0)) 0 < most
+  pub first : into ≡ false → (k : ℕ) → k < len → getD load (endOf true (getD line k 0)) 0 < most
+
+-- what stays while bundles of channel c are made: the line has its vertices by position
+pub record Levelling (n : ℕ) (sets channel position rows : List ℕ) (c : ℕ) (line : List ℕ) (len : ℕ) : Type 0 where
+  pub small : n ≤ 128
+  pub long : length rows ≡ 128
+  pub masks : Sets (sideIn n sets) sets
+  pub fits : len ≤ length line
+  pub sorted : Sorted (ownIn n channel c) 128 len (λ v. getD position v 0) (λ i. getD line i 0)
 
 -- ---- a bundle
 
@@ -235,3 +227,16 @@ pub record Holds (bs : List Bundle) (s : State) : Type 0 where
 pub record Stands (n : ℕ) (side : ℕ → ℕ → Bool) (bs : List Bundle) (s : State) : Type 0 where
   pub holds : Holds bs s
   pub load : (into : Bool) (v : ℕ) → v < 128 → getD (s .load) (endOf into v) 0 ≡ count n (waitsAt side bs into v)
+
+-- in channel c, with k rounds done: the rule goes on from the bundles made, and there is room for more
+pub record Going (n : ℕ) (side : ℕ → ℕ → Bool) (channel position row : ℕ → ℕ) (c : ℕ) (s : State) : Type 0 where
+  pub k : ℕ
+  pub bs : List Bundle
+  pub stands : Stands n side bs s
+  pub rule : rounds n side channel position row (2 * n - k) c bs ≡ bundles n side channel position row (suc c)
+  pub room : length bs + live n side (λ x. true) bs ≤ 2 * n
+
+-- the same with the lists of the code
+abbrev pub Underway : ℕ → List ℕ → List ℕ → List ℕ → List ℕ → ℕ → State → Type 0
+Underway n sets channel position rows c s =
+    Going n (sideIn n sets) (λ v. getD channel v 0) (λ v. getD position v 0) (λ v. getD rows v 0) c s

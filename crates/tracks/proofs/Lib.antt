@@ -5,6 +5,5 @@ pub mod Least
 pub mod Extension
 pub mod Theorems
 pub mod Unique
-pub mod Sorting
 pub mod Ends
 pub mod Steps
