@@ -10,10 +10,10 @@ use Rattle.counting.proofs.Truth.{or-neither}
 use Rattle.matching.specs.Lists.{linked, every, allLinked}
 use Rattle.matching.specs.Chains.{planned}
 use Rattle.matching.proofs.Same.{planned-same}
-use Rattle.channels.specs.Table.{leadsIn}
+use Rattle.search.specs.Table.{leadsIn}
 use Rattle.channels.specs.Given.{linesOf, verticesOf, unknown?, repeats?, lacks?, broken?}
 use Rattle.channels.specs.Promise.{Answers, Plans, Gives, outsized?, planRefusal, givenRefusal}
-use Rattle.channels.specs.declared.Channels.{Channels}
+use Rattle.planning.specs.declared.Channels.{Channels}
 
 unknown-append : (n : ℕ) (l s : List ℕ) → unknown? n (l ++ s) ≡ false → (unknown? n l ≡ false) × (unknown? n s ≡ false)
 unfolding unknown?

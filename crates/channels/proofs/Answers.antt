@@ -3,16 +3,16 @@ use mathlib.Core.Path.{_≡_, sym, _∙_, subst}
 use mathlib.Core.Logic.{_≢_}
 use mathlib.Core.Bool.{Bool, true, false}
 use mathlib.Core.List.{List, []}
-use Prim.Native.Nat.{ℕ, _≤_, _<_}
+use Prim.Native.Nat.{ℕ, _≤_, _<_, min}
+use native.Mathlib.Omega.{arith}
 use lib.Dec.{eqb, ltb}
 use borrow.Author.Tests.{eq-eqb, ne-eqb, lt-ltb, le-ltb}
 use Rattle.counting.proofs.Truth.{or-left, or-right}
-use Rattle.matching.specs.Chains.{begun, planned}
-use Rattle.matching.specs.Search.{matching}
+use Rattle.matching.specs.Chains.{planned}
 use Rattle.channels.specs.Given.{linesOf, verticesOf, unknown?, repeats?, lacks?, broken?}
-use Rattle.channels.specs.Arranged.{Arranged}
+use Rattle.planning.specs.Arranged.{Arranged}
 use Rattle.channels.specs.Promise.{Answers, outsized?, planRefusal, givenRefusal}
-use Rattle.channels.specs.declared.Channels.{Channels}
+use Rattle.planning.specs.declared.Channels.{Channels}
 
 -- refused, and no channel
 pub answers-refused : (refusal k : ℕ) (ls : List (List ℕ)) (r : Channels) → refusal ≡ k → k ≢ 0 → (r .refusal ≡ k) × Arranged [] r → Answers refusal ls r
@@ -50,10 +50,9 @@ pub plan-taken : (n : ℕ) → outsized? n ≡ false → planRefusal n ≡ 0
 unfolding planRefusal
 plan-taken n e = rw e
 
--- the channels of the predecessors that the rule gives
-pub plan-channels : (leads : ℕ → ℕ → Bool) (n : ℕ) (P : List ℕ) (r : Channels) → P ≡ matching leads n → (r .refusal ≡ 0) × Arranged (begun n P n) r → (r .refusal ≡ 0) × Arranged (planned leads n) r
-unfolding planned
-plan-channels leads n P r e a = (a .0, subst (λ x. Arranged (begun n x n) r) e (a .1))
+-- as many vertices as are asked for
+pub plan-channels : (leads : ℕ → ℕ → Bool) (n : ℕ) (r : Channels) → n ≤ 128 → (r .refusal ≡ 0) × Arranged (planned leads (min n 128)) r → (r .refusal ≡ 0) × Arranged (planned leads n) r
+plan-channels leads n r l a = (a .0, subst (λ x. Arranged (planned leads x) r) (let q : min n 128 ≡ n = omega arith in q) (a .1))
 
 -- ---- given channels
 

@@ -1,7 +1,4 @@
-pub mod Open
-pub mod Going
 pub mod Laying
-pub mod Following
 pub mod Answers
 pub mod Fields
 pub mod Checks

@@ -7,11 +7,12 @@ use Prim.Native.Nat.{ℕ, _+_, _-_, _≤_, _<_}
 use native.Mathlib.Omega.{arith}
 use lib.ListN.{length, getD}
 use Rattle.channels.specs.Given.{verticesOf, unknown?, repeats?}
-use Rattle.channels.specs.Arranged.{Arranged}
-use Rattle.channels.specs.Laid.{tables, Lays}
+use Rattle.planning.specs.Arranged.{Arranged}
+use Rattle.planning.specs.Laid.{tables}
+use Rattle.channels.specs.Laid.{Lays}
 use Rattle.channels.specs.Promise.{givenRefusal}
 use Rattle.channels.specs.Walked.{settled, Walks}
-use Rattle.channels.specs.declared.Channels.{Channels}
+use Rattle.planning.specs.declared.Channels.{Channels}
 use Rattle.channels.specs.declared.Walked.{Walked}
 use Rattle.channels.proofs.Checks.{unknown-wider}
 use Rattle.channels.proofs.Laying.{placed-room}

@@ -17,12 +17,12 @@ use Rattle.matching.specs.Division.{Order, Division, Covers, Channelled}
 use Rattle.matching.proofs.Lists.{length-times}
 use Rattle.matching.proofs.Ordered.{channelled, standing}
 use Rattle.matching.proofs.Planned.{planned-least, planned-covers}
-use Rattle.channels.specs.Table.{leadsIn}
+use Rattle.search.specs.Table.{leadsIn}
 use Rattle.channels.specs.Given.{linesOf, verticesOf, unknown?, repeats?, lacks?, broken?}
-use Rattle.channels.specs.Arranged.{Arranged}
+use Rattle.planning.specs.Arranged.{Arranged}
 use Rattle.channels.specs.Promise.{Answers, Plans, Gives, outsized?, planRefusal, givenRefusal}
 use Rattle.channels.specs.Sound.{Sound, channel, position}
-use Rattle.channels.specs.declared.Channels.{Channels}
+use Rattle.planning.specs.declared.Channels.{Channels}
 use Rattle.channels.proofs.Checks.{given-covers}
 
 -- ---- what the refusals tell

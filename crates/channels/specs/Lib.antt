@@ -1,8 +1,5 @@
-pub mod Table
 pub mod Given
-pub mod Arranged
 pub mod Laid
-pub mod Search
 pub mod Promise
 pub mod Walked
 pub mod Sound

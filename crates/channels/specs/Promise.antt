@@ -7,10 +7,10 @@ use lib.Dec.{eqb, ltb}
 use Rattle.counting.specs.Count.{choose}
 use Rattle.matching.specs.Search.{most}
 use Rattle.matching.specs.Chains.{planned}
-use Rattle.channels.specs.declared.Channels.{Channels}
-use Rattle.channels.specs.Table.{leadsIn}
+use Rattle.planning.specs.declared.Channels.{Channels}
+use Rattle.search.specs.Table.{leadsIn}
 use Rattle.channels.specs.Given.{linesOf, verticesOf, unknown?, repeats?, lacks?, broken?}
-use Rattle.channels.specs.Arranged.{Arranged}
+use Rattle.planning.specs.Arranged.{Arranged}
 
 -- no vertex, or too many
 unfoldable pub outsized? : ℕ → Bool

@@ -6,8 +6,8 @@ use Prim.Native.Nat.{ℕ, _≤_}
 use lib.Dec.{eqb}
 use Rattle.counting.specs.Count.{choose}
 use Rattle.channels.specs.Given.{linesOf}
-use Rattle.channels.specs.Arranged.{Arranged}
-use Rattle.channels.specs.Laid.{tables}
+use Rattle.planning.specs.Arranged.{Arranged}
+use Rattle.planning.specs.Laid.{tables}
 use Rattle.channels.specs.Promise.{givenRefusal}
 use Rattle.channels.specs.declared.Walked.{Walked}
 

@@ -1,38 +1,24 @@
 // Layer 2: channels (document 01: 'Lines'). A channel is a list of vertices in which each leads to the next by the reachability table.
-// Channels are planned by a search that moves predecessors, or given by the caller.
+// Channels are planned, or given by the caller and checked.
 ghost use mathlib.Core.Path.{_≡_};
 ghost use mathlib.Core.Logic.{_≢_};
 ghost use mathlib.Core.Bool.{Bool, _||_};
-ghost use mathlib.Core.List.{[], _∷_};
-ghost use Prim.Native.Nat.{suc, _+_, _≤_, _<_};
+ghost use mathlib.Core.List.{[]};
+ghost use Prim.Native.Nat.{_+_, _≤_, _<_};
 ghost use lib.ListN.{length};
 ghost use lib.Dec.{eqb};
 ghost use Rattle.masks.specs.Sets.{member?, inserted};
-ghost use Rattle.matching.specs.Search.{matching};
-ghost use Rattle.matching.specs.Chains.{begun};
-ghost use Rattle.channels.specs.Table.{leadsIn};
+ghost use Rattle.search.specs.Table.{leadsIn};
+ghost use Rattle.planning.specs.Arranged.{Arranged};
+ghost use Rattle.planning.specs.Laid.{tables};
 ghost use Rattle.channels.specs.Given.{verticesOf, unknown?};
-ghost use Rattle.channels.specs.Arranged.{Arranged};
-ghost use Rattle.channels.specs.Laid.{tables, Opens, Lays, Successors, followed, Ready, Behind};
-ghost use Rattle.channels.specs.Search.{state, NextOpen, Augments};
+ghost use Rattle.channels.specs.Laid.{Opens, Lays};
 ghost use Rattle.channels.specs.Walked.{weighed, settled, Walks};
 ghost use Rattle.channels.specs.Promise.{Plans, Gives};
+use planning::Channels;
 
-// The most vertices, and what stands for no vertex.
+// The most vertices.
 const MOST: usize = 128;
-
-const NOBODY: u8 = 255;
-
-// The vertices channel by channel, where each channel begins among them, and each vertex's channel and position; 0 past the last.
-pub struct Channels {
-    pub refusal: u8,
-    pub count: u8,
-    pub vertices: u8,
-    pub channel: [u8; 128],
-    pub position: [u8; 128],
-    pub order: [u8; 128],
-    pub starts: [u8; 128],
-}
 
 // A byte as a usize: asks nothing of the byte, where a cast of an element asks that it fits.
 fn wide(x: u8) -> usize
@@ -41,109 +27,7 @@ fn wide(x: u8) -> usize
     x as usize
 }
 
-// ---- the search
-
-// Puts v into the set of the visited vertices.
-fn visit(visited: &mut [u64], v: usize)
-    requires { ⌜ (length (now visited) ≡ 2) × (v < 128) ⌝ }
-    ensures { λ r. ⌜ now (visited .exit) ≡ inserted (now (visited .entry)) 0 v ⌝ }
-{
-    if v < 64 {
-        visited[0] |= 1u64 << v;
-    } else {
-        visited[1] |= 1u64 << (v - 64);
-    }
-}
-
-// The first vertex of a set of two masks that is not visited; 128 where there is none.
-fn first_open(low: u64, high: u64, visited: &[u64]) -> usize
-    requires { ⌜ length (now visited) ≡ 2 ⌝ }
-    ensures { λ r. ⌜ NextOpen (low ∷ high ∷ []) 0 (now (visited .entry)) 0 r ⌝ }
-{
-    let x = low & !visited[0];
-    if x != 0 {
-        return u64::trailing_zeros(x) as usize;
-    }
-    let y = high & !visited[1];
-    if y != 0 {
-        return 64 + u64::trailing_zeros(y) as usize;
-    }
-    128
-}
-
-// The first vertex that h leads to and that is not visited; 128 where there is none.
-fn next_open<'a>(table: &'a [u64], h: u8, visited: &'a [u64]) -> usize
-    requires { ⌜ length (now visited) ≡ 2 ⌝ }
-    ensures { λ r. ⌜ NextOpen (now (table .entry)) h (now (visited .entry)) 0 r ⌝ }
-{
-    let row = 2 * wide(h);
-    let low = masks::mask_at(table, row, 0);
-    let high = masks::mask_at(table, row, 1);
-    first_open(low, high, visited)
-}
-
-// Searches a successor for h: the first vertex that h leads to, not visited yet, that has no predecessor or whose predecessor can be
-// given another successor in the same way. A predecessor that leads to no vertex below n that is not visited is not asked: it has no
-// other successor. At each call fewer vertices are unvisited.
-fn augment(table: &[u64], n: usize, h: u8, predecessor: &mut [u8], visited: &mut [u64]) -> bool
-    requires { ⌜ (n ≤ 128) × (length (now predecessor) ≡ 128) × (length (now visited) ≡ 2) ⌝ }
-    ensures { λ r. ⌜ Augments (leadsIn (now (table .entry))) n h (state (now (predecessor .entry)) (now (visited .entry)) Bool.false) (state (now (predecessor .exit)) (now (visited .exit)) r) ⌝ }
-{
-    let row = 2 * wide(h);
-    let low = masks::mask_at(table, row, 0);
-    let high = masks::mask_at(table, row, 1);
-    let mut v = first_open(low, high, visited);
-    while v < n {
-        visit(visited, v);
-        let k = predecessor[v];
-        if k == NOBODY {
-            predecessor[v] = h;
-            return true;
-        }
-        if next_open(table, k, visited) < n {
-            if augment(table, n, k, predecessor, visited) {
-                predecessor[v] = h;
-                return true;
-            }
-            v = first_open(low, high, visited);
-        } else {
-            v = first_open(low, high, visited);
-        }
-    }
-    false
-}
-
-// Each vertex's predecessor, or NOBODY, after every vertex, from 0 up, has asked for a successor.
-fn matched(table: &[u64], n: usize) -> [u8; 128]
-    requires { ⌜ n ≤ 128 ⌝ }
-    ensures { λ r. ⌜ (r ≡ matching (leadsIn (now (table .entry))) n) × (length r ≡ 128) ⌝ }
-{
-    let mut predecessor = [NOBODY; 128];
-    let mut h: u8 = 0;
-    while wide(h) < n {
-        let mut visited = [0u64; 2];
-        augment(table, n, h, &mut predecessor, &mut visited);
-        h += 1;
-    }
-    predecessor
-}
-
-// ---- channels as data
-
-// No channel at all.
-fn empty(refusal: u8) -> Channels
-    ensures { λ r. ⌜ (r .refusal ≡ refusal) × Arranged [] r ⌝ }
-{
-    Channels {
-        refusal,
-        count: 0,
-        vertices: 0,
-        channel: [0; 128],
-        position: [0; 128],
-        order: [0; 128],
-        starts: [0; 128],
-    }
-}
+// ---- channels laid in lists
 
 // Opens a channel where the position is 0: it begins at place `at` of the order. The number of channels then.
 fn opened(starts: &mut [u8], count: usize, at: usize, p: usize) -> usize
@@ -184,112 +68,17 @@ fn lay<'c, 'p, 'o, 's>(
 
 // ---- planned channels
 
-// Each vertex's successor: the first vertex whose predecessor it is, or NOBODY. The later ones are stored first.
-fn successors(predecessor: &[u8], n: usize) -> [u8; 128]
-    requires { ⌜ (n ≤ 128) × (length (now predecessor) ≡ 128) ⌝ }
-    ensures { λ r. ⌜ Successors n (now (predecessor .entry)) r ⌝ }
-{
-    let mut r = [NOBODY; 128];
-    let mut v = n;
-    while 0 < v {
-        let w = v - 1;
-        let p = wide(predecessor[w]);
-        if p < 128 {
-            r[p] = w as u8;
-        }
-        v = w;
-    }
-    r
-}
-
-// How many channels and vertices are laid.
-struct Extent {
-    count: usize,
-    vertices: usize,
-}
-
-// Lays the channel that begins with v and goes on by the vertices' successors, while these are below n, behind those that are laid.
-fn with_chain<'c, 'p, 'o, 's>(
-    channel: &'c mut [u8],
-    position: &'p mut [u8],
-    order: &'o mut [u8],
-    starts: &'s mut [u8],
-    successor: &[u8],
-    n: usize,
-    was: Extent,
-    v: usize,
-) -> Extent
-    requires { ⌜ (n ≤ 128) × (length (now successor) ≡ 128) × (v < n) × Ready n (followed n (now successor) (suc n) v) (tables (was .count) (was .vertices) (now channel) (now position) (now order) (now starts)) ⌝ }
-    ensures { λ r. ⌜ Behind n (followed n (now (successor .entry)) (suc n) v) (tables (was .count) (was .vertices) (now (channel .entry)) (now (position .entry)) (now (order .entry)) (now (starts .entry))) (tables (r .count) (r .vertices) (now (channel .exit)) (now (position .exit)) (now (order .exit)) (now (starts .exit))) ⌝ }
-{
-    let mut count = was.count;
-    let mut vertices = was.vertices;
-    let mut p: usize = 0;
-    let mut w = v;
-    while w < n {
-        count = lay(channel, position, order, starts, count, vertices, p, w);
-        vertices += 1;
-        p += 1;
-        w = wide(successor[w]);
-    }
-    Extent { count, vertices }
-}
-
-// The channels that the predecessors make, by first vertex, ascending.
-fn chains(predecessor: &[u8], n: usize) -> Channels
-    requires { ⌜ (n ≤ 128) × (length (now predecessor) ≡ 128) ⌝ }
-    ensures { λ r. ⌜ (r .refusal ≡ 0) × Arranged (begun n (now (predecessor .entry)) n) r ⌝ }
-{
-    let successor = successors(predecessor, n);
-    let mut channel = [0u8; 128];
-    let mut position = [0u8; 128];
-    let mut order = [0u8; 128];
-    let mut starts = [0u8; 128];
-    let mut s = Extent {
-        count: 0,
-        vertices: 0,
-    };
-    let mut v: usize = 0;
-    while v < n {
-        let p = predecessor[v];
-        let next = v + 1;
-        if p == NOBODY {
-            s = with_chain(
-                &mut channel,
-                &mut position,
-                &mut order,
-                &mut starts,
-                &successor,
-                n,
-                s,
-                v,
-            );
-        }
-        v = next;
-    }
-    Channels {
-        refusal: 0,
-        count: s.count as u8,
-        vertices: s.vertices as u8,
-        channel,
-        position,
-        order,
-        starts,
-    }
-}
-
 // Plans the channels of n vertices by the table. Refused with 2 (no vertex, or more than 128), and then there is none.
 pub fn plan(n: usize, table: &[u64]) -> Channels
     ensures { λ r. ⌜ Plans n (now (table .entry)) r ⌝ }
 {
     if n == 0 {
-        return empty(2);
+        return planning::empty(2);
     }
     if MOST < n {
-        return empty(2);
+        return planning::empty(2);
     }
-    let predecessor = matched(table, n);
-    chains(&predecessor, n)
+    planning::chained(n, table)
 }
 
 // ---- given channels: a field of lines, each a byte k and then k vertices
@@ -427,10 +216,10 @@ pub fn given<'a>(n: usize, table: &'a [u64], field: &'a [u8]) -> Channels
     ensures { λ r. ⌜ Gives n (now (table .entry)) (now (field .entry)) r ⌝ }
 {
     if n == 0 {
-        return empty(2);
+        return planning::empty(2);
     }
     if MOST < n {
-        return empty(2);
+        return planning::empty(2);
     }
     let mut channel = [0u8; 128];
     let mut position = [0u8; 128];
@@ -446,7 +235,7 @@ pub fn given<'a>(n: usize, table: &'a [u64], field: &'a [u8]) -> Channels
         &mut starts,
     );
     if r.refusal != 0 {
-        return empty(r.refusal);
+        return planning::empty(r.refusal);
     }
     Channels {
         refusal: 0,

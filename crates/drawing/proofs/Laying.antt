@@ -21,8 +21,8 @@ use Rattle.reach.specs.Ends.{tailsOf, headsOf}
 use Rattle.reach.proofs.Decide.{edge-decided}
 use Rattle.reach.proofs.Closures.{same-test}
 use Rattle.channels.specs.Given.{linesOf}
-use Rattle.channels.specs.Arranged.{Arranged}
-use Rattle.channels.specs.Table.{leadsIn}
+use Rattle.planning.specs.Arranged.{Arranged}
+use Rattle.search.specs.Table.{leadsIn}
 use Rattle.record.specs.Checks.{Content, refusalOf}
 use Rattle.record.specs.Checked.{Passes}
 use Rattle.record.specs.Sound.{Sound}

@@ -6,7 +6,7 @@ use mathlib.Core.List.{List}
 use Prim.Native.Nat.{ℕ, _*_, _≤_, _<_}
 use lib.ListN.{length, getD, replicate}
 use Rattle.masks.specs.Sets.{member?, at}
-use Rattle.channels.specs.Arranged.{Arranged}
+use Rattle.planning.specs.Arranged.{Arranged}
 use Rattle.record.specs.Checks.{Content, refusalOf}
 use Rattle.record.specs.Sound.{Sound}
 use Rattle.reduction.specs.Reduction.{transitive?}

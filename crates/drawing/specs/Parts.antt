@@ -5,7 +5,7 @@ use Prim.Native.Nat.{ℕ, _≤_, _<_}
 use lib.ListN.{length, getD}
 use Rattle.geometry.specs.Placement.{Widths, evenGaps, blockStart, ownColumn}
 use Rattle.page.specs.Page as page
-use Rattle.channels.specs.declared.Channels.{Channels}
+use Rattle.planning.specs.declared.Channels.{Channels}
 use Rattle.tracks.specs.declared.Tracks.{Tracks}
 
 -- the first j entries of a table are those of f, and past them stands 0

@@ -6,7 +6,7 @@ ghost use Rattle.geometry.specs.Placement.{evenGaps, blockStart};
 ghost use Rattle.page.specs.Page as page;
 ghost use Rattle.drawing.specs.Parts.{Owns, Tabled, Spaceable, Spaced};
 use crate::wide;
-use channels::Channels;
+use planning::Channels;
 use tracks::Tracks;
 
 // Columns kept free on either side of a channel's own.

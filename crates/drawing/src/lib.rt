@@ -8,8 +8,8 @@ mod columns;
 
 use bundles::Bundles;
 use bundles::bundled;
-use channels::Channels;
 use columns::places_of;
+use planning::Channels;
 use record::checks::check;
 use tracks::Tracks;
 

@@ -17,12 +17,12 @@ use Rattle.reach.proofs.Closures.{same-test}
 use Rattle.descent.specs.Promise.{Sized, edgesRefusal, Descended, Descends}
 use Rattle.descent.specs.declared.Descent.{Descent}
 use Rattle.matching.specs.Chains.{planned}
-use Rattle.channels.specs.Table.{leadsIn}
+use Rattle.search.specs.Table.{leadsIn}
 use Rattle.channels.specs.Given.{linesOf, verticesOf, unknown?}
-use Rattle.channels.specs.Arranged.{Arranged}
+use Rattle.planning.specs.Arranged.{Arranged}
 use Rattle.channels.specs.Promise as planner
 use Rattle.channels.specs.Promise.{Plans, Gives}
-use Rattle.channels.specs.declared.Channels.{Channels}
+use Rattle.planning.specs.declared.Channels.{Channels}
 use Rattle.channels.proofs.Answers.{sized, plan-taken}
 use Rattle.channels.proofs.Theorems.{taken}
 use Rattle.record.specs.declared.checks.Checked.{Checked}

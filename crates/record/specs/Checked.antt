@@ -9,9 +9,9 @@ use Rattle.counting.specs.Count.{choose}
 use Rattle.reach.specs.Ends.{tailsOf, headsOf}
 use Rattle.descent.specs.Promise.{Sized, Descended}
 use Rattle.matching.specs.Chains.{planned}
-use Rattle.channels.specs.Table.{leadsIn}
+use Rattle.search.specs.Table.{leadsIn}
 use Rattle.channels.specs.Given.{linesOf}
-use Rattle.channels.specs.Arranged.{Arranged}
+use Rattle.planning.specs.Arranged.{Arranged}
 use Rattle.record.specs.declared.checks.Checked.{Checked}
 use Rattle.record.specs.Checks.{content, refusalOf}
 

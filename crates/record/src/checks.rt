@@ -6,8 +6,8 @@ ghost use Rattle.counting.specs.Count.{choose};
 ghost use Rattle.channels.specs.Given.{verticesOf, unknown?};
 ghost use Rattle.channels.specs.Promise.{Plans, Gives};
 ghost use Rattle.record.specs.Checked.{uncheckedBy, Checks};
-use channels::Channels;
 use descent::descend;
+use planning::Channels;
 
 // Why a graph is refused, or 0; how many rows it has, the row of each vertex, 0 past the last, how many vertices each reaches, and the
 // channels. On a refusal every number is 0.

@@ -19,20 +19,13 @@ returns-2 : tie.Need-returns-2
 returns-2 c =
     answers-refused _ 2 _ _ (plan-outsized _ (many-outsized _ (c .before .if2 .taken))) (λ e. omega arith) (c .empty2 .ensures)
 
-matched-requires : tie.Need-matched-requires
-matched-requires c κs = search needs
-
-slice-aggregate-chains : tie.Need-slice-aggregate-chains
-slice-aggregate-chains c = search needs
-
-chains-requires : tie.Need-chains-requires
-chains-requires c κs = search needs
+chained-requires : tie.Need-chained-requires
+chained-requires c κs = search needs
 
 returns-3 : tie.Need-returns-3
 returns-3 c =
-    let m = c .before .before in
-    let s = m .before in
-    answers-taken _ _ _ (plan-taken _ (sized _ (s .before .if1 .left) (s .if2 .left))) (plan-channels _ _ _ _ (m .matched .ensures .0) (c .chains .ensures))
+    let s = c .before in
+    answers-taken _ _ _ (plan-taken _ (sized _ (s .before .if1 .left) (s .if2 .left))) (plan-channels _ _ _ (s .if2 .left) (c .chained .ensures))
 
 pub plan-spec : {M : Type 1} → statement M
 plan-spec =
@@ -42,7 +35,5 @@ plan-spec =
     returns
     empty-requires-2
     returns-2
-    matched-requires
-    slice-aggregate-chains
-    chains-requires
+    chained-requires
     returns-3)

@@ -3,8 +3,8 @@ use mathlib.Core.Path.{refl, _∙_}
 use Prim.Native.Nat.{_-_, _≤_}
 use native.Mathlib.Omega.{arith}
 use lib.ListN.{length}
-use Rattle.channels.specs.Table.{leadsIn}
-use Rattle.channels.specs.Laid.{tables}
+use Rattle.search.specs.Table.{leadsIn}
+use Rattle.planning.specs.Laid.{tables}
 use Rattle.channels.proofs.Walking.{Walking, walking-none, walking-length, walked-unknown, walking-more, walked-all}
 use Rattle.channels.proofs.Tabling.{Tabling, tabling-none, tabling-length, tabling-more, walks-refused, walks-all}
 use borrow.Author.Needs.{needs}

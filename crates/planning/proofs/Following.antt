@@ -1,0 +1,303 @@
+-- The loops over vertices: whose successor it is, and which channels have begun. Assumes nothing.
+use mathlib.Core.Path.{_≡_, refl, sym, ap, _∙_, subst}
+use mathlib.Core.Logic.{_≢_, _⊎_, inl, inr}
+use mathlib.Core.Bool.{Bool}
+use mathlib.Core.List.{List, [], _∷_, _++_, append-nil, append-assoc, flatten}
+use Prim.Native.Nat.{ℕ, zero, suc, _+_, _-_, _≤_, _<_}
+use native.Mathlib.Omega.{arith}
+use native.Mathlib.Decide.{ℕ-discrete}
+use native.Mathlib.Numerals.{add-one}
+use lib.ListN.{length, getD, set, replicate, length-append, length-set, length-replicate, getD-replicate}
+use lib.Seq.{getD-set-same, getD-set-other}
+use borrow.Author.Tests.{lt-ltb, le-ltb}
+use Rattle.matching.specs.Search.{nobody, matching}
+use Rattle.matching.specs.Lists.{times}
+use Rattle.matching.specs.Chains.{successorFrom, successor, chain, begun, planned}
+use Rattle.matching.proofs.Lists.{flatten-snoc, times-append, times-here, within-has, length-bound}
+use Rattle.matching.proofs.Chains.{chain-end, chain-more, begun-yes, begun-none, begun-no, successor-here, successor-on, successor-end, successor-fact, begun-once, begun-within, begun-room}
+use Rattle.planning.specs.Arranged.{Arranged, openedIn, extendedBy}
+use Rattle.planning.specs.Laid.{tables, Successors, followed, Fits, Ready, Behind}
+use Rattle.planning.specs.declared.Channels.{Channels}
+use Rattle.planning.proofs.Laying.{Next, arranged-opened, arranged-extended, opens, extends}
+
+-- ---- each vertex's successor, from the last vertex down
+
+module _ (n : ℕ) (P : List ℕ) where
+  -- of the vertices from v on, r has the first that has h as its predecessor
+  pub record Seeking (v : ℕ) (r : List ℕ) : Type 0 where
+    pub upto : v ≤ n
+    pub size : length r ≡ 128
+    pub each : (h : ℕ) → h < 128 → getD r h 0 ≡ successorFrom n P h (n - v) v
+
+  pub seek-none : Seeking n (replicate 128 nobody)
+  seek-none = record {
+    upto = omega arith;
+    size = length-replicate {A = ℕ} 128 nobody;
+    each = λ h l. getD-replicate 128 h nobody 0 l
+        ∙ sym (ap (λ j. successorFrom n P h j n) (let e : n - n ≡ 0 = omega arith in e) ∙ successor-end n P h n);
+  }
+
+  module _ (v w p : ℕ) (r : List ℕ) (g : Seeking v r) (ev : v ≡ suc w) (ep : p ≡ getD P w 0) where
+    at : (h : ℕ) → successorFrom n P h (n - w) w ≡ successorFrom n P h (suc (n - v)) w
+    at h = ap (λ j. successorFrom n P h j w) (let e : n - w ≡ suc (n - v) = omega (arith, g .upto) in e)
+
+    seek-other : (h : ℕ) → h < 128 → p ≢ h → getD r h 0 ≡ successorFrom n P h (n - w) w
+    seek-other h l d = g .each h l ∙ ap (λ x. successorFrom n P h (n - v) x) ev
+        ∙ sym (at h ∙ successor-on n P h (n - v) w (λ e. d (ep ∙ e)))
+
+    pub seek-here : p < 128 → Seeking w (set r p w)
+    seek-here l = record {
+      upto = omega (arith, g .upto);
+      size = length-set r p w ∙ g .size;
+      each = λ h m. go h m (ℕ-discrete p h);
+    }
+      where
+        go : (h : ℕ) → h < 128 → Dec (p ≡ h) → getD (set r p w) h 0 ≡ successorFrom n P h (n - w) w
+        go h m (yes e) = ap (λ x. getD (set r p w) x 0) (sym e)
+            ∙ getD-set-same r p w 0 (omega (arith, g .size)) ∙ sym (at h ∙ successor-here n P h (n - v) w (sym ep ∙ e))
+        go h m (no d) = getD-set-other r p h w 0 (λ e. d (sym e)) ∙ seek-other h m d
+
+    -- w has no predecessor
+    pub seek-on : 128 ≤ p → Seeking w r
+    seek-on l = record { upto = omega (arith, g .upto); size = g .size; each = λ h m. seek-other h m (λ e. omega arith) }
+
+  pub seek-all : (v : ℕ) (r : List ℕ) → Seeking v r → v ≤ 0 → Successors n P r
+  unfolding successor
+  seek-all v r g z = record {
+    size = g .size;
+    each = λ h l. g .each h l ∙ ap (successorFrom n P h (n - v)) (let e : v ≡ 0 = omega arith in e)
+        ∙ ap (λ j. successorFrom n P h j 0) (let e : n - v ≡ n = omega arith in e);
+  }
+
+-- ---- the vertices that follow, by a table of successors
+
+module _ (n : ℕ) (F : List ℕ) where
+  followed-more : (k v : ℕ) → v < n → followed n F (suc k) v ≡ v ∷ followed n F k (getD F v 0)
+  unfolding followed
+  followed-more k v l = rw (lt-ltb v n l)
+
+  followed-end : (k v : ℕ) → n ≤ v → followed n F k v ≡ []
+  unfolding followed
+  followed-end zero v l = refl
+  followed-end (suc k) v l = rw (le-ltb v n l)
+
+  module _ (P : List ℕ) (small : n ≤ 128) (g : Successors n P F) where
+    followed-chain : (k v : ℕ) → (v < n) ⊎ (v ≡ nobody) → followed n F k v ≡ chain n P k v
+    unfolding followed chain
+    followed-chain zero v c = refl
+    followed-chain (suc k) v (inl l) =
+        followed-more k v l
+        ∙ ap (λ x. v ∷ followed n F k x) (g .each v (omega arith))
+        ∙ ap (λ x. v ∷ x) (followed-chain k (successor n P v) (next (ℕ-discrete (successor n P v) nobody)))
+        ∙ sym (chain-more n P k v (λ e. omega arith))
+      where
+        next : Dec (successor n P v ≡ nobody) → (successor n P v < n) ⊎ (successor n P v ≡ nobody)
+        next (yes e) = inr e
+        next (no d) = inl (successor-fact n P v d .0)
+    followed-chain (suc k) v (inr e) = followed-end (suc k) v (omega arith) ∙ sym (ap (chain n P (suc k)) e ∙ chain-end n P (suc k))
+
+-- ---- the channel that begins with a, behind the channels ls
+
+module _ (n : ℕ) (F : List ℕ) (a : ℕ) where
+  abbrev mine : List ℕ
+  mine = followed n F (suc n) a
+
+  -- its first p vertices are laid, and w comes next
+  pub record Following (ls : List (List ℕ)) (s : Channels) (w p : ℕ) : Type 0 where
+    pub l : List ℕ
+    pub size : p ≡ length l
+    pub rest : mine ≡ l ++ followed n F (suc n - p) w
+    pub arranged : Arranged (ls ++ (l ∷ [])) s
+
+  -- where it fits there is room for it
+  fits-few : n ≤ 128 → a < n → (ls : List (List ℕ)) → Fits n ls mine → (length ls < 128) × (length (flatten ls) < 128)
+  fits-few small m ls fit =
+      let q : length (flatten ls) < n = omega (
+        arith,
+        length-bound n (flatten (ls ++ (mine ∷ []))) (fit .only) (λ v l. fit .once v),
+        ap length (flatten-snoc ls mine),
+        length-append (flatten ls) mine,
+        ap length (followed-more n F n a m),
+      ) in
+      (omega (arith, fit .full), omega arith)
+
+  following-none : (ls : List (List ℕ)) (r : Channels) → Arranged ls r → length ls < 128 → Following ls (openedIn r) a 0
+  following-none ls r g h = record {
+    l = [];
+    size = refl;
+    rest = ap (λ k. followed n F k a) (let e : suc n ≡ suc n - 0 = omega arith in e);
+    arranged = arranged-opened ls r g h;
+  }
+
+  module _ (small : n ≤ 128) (m : a < n) (ls : List (List ℕ)) (fit : Fits n ls mine) (s : Channels) (w p : ℕ) (f : Following ls s w p) where
+    -- all that is laid by the end of this channel
+    whole : flatten (ls ++ (mine ∷ [])) ≡ (flatten ls ++ f .l) ++ followed n F (suc n - p) w
+    whole =
+        flatten-snoc ls mine ∙ ap (λ x. flatten ls ++ x) (f .rest)
+        ∙ sym (append-assoc (flatten ls) (f .l) (followed n F (suc n - p) w))
+
+    lengths : length (flatten ls) + length (f .l) + length (followed n F (suc n - p) w) ≤ n
+    lengths = omega (
+      arith,
+      length-bound n (flatten (ls ++ (mine ∷ []))) (fit .only) (λ v l. fit .once v),
+      ap length whole,
+      length-append (flatten ls ++ f .l) (followed n F (suc n - p) w),
+      length-append (flatten ls) (f .l),
+    )
+
+    pub within : p ≤ n
+    within = omega (arith, lengths, f .size)
+
+    module _ (d : w < n) where
+      here : followed n F (suc n - p) w ≡ w ∷ followed n F (suc n - (p + 1)) (getD F w 0)
+      here =
+          ap (λ k. followed n F k w) (let q : suc n - p ≡ suc (n - p) = omega (arith, within) in q) ∙ followed-more n F (n - p) w d
+          ∙ ap (λ k. w ∷ followed n F k (getD F w 0)) (let q : n - p ≡ suc n - (p + 1) = omega (arith, within) in q)
+
+      often : times w (flatten (ls ++ (mine ∷ [])))
+          ≡ times w (flatten ls) + times w (f .l) + suc (times w (followed n F (suc n - (p + 1)) (getD F w 0)))
+      often = omega (
+        arith,
+        ap (times w) whole,
+        times-append w (flatten ls ++ f .l) (followed n F (suc n - p) w),
+        times-append w (flatten ls) (f .l),
+        ap (times w) here,
+        times-here w (followed n F (suc n - (p + 1)) (getD F w 0)),
+      )
+
+      next : Next ls (f .l) w
+      next = record {
+        few = omega (arith, fit .full, lengths, ap length here);
+        room = omega (arith, lengths, ap length here);
+        vertex = omega (arith, within-has n w (flatten (ls ++ (mine ∷ []))) (fit .only) (omega (arith, often)));
+        new = omega (arith, often, fit .once w);
+      }
+
+      -- so its entries in the lists are there, and are bytes
+      pub following-asks : (s .vertices < 128) × (p < 128) × (w < 128)
+      following-asks = (
+        omega (arith, f .arranged .total, ap length (flatten-snoc ls (f .l)), length-append (flatten ls) (f .l), next .room),
+        omega (arith, f .size, next .room),
+        next .vertex,
+      )
+
+      following-more : (w′ : ℕ) → w′ ≡ getD F w 0 → Following ls (extendedBy p w s) w′ (p + 1)
+      following-more w′ ew = record {
+        l = f .l ++ (w ∷ []);
+        size = omega (arith, f .size, length-append (f .l) (w ∷ []));
+        rest = f .rest ∙ ap (λ x. f .l ++ x) here ∙ sym (append-assoc (f .l) (w ∷ []) (followed n F (suc n - (p + 1)) (getD F w 0)))
+            ∙ ap (λ x. (f .l ++ (w ∷ [])) ++ followed n F (suc n - (p + 1)) x) (sym ew);
+        arranged = subst (λ x. Arranged (ls ++ ((f .l ++ (w ∷ [])) ∷ [])) (extendedBy x w s)) (sym (f .size))
+            (arranged-extended ls (f .l) w next s (f .arranged));
+      }
+
+    following-all : n ≤ w → Arranged (ls ++ (mine ∷ [])) s
+    following-all q =
+        let z : mine ≡ f .l = f .rest ∙ ap (λ x. f .l ++ x) (followed-end n F (suc n - p) w q) ∙ append-nil (f .l) in
+        subst (λ x. Arranged (ls ++ (x ∷ [])) s) (sym z) (f .arranged)
+
+  -- ---- so behind whatever channels r has, if it fits there
+
+  pub record Follows (r s : Channels) (w p : ℕ) : Type 0 where
+    pub each : (ls : List (List ℕ)) → Arranged ls r → Fits n ls mine → Following ls s w p
+
+  module _ (small : n ≤ 128) (m : a < n) where
+    pub ready-few : (r : Channels) → Ready n mine r → (r .count < 128) × (r .vertices < 128)
+    ready-few r x =
+        let q = fits-few small m (x .ls) (x .fits) in
+        (omega (arith, x .arranged .counted, q .0), omega (arith, x .arranged .total, q .1))
+
+    pub follows-none : (count at : ℕ) (channel position order starts : List ℕ)
+        → Follows (tables count at channel position order starts) (tables (count + 1) at channel position order (set starts count at)) a 0
+    follows-none count at channel position order starts = record {
+      each = λ ls g t. subst (λ s. Following ls s a 0) (opens count at channel position order starts)
+          (following-none ls (tables count at channel position order starts) g (fits-few small m ls t .0));
+    }
+
+    module _ (r : Channels) (count at : ℕ) (channel position order starts : List ℕ) (w p : ℕ)
+        (f : Follows r (tables (count + 1) at channel position order starts) w p) where
+      abbrev s : Channels
+      s = tables (count + 1) at channel position order starts
+
+      pub follows-more : w < n → (w′ : ℕ) → w′ ≡ getD F w 0
+          → Follows r (tables (count + 1) (at + 1) (set channel w count) (set position w p) (set order at w) starts) w′ (p + 1)
+      follows-more d w′ ew = record {
+        each = λ ls g t. subst (λ x. Following ls x w′ (p + 1)) (extends p w count at channel position order starts)
+            (following-more small m ls t s w p (f .each ls g t) d w′ ew);
+      }
+
+      pub follows-all : n ≤ w → Behind n mine r s
+      follows-all q ls g t = following-all small m ls t s w p (f .each ls g t) q
+
+-- ---- the channels, vertex by vertex
+
+module _ (n : ℕ) (P : List ℕ) where
+  -- those that begin below v are laid
+  pub record Laid (v : ℕ) (r : Channels) : Type 0 where
+    pub upto : v ≤ n
+    pub full : length (begun n P v) ≤ length (flatten (begun n P v))
+    pub arranged : Arranged (begun n P v) r
+
+  pub laid-none : (r : Channels) → Arranged [] r → Laid 0 r
+  laid-none r a = record {
+    upto = omega arith;
+    full = omega (arith, ap length (begun-none n P));
+    arranged = subst (λ x. Arranged x r) (sym (begun-none n P)) a;
+  }
+
+  module _ (small : n ≤ 128) (F : List ℕ) (o : Successors n P F) (v : ℕ) (r : Channels) (g : Laid v r) (l : v < n) where
+    module _ (e : getD P v 0 ≡ nobody) where
+      -- v begins a channel
+      yes-begun : begun n P (suc v) ≡ begun n P v ++ (followed n F (suc n) v ∷ [])
+      yes-begun = begun-yes n P v e ∙ ap (λ x. begun n P v ++ (x ∷ [])) (sym (followed-chain n F P small o (suc n) v (inl l)))
+
+      fits : Fits n (begun n P v) (followed n F (suc n) v)
+      fits = record {
+        full = g .full;
+        once = λ u. subst (λ x. times u (flatten x) ≤ 1) yes-begun (begun-once n P small (suc v) u l);
+        only = λ u h. subst (λ x. times u (flatten x) ≡ 0) yes-begun (begun-within n P small (suc v) l u h);
+      }
+
+      pub laid-ready : Ready n (followed n F (suc n) v) r
+      laid-ready = record { ls = begun n P v; arranged = g .arranged; fits = fits }
+
+      -- and is laid
+      pub laid-chain : (s : Channels) → Behind n (followed n F (suc n) v) r s → Laid (v + 1) s
+      laid-chain s b = subst (λ x. Laid x s) (sym (add-one v)) (record {
+        upto = l;
+        full = omega (
+          arith,
+          g .full,
+          ap length yes-begun,
+          length-append (begun n P v) (followed n F (suc n) v ∷ []),
+          ap (λ x. length (flatten x)) yes-begun,
+          ap length (flatten-snoc (begun n P v) (followed n F (suc n) v)),
+          length-append (flatten (begun n P v)) (followed n F (suc n) v),
+          ap length (followed-more n F n v l),
+        );
+        arranged = subst (λ x. Arranged x s) (sym yes-begun) (b (begun n P v) (g .arranged) fits);
+      })
+
+    -- v begins none
+    pub laid-pass : getD P v 0 ≢ nobody → Laid (v + 1) r
+    laid-pass d =
+        let z : begun n P v ≡ begun n P (v + 1) = sym (begun-no n P v d) ∙ ap (begun n P) (sym (add-one v)) in record {
+          upto = omega arith;
+          full = subst (λ x. length x ≤ length (flatten x)) z (g .full);
+          arranged = subst (λ x. Arranged x r) z (g .arranged);
+        }
+
+  -- all are laid, and few enough for a byte
+  module _ (small : n ≤ 128) (v : ℕ) (r : Channels) (g : Laid v r) where
+    pub laid-few : (r .count ≤ n) × (r .vertices ≤ n)
+    laid-few =
+        let q = begun-room n P small v (g .upto) in
+        (omega (arith, g .arranged .counted, g .full), omega (arith, g .arranged .total))
+
+    pub laid-all : n ≤ v → Arranged (begun n P n) r
+    laid-all l = subst (λ x. Arranged (begun n P x) r) (let e : v ≡ n = omega (arith, g .upto) in e) (g .arranged)
+
+-- the channels of the predecessors that the rule gives
+pub laid-planned : (leads : ℕ → ℕ → Bool) (n m : ℕ) (P : List ℕ) (r : Channels) → m ≡ n → P ≡ matching leads n → (r .refusal ≡ 0) × Arranged (begun m P m) r → (r .refusal ≡ 0) × Arranged (planned leads n) r
+unfolding planned
+laid-planned leads n m P r em e a = (a .0, subst (λ x. Arranged (begun n x n) r) e (subst (λ x. Arranged (begun x P x) r) em (a .1)))

@@ -1,0 +1,2 @@
+pub mod Arranged
+pub mod Laid

@@ -1,0 +1,27 @@
+-- The loop over vertices: who asked. Assumes nothing.
+use mathlib.Core.Path.{_≡_, sym, ap, _∙_}
+use mathlib.Core.Bool.{Bool}
+use mathlib.Core.List.{List}
+use Prim.Native.Nat.{ℕ, suc, _+_, _-_, _≤_, _<_}
+use native.Mathlib.Omega.{arith}
+use native.Mathlib.Numerals.{add-one}
+use lib.ListN.{replicate}
+use Rattle.matching.specs.Search.{nobody, fresh, asks, matching}
+use Rattle.matching.proofs.Asked.{unvisited-le}
+use Rattle.search.specs.Search.{state, Augments}
+
+module _ (leads : ℕ → ℕ → Bool) (n : ℕ) where
+  pub ask-none : matching leads n ≡ asks leads n (n - 0) 0 (replicate 128 nobody)
+  unfolding matching
+  ask-none = ap (λ j. asks leads n j 0 (replicate 128 nobody)) (let e : n ≡ n - 0 = omega arith in e)
+
+  pub ask-more : (h : ℕ) (P P′ T′ : List ℕ) (b : Bool) → h < n → Augments leads n h (fresh P) (state P′ T′ b) → asks leads n (n - h) h P ≡ asks leads n (n - (h + 1)) (h + 1) P′
+  unfolding asks
+  ask-more h P P′ T′ b l g =
+      ap (λ j. asks leads n j h P) (let e : n - h ≡ suc (n - (h + 1)) = omega arith in e)
+      ∙ ap (λ x. asks leads n (n - (h + 1)) (suc h) (x .predecessor)) (sym (g .same (suc n) (omega (arith, unvisited-le n (fresh P)))))
+      ∙ ap (λ j. asks leads n (n - (h + 1)) j P′) (sym (add-one h))
+
+  pub ask-all : (h : ℕ) (P : List ℕ) → n ≤ h → asks leads n (n - h) h P ≡ P
+  unfolding asks
+  ask-all h P l = ap (λ j. asks leads n j h P) (let e : n - h ≡ 0 = omega arith in e)

@@ -1,0 +1,54 @@
+-- `search::first_open` meets its contract: by the trailing zeros of the one mask, or else of the other. Assumes nothing.
+use native.Mathlib.Omega.{arith}
+use lib.Count.{trailing-le}
+use lib.ListN.{getD}
+use borrow.Author.Needs.{needs}
+use Rattle.masks.proofs.Bits.{without}
+use Rattle.search.proofs.Open.{open-low, open-high, open-none}
+use Rattle.search.proofs.first_open.Statement.{statement}
+use Rattle.search.proofs.first_open.Tie as tie
+
+shared-slice-read-x : tie.Need-shared-slice-read-x
+shared-slice-read-x c = search needs
+
+cast-result : tie.Need-cast-result
+cast-result c = let a = c .before .before .args in omega (arith, trailing-le 64 (without (a .low) (getD (a .visited .now) 0 0)))
+
+returns : tie.Need-returns
+returns c =
+    let o = c .before .before in
+    open-low _ (o .args .high) _ (λ i. c .before .shared-slice-known .given i .fits) (o .fits .low .fits) (o .fits .high .fits) (c .if1 .taken)
+
+shared-slice-read-y : tie.Need-shared-slice-read-y
+shared-slice-read-y c = search needs
+
+cast-result-2 : tie.Need-cast-result-2
+cast-result-2 c = let a = c .before .before .before .before .args in omega (arith, trailing-le 64 (without (a .high) (getD (a .visited .now) 1 0)))
+
+add-result : tie.Need-add-result
+add-result c = let a = c .before .before .before .before .args in omega (arith, trailing-le 64 (without (a .high) (getD (a .visited .now) 1 0)))
+
+returns-2 : tie.Need-returns-2
+returns-2 c =
+    let e = c .before .before in
+    let o = e .before .before in
+    open-high _ _ _ (λ i. e .before .shared-slice-known .given i .fits) (o .fits .low .fits) (o .fits .high .fits) (e .if1 .left) (c .if2 .taken)
+
+returns-3 : tie.Need-returns-3
+returns-3 c =
+    let e = c .before .before in
+    let o = e .before .before in
+    open-none _ _ _ (λ i. e .before .shared-slice-known .given i .fits) (o .fits .low .fits) (o .fits .high .fits) (e .if1 .left) (c .if2 .left)
+
+pub first-open-spec : {M : Type 1} → statement M
+first-open-spec =
+    tie.close
+    (tie.spec
+    shared-slice-read-x
+    cast-result
+    returns
+    shared-slice-read-y
+    cast-result-2
+    add-result
+    returns-2
+    returns-3)

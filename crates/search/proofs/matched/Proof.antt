@@ -1,0 +1,72 @@
+-- `search::matched` meets its contract: what is still to be asked gives what the whole rule gives. Assumes nothing.
+use mathlib.Core.Path.{_≡_, refl, sym, ap, _∙_}
+use Prim.Native.Nat.{_-_, _≤_}
+use native.Mathlib.Omega.{arith}
+use lib.ListN.{length}
+use Rattle.matching.specs.Search.{asks, matching}
+use Rattle.search.specs.Table.{leadsIn}
+use Rattle.search.proofs.Asking.{ask-none, ask-more, ask-all}
+use borrow.Author.Needs.{needs}
+use Rattle.search.proofs.matched.Statement.{statement}
+use Rattle.search.proofs.matched.Tie as tie
+
+abbrev Inv-loop : tie.InvT-loop
+Inv-loop table n most predecessor₀ h₀ predecessor h = (h ≤ most) × (length predecessor ≡ 128) × (matching (leadsIn table) most ≡ asks (leadsIn table) most (most - h) h predecessor)
+
+abbrev μ-loop : tie.MeasureT-loop
+μ-loop table n most predecessor₀ h₀ predecessor h = most - h
+
+capped-requires : tie.Need-capped-requires Inv-loop μ-loop
+capped-requires c κs = search needs
+
+loop-holds : tie.Need-loop-holds Inv-loop μ-loop
+loop-holds c =
+    (omega arith, refl, ask-none _ _)
+
+wide-requires : tie.Need-wide-requires Inv-loop μ-loop
+wide-requires c κs = search needs
+
+slice-aggregate-augment : tie.Need-slice-aggregate-augment Inv-loop μ-loop
+slice-aggregate-augment c = search needs
+
+slice-aggregate-augment-2 : tie.Need-slice-aggregate-augment-2 Inv-loop μ-loop
+slice-aggregate-augment-2 c = search needs
+
+augment-requires : tie.Need-augment-requires Inv-loop μ-loop
+augment-requires c κs =
+    let o = c .before .before .before .before in
+    (omega arith, o .loop .inv .1, refl)
+
+add-h : tie.Need-add-h Inv-loop μ-loop
+add-h c = search needs
+
+loop-less : tie.Need-loop-less Inv-loop μ-loop
+loop-less c = search needs
+
+loop-again : tie.Need-loop-again Inv-loop μ-loop
+loop-again c =
+    let a = c .before .before in
+    let o = a .before .before .before .before .before in
+    (omega arith, a .augment .kept .1 .1 .1 .0 ∙ o .loop .inv .1, o .loop .inv .2 ∙ ask-more _ _ _ _ _ _ _ (omega arith) (a .augment .ensures))
+
+returns : tie.Need-returns Inv-loop μ-loop
+returns c =
+    let o = c .before .before in
+    (sym (o .loop .inv .2 ∙ ask-all _ _ _ _ (omega arith)) ∙ ap (matching _) (o .before .capped .ensures), o .loop .inv .1)
+
+pub matched-spec : {M : Type 1} → statement M
+matched-spec =
+    tie.close
+    (tie.spec
+    Inv-loop
+    μ-loop
+    capped-requires
+    loop-holds
+    wide-requires
+    slice-aggregate-augment
+    slice-aggregate-augment-2
+    augment-requires
+    add-h
+    loop-less
+    loop-again
+    returns)

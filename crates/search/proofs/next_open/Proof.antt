@@ -1,0 +1,40 @@
+-- `search::next_open` meets its contract: the two masks are those of h. Assumes nothing.
+use borrow.Author.Needs.{needs}
+use Rattle.search.proofs.Open.{row-open, code-row}
+use Rattle.search.proofs.next_open.Statement.{statement}
+use Rattle.search.proofs.next_open.Tie as tie
+
+wide-requires : tie.Need-wide-requires
+wide-requires c κs = search needs
+
+mul-row : tie.Need-mul-row
+mul-row c = search needs
+
+mask-at-requires : tie.Need-mask-at-requires
+mask-at-requires c κs = search needs
+
+mask-at-requires-2 : tie.Need-mask-at-requires-2
+mask-at-requires-2 c κs = search needs
+
+first-open-requires : tie.Need-first-open-requires
+first-open-requires c κs = search needs
+
+returns : tie.Need-returns
+returns c =
+    let m2 = c .before in
+    let m1 = m2 .before in
+    let w = m1 .before in
+    let start = w .before .before .before in
+    row-open (start .args .table .now) (start .args .visited .now) (start .args .h) _ _ _ _
+    (code-row _ _ _ _ _ (w .wide .ensures .0) (m1 .mask-at .ensures) (m2 .mask-at2 .ensures)) (c .first-open .ensures)
+
+pub next-open-spec : {M : Type 1} → statement M
+next-open-spec =
+    tie.close
+    (tie.spec
+    wide-requires
+    mul-row
+    mask-at-requires
+    mask-at-requires-2
+    first-open-requires
+    returns)

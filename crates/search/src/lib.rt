@@ -1,0 +1,118 @@
+// Layer 2: the search for predecessors (document 01: 'Lines'). Each vertex asks once for a successor among those that it leads to by the
+// reachability table; a predecessor that stands in the way is moved.
+ghost use mathlib.Core.Path.{_≡_};
+ghost use mathlib.Core.Bool.{Bool};
+ghost use mathlib.Core.List.{[], _∷_};
+ghost use Prim.Native.Nat.{_≤_, _<_, min};
+ghost use lib.ListN.{length};
+ghost use Rattle.masks.specs.Sets.{inserted};
+ghost use Rattle.matching.specs.Search.{matching};
+ghost use Rattle.search.specs.Table.{leadsIn};
+ghost use Rattle.search.specs.Search.{state, NextOpen, Augments};
+
+// The most vertices, and what stands for no vertex.
+const MOST: usize = 128;
+
+const NOBODY: u8 = 255;
+
+// A byte as a usize: asks nothing of the byte, where a cast of an element asks that it fits.
+fn wide(x: u8) -> usize
+    ensures { λ r. ⌜ (r ≡ x) × (r < 256) ⌝ }
+{
+    x as usize
+}
+
+// Puts v into the set of the visited vertices.
+fn visit(visited: &mut [u64], v: usize)
+    requires { ⌜ (length (now visited) ≡ 2) × (v < 128) ⌝ }
+    ensures { λ r. ⌜ now (visited .exit) ≡ inserted (now (visited .entry)) 0 v ⌝ }
+{
+    if v < 64 {
+        visited[0] |= 1u64 << v;
+    } else {
+        visited[1] |= 1u64 << (v - 64);
+    }
+}
+
+// The first vertex of a set of two masks that is not visited; 128 where there is none.
+fn first_open(low: u64, high: u64, visited: &[u64]) -> usize
+    requires { ⌜ length (now visited) ≡ 2 ⌝ }
+    ensures { λ r. ⌜ NextOpen (low ∷ high ∷ []) 0 (now (visited .entry)) 0 r ⌝ }
+{
+    let x = low & !visited[0];
+    if x != 0 {
+        return u64::trailing_zeros(x) as usize;
+    }
+    let y = high & !visited[1];
+    if y != 0 {
+        return 64 + u64::trailing_zeros(y) as usize;
+    }
+    128
+}
+
+// The first vertex that h leads to and that is not visited; 128 where there is none.
+fn next_open<'a>(table: &'a [u64], h: u8, visited: &'a [u64]) -> usize
+    requires { ⌜ length (now visited) ≡ 2 ⌝ }
+    ensures { λ r. ⌜ NextOpen (now (table .entry)) h (now (visited .entry)) 0 r ⌝ }
+{
+    let row = 2 * wide(h);
+    let low = masks::mask_at(table, row, 0);
+    let high = masks::mask_at(table, row, 1);
+    first_open(low, high, visited)
+}
+
+// Searches a successor for h: the first vertex that h leads to, not visited yet, that has no predecessor or whose predecessor can be
+// given another successor in the same way. A predecessor that leads to no vertex below n that is not visited is not asked: it has no
+// other successor. At each call fewer vertices are unvisited.
+fn augment(table: &[u64], n: usize, h: u8, predecessor: &mut [u8], visited: &mut [u64]) -> bool
+    requires { ⌜ (n ≤ 128) × (length (now predecessor) ≡ 128) × (length (now visited) ≡ 2) ⌝ }
+    ensures { λ r. ⌜ Augments (leadsIn (now (table .entry))) n h (state (now (predecessor .entry)) (now (visited .entry)) Bool.false) (state (now (predecessor .exit)) (now (visited .exit)) r) ⌝ }
+{
+    let row = 2 * wide(h);
+    let low = masks::mask_at(table, row, 0);
+    let high = masks::mask_at(table, row, 1);
+    let mut v = first_open(low, high, visited);
+    while v < n {
+        visit(visited, v);
+        let k = predecessor[v];
+        if k == NOBODY {
+            predecessor[v] = h;
+            return true;
+        }
+        if next_open(table, k, visited) < n {
+            if augment(table, n, k, predecessor, visited) {
+                predecessor[v] = h;
+                return true;
+            }
+            v = first_open(low, high, visited);
+        } else {
+            v = first_open(low, high, visited);
+        }
+    }
+    false
+}
+
+// n, and 128 where it is over.
+fn capped(n: usize) -> usize
+    ensures { λ r. ⌜ r ≡ min n 128 ⌝ }
+{
+    if MOST < n {
+        return MOST;
+    }
+    n
+}
+
+// Each vertex's predecessor, or NOBODY, after every vertex, from 0 up, has asked for a successor; of more than 128 the first 128.
+pub fn matched(table: &[u64], n: usize) -> [u8; 128]
+    ensures { λ r. ⌜ (r ≡ matching (leadsIn (now (table .entry))) (min n 128)) × (length r ≡ 128) ⌝ }
+{
+    let most = capped(n);
+    let mut predecessor = [NOBODY; 128];
+    let mut h: u8 = 0;
+    while wide(h) < most {
+        let mut visited = [0u64; 2];
+        augment(table, most, h, &mut predecessor, &mut visited);
+        h += 1;
+    }
+    predecessor
+}
