@@ -123,9 +123,11 @@ module _ (low high : ℕ) (visited : List ℕ) (fit : (i : ℕ) → getD visited
   open-none e z = found-next 128 (first-none x y e z)
 
 -- the row of h, whose first mask the code has as the double of w
-pub code-row : (table : List ℕ) (h w a b : ℕ) → w ≡ h → a ≡ getD table (2 * w + 0) 0 → b ≡ getD table (2 * w + 1) 0
+pub code-row : (table : List ℕ) (h w a b : ℕ) → w ≡ h → a ≡ getD table (2 * w) 0 → b ≡ getD table (2 * w + 1) 0
     → Row 2 table h (a ∷ b ∷ [])
-code-row table h w a b e p q = pair-row table h a b (p ∙ ap (λ (x : ℕ). getD table (2 * x + 0) 0) e)
+code-row table h w a b e p q =
+    pair-row table h a b
+    (p ∙ ap (λ (x : ℕ). getD table x 0) (let k : 2 * w ≡ 2 * h + 0 = omega arith in k))
     (q ∙ ap (λ (x : ℕ). getD table (2 * x + 1) 0) e)
 
 -- ---- a vertex is put into a set of two masks

@@ -4,7 +4,7 @@ ghost use mathlib.Core.Path.{_≡_};
 ghost use mathlib.Core.Bool.{Bool};
 ghost use mathlib.Core.List.{[], _∷_};
 ghost use Prim.Native.Nat.{_≤_, _<_, min};
-ghost use lib.ListN.{length};
+ghost use lib.ListN.{length, getD};
 ghost use Rattle.masks.specs.Sets.{inserted};
 ghost use Rattle.matching.specs.Search.{matching};
 ghost use Rattle.search.specs.Table.{leadsIn};
@@ -20,6 +20,16 @@ fn wide(x: u8) -> usize
     ensures { λ r. ⌜ (r ≡ x) × (r < 256) ⌝ }
 {
     x as usize
+}
+
+// Mask i of a table, 0 past its end.
+fn mask_of(table: &[u64], i: usize) -> u64
+    ensures { λ r. ⌜ r ≡ getD (now (table .entry)) i 0 ⌝ }
+{
+    if i < table.len() {
+        return table[i];
+    }
+    0
 }
 
 // Puts v into the set of the visited vertices.
@@ -56,8 +66,8 @@ fn next_open<'a>(table: &'a [u64], h: u8, visited: &'a [u64]) -> usize
     ensures { λ r. ⌜ NextOpen (now (table .entry)) h (now (visited .entry)) 0 r ⌝ }
 {
     let row = 2 * wide(h);
-    let low = masks::mask_at(table, row, 0);
-    let high = masks::mask_at(table, row, 1);
+    let low = mask_of(table, row);
+    let high = mask_of(table, row + 1);
     first_open(low, high, visited)
 }
 
@@ -69,8 +79,8 @@ fn augment(table: &[u64], n: usize, h: u8, predecessor: &mut [u8], visited: &mut
     ensures { λ r. ⌜ Augments (leadsIn (now (table .entry))) n h (state (now (predecessor .entry)) (now (visited .entry)) Bool.false) (state (now (predecessor .exit)) (now (visited .exit)) r) ⌝ }
 {
     let row = 2 * wide(h);
-    let low = masks::mask_at(table, row, 0);
-    let high = masks::mask_at(table, row, 1);
+    let low = mask_of(table, row);
+    let high = mask_of(table, row + 1);
     let mut v = first_open(low, high, visited);
     while v < n {
         visit(visited, v);

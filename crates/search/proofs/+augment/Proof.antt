@@ -21,7 +21,7 @@ use Rattle.search.proofs.first_open.Reads as first-open-reads
 use Rattle.search.proofs.next_open.Reads as next-open-reads
 use Rattle.search.proofs.visit.Reads as visit-reads
 use Rattle.search.proofs.wide.Reads as wide-reads
-use Rattle.masks.proofs.mask_at.Reads as mask-at-reads
+use Rattle.search.proofs.mask_of.Reads as mask-of-reads
 use Rattle.search.proofs.+augment.{statement}
 use Rattle.search.proofs.+augment.Tie.{close}
 
@@ -39,8 +39,8 @@ abbrev calls : ℕ → augment-lts.Claims
 calls t = (
   wide-reads.Asked,
   wide-reads.Learnt,
-  mask-at-reads.Asked,
-  mask-at-reads.Learnt,
+  mask-of-reads.Asked,
+  mask-of-reads.Learnt,
   first-open-reads.Asked,
   first-open-reads.Learnt,
   visit-reads.Asked,
@@ -63,11 +63,14 @@ augment-wide-requires t c κs = search needs
 augment-mul-row : (t : ℕ) → augment-lts.Need-mul-row (calls t) (augment-at t) augment.Post augment-Inv-loop augment-μ-loop
 augment-mul-row t c = search needs
 
-augment-mask-at-requires : (t : ℕ) → augment-lts.Need-mask-at-requires (calls t) (augment-at t) augment.Post augment-Inv-loop augment-μ-loop
-augment-mask-at-requires t c κs = search needs
+augment-mask-of-requires : (t : ℕ) → augment-lts.Need-mask-of-requires (calls t) (augment-at t) augment.Post augment-Inv-loop augment-μ-loop
+augment-mask-of-requires t c κs = search needs
 
-augment-mask-at-requires-2 : (t : ℕ) → augment-lts.Need-mask-at-requires-2 (calls t) (augment-at t) augment.Post augment-Inv-loop augment-μ-loop
-augment-mask-at-requires-2 t c κs = search needs
+augment-add-mask-of : (t : ℕ) → augment-lts.Need-add-mask-of (calls t) (augment-at t) augment.Post augment-Inv-loop augment-μ-loop
+augment-add-mask-of t c = search needs
+
+augment-mask-of-requires-2 : (t : ℕ) → augment-lts.Need-mask-of-requires-2 (calls t) (augment-at t) augment.Post augment-Inv-loop augment-μ-loop
+augment-mask-of-requires-2 t c κs = search needs
 
 augment-first-open-requires : (t : ℕ) → augment-lts.Need-first-open-requires (calls t) (augment-at t) augment.Post augment-Inv-loop augment-μ-loop
 augment-first-open-requires t c κs = c .before .before .before .before .before .before .before .pre .1 .2
@@ -77,7 +80,7 @@ augment-loop-holds t c =
     let m2 = c .before .before in
     let m1 = m2 .before in
     let w = m1 .before in
-    let o = code-row _ _ _ _ _ (w .wide .ensures .0) (m1 .mask-at .ensures) (m2 .mask-at2 .ensures) in
+    let o = code-row _ _ _ _ _ (w .wide .ensures .0) (m1 .mask-of .ensures) (m2 .mask-of2 .ensures) in
     (o, going-start _ _ _ _ _ _ (omega arith) (omega arith) (omega arith) (row-open _ _ _ _ _ _ _ o (c .first-open .ensures)))
 
 augment-visit-requires : (t : ℕ) → augment-lts.Need-visit-requires (calls t) (augment-at t) augment.Post augment-Inv-loop augment-μ-loop
@@ -225,8 +228,9 @@ pub +augment-spec : {M : Type 1} → statement M
     augment-μ-loop
     (augment-wide-requires t)
     (augment-mul-row t)
-    (augment-mask-at-requires t)
-    (augment-mask-at-requires-2 t)
+    (augment-mask-of-requires t)
+    (augment-add-mask-of t)
+    (augment-mask-of-requires-2 t)
     (augment-first-open-requires t)
     (augment-loop-holds t)
     (augment-visit-requires t)

@@ -10,11 +10,14 @@ wide-requires c κs = search needs
 mul-row : tie.Need-mul-row
 mul-row c = search needs
 
-mask-at-requires : tie.Need-mask-at-requires
-mask-at-requires c κs = search needs
+mask-of-requires : tie.Need-mask-of-requires
+mask-of-requires c κs = search needs
 
-mask-at-requires-2 : tie.Need-mask-at-requires-2
-mask-at-requires-2 c κs = search needs
+add-mask-of : tie.Need-add-mask-of
+add-mask-of c = search needs
+
+mask-of-requires-2 : tie.Need-mask-of-requires-2
+mask-of-requires-2 c κs = search needs
 
 first-open-requires : tie.Need-first-open-requires
 first-open-requires c κs = search needs
@@ -26,7 +29,7 @@ returns c =
     let w = m1 .before in
     let start = w .before .before .before in
     row-open (start .args .table .now) (start .args .visited .now) (start .args .h) _ _ _ _
-    (code-row _ _ _ _ _ (w .wide .ensures .0) (m1 .mask-at .ensures) (m2 .mask-at2 .ensures)) (c .first-open .ensures)
+    (code-row _ _ _ _ _ (w .wide .ensures .0) (m1 .mask-of .ensures) (m2 .mask-of2 .ensures)) (c .first-open .ensures)
 
 pub next-open-spec : {M : Type 1} → statement M
 next-open-spec =
@@ -34,7 +37,8 @@ next-open-spec =
     (tie.spec
     wide-requires
     mul-row
-    mask-at-requires
-    mask-at-requires-2
+    mask-of-requires
+    add-mask-of
+    mask-of-requires-2
     first-open-requires
     returns)
