@@ -1,11 +1,12 @@
 -- The tables of given channels, laid byte by byte in the walk that checks them. Assumes nothing.
-use mathlib.Core.Path.{_≡_, sym, _∙_}
+use mathlib.Core.Path.{_≡_, sym, ap, _∙_}
 use mathlib.Core.Logic.{_≢_}
 use mathlib.Core.Bool.{Bool, false}
 use mathlib.Core.List.{List, []}
 use Prim.Native.Nat.{ℕ, _+_, _-_, _≤_, _<_}
 use native.Mathlib.Omega.{arith}
 use lib.ListN.{length, getD}
+use Rattle.matching.proofs.Lists.{length-bound}
 use Rattle.channels.specs.Given.{verticesOf, unknown?, repeats?}
 use Rattle.planning.specs.Arranged.{Arranged}
 use Rattle.planning.specs.Laid.{tables}
@@ -14,33 +15,33 @@ use Rattle.channels.specs.Promise.{givenRefusal}
 use Rattle.channels.specs.Walked.{settled, Walks}
 use Rattle.planning.specs.declared.Channels.{Channels}
 use Rattle.channels.specs.declared.Walked.{Walked}
-use Rattle.channels.proofs.Checks.{unknown-wider}
-use Rattle.channels.proofs.Laying.{placed-room}
-use Rattle.channels.proofs.Reading.{Reading, reading-none, reading-length, reading-next, reading-more, reading-all}
+use Rattle.channels.proofs.Fields.{left, left-vertex}
+use Rattle.channels.proofs.Checks.{unknown-wider, unknown-within, repeats-once}
+use Rattle.channels.proofs.Reading.{Reading, reading-none, reading-length, reading-more, reading-all}
 use Rattle.channels.proofs.Theorems.{given-passed}
 use Rattle.channels.proofs.Walking.{settled-all}
 
 module _ (n : ℕ) (field : List ℕ) where
-  -- the lines before byte i are laid, if they pass; of the present line p vertices are laid, and k are left
-  pub record Tabling (i k p : ℕ) (r : Channels) : Type 0 where
-    pub sizes : (length (r .channel) ≡ 128) × (length (r .position) ≡ 128) × (length (r .order) ≡ 128) × (length (r .starts) ≡ 128)
-    pub place : p ≤ r .vertices
-    pub lines : r .count ≤ r .vertices
-    pub some : 0 < r .vertices → 0 < r .count
+  -- the lines before byte i are laid, if they pass, so many vertices in all; of the present line p vertices are laid, and k are left
+  pub record Tabling (i k p vertices : ℕ) (r : Channels) : Type 0 where
+    pub sizes : (length (r .channel) ≡ 128) × (length (r .position) ≡ 128)
+    pub place : p ≤ vertices
+    pub lines : r .count ≤ vertices
+    pub some : 0 < vertices → 0 < r .count
     pub laid : repeats? (verticesOf field) ≡ false → unknown? 128 (verticesOf field) ≡ false → Reading field i k p r
 
-  pub tabling-none : (channel position order starts : List ℕ) → Arranged [] (tables 0 0 channel position order starts)
-      → Tabling 0 0 0 (tables 0 0 channel position order starts)
-  tabling-none channel position order starts a = record {
-    sizes = (a .sizes .2, a .sizes .3, a .sizes .0, a .sizes .1);
+  pub tabling-none : (channel position : List ℕ) → Arranged [] (tables 0 channel position) → Tabling 0 0 0 0 (tables 0 channel position)
+  tabling-none channel position a = record {
+    sizes = a .sizes;
     place = omega arith;
     lines = omega arith;
     some = λ l. l;
-    laid = λ once few. reading-none field (tables 0 0 channel position order starts) a;
+    laid = λ once few. reading-none field (tables 0 channel position) a;
   }
 
-  module _ (i : ℕ) (h : i < length field) (k p : ℕ) (r : Channels) (f : Tabling i k p r) (x : ℕ) (ex : x ≡ getD field i 0) where
-    pub tabling-length : k ≡ 0 → Tabling (i + 1) x 0 r
+  module _ (i : ℕ) (h : i < length field) (k p vertices : ℕ) (r : Channels) (f : Tabling i k p vertices r)
+      (x : ℕ) (ex : x ≡ getD field i 0) where
+    pub tabling-length : k ≡ 0 → Tabling (i + 1) x 0 vertices r
     tabling-length e = record {
       sizes = f .sizes;
       place = omega arith;
@@ -49,36 +50,42 @@ module _ (n : ℕ) (field : List ℕ) where
       laid = λ once few. reading-length field once few i h k p r (f .laid once few) e x ex;
     }
 
-    pub tabling-more : k ≢ 0 → (s : Channels) → s .vertices ≡ r .vertices + 1
-        → (length (s .channel) ≡ 128) × (length (s .position) ≡ 128) × (length (s .order) ≡ 128) × (length (s .starts) ≡ 128)
-        → Lays p x r s → Tabling (i + 1) (k - 1) (p + 1) s
-    tabling-more d s total long l = record {
-      sizes = long;
-      place = let q = f .place in omega arith;
-      lines = let q = l .few in omega arith;
-      some = λ _. l .some;
-      laid = λ once few.
-          let o = f .laid once few in
-          let room = placed-room (o .ls) (o .l) x r (reading-next field once few i h k p r o d x ex) (o .arranged) in
-          reading-more field once few i h k p r o d x ex s (l .placed room);
-    }
+    module _ (counted : length (verticesOf field) ≡ vertices + length (left field i k)) (d : k ≢ 0) where
+      -- vertices that pass have room
+      room : repeats? (verticesOf field) ≡ false → unknown? 128 (verticesOf field) ≡ false → vertices < 128
+      room once few = omega (
+        arith,
+        length-bound 128 (verticesOf field) (unknown-within 128 (verticesOf field) few) (λ v m. repeats-once (verticesOf field) once v),
+        counted,
+        ap length (left-vertex field i h k d),
+      )
+
+      pub tabling-more : (s : Channels) → (length (s .channel) ≡ 128) × (length (s .position) ≡ 128) → Lays vertices p x r s
+          → Tabling (i + 1) (k - 1) (p + 1) (vertices + 1) s
+      tabling-more s long l = record {
+        sizes = long;
+        place = let q = f .place in omega arith;
+        lines = l .few;
+        some = λ _. l .some;
+        laid = λ once few. reading-more field once few i h k p r (f .laid once few) d x ex s (l .placed (room once few));
+      }
 
   -- ---- the end
 
-  pub walks-refused : (leads : ℕ → ℕ → Bool) (channel position order starts : List ℕ) (r : Walked) → r .refusal ≡ 3
-      → givenRefusal leads n field ≡ 3 → Walks leads n field channel position order starts r
-  walks-refused leads channel position order starts r e w =
+  pub walks-refused : (leads : ℕ → ℕ → Bool) (channel position : List ℕ) (r : Walked) → r .refusal ≡ 3
+      → givenRefusal leads n field ≡ 3 → Walks leads n field channel position r
+  walks-refused leads channel position r e w =
       let never : r .refusal ≡ 0 → ⊥ = λ z. omega arith in
       record { answer = e ∙ sym w; laid = λ z. absurd (never z); few = λ z. absurd (never z) }
 
-  pub walks-all : n ≤ 128 → (leads : ℕ → ℕ → Bool) (channel position order starts : List ℕ) (r : Walked) (i k p fault : ℕ)
-      → r .refusal ≡ settled fault (r .vertices) n → settled fault (r .vertices) n ≡ givenRefusal leads n field → length field ≤ i
-      → Tabling i k p (tables (r .count) (r .vertices) channel position order starts) → Walks leads n field channel position order starts r
-  walks-all small leads channel position order starts r i k p fault e w h f = record {
+  pub walks-all : n ≤ 128 → (leads : ℕ → ℕ → Bool) (channel position : List ℕ) (r : Walked) (i k p vertices fault : ℕ)
+      → r .refusal ≡ settled fault vertices n → settled fault vertices n ≡ givenRefusal leads n field → length field ≤ i
+      → Tabling i k p vertices (tables (r .count) channel position) → Walks leads n field channel position r
+  walks-all small leads channel position r i k p vertices fault e w h f = record {
     answer = e ∙ w;
     laid = λ z.
         let q = given-passed leads n field (sym (e ∙ w) ∙ z) in
-        reading-all field i k p (tables (r .count) (r .vertices) channel position order starts)
+        reading-all field i k p (tables (r .count) channel position)
         (f .laid (q .once) (unknown-wider n 128 (verticesOf field) small (q .known))) h;
-    few = λ z. let v = settled-all fault (r .vertices) n (sym e ∙ z) in (omega (arith, f .lines), omega arith);
+    few = λ z. omega (arith, f .lines, settled-all fault vertices n (sym e ∙ z));
   }

@@ -1,21 +1,18 @@
 -- What the channels that the calls hand over are: a division into channels, in which each vertex leads to the next, and planned ones the
 -- least of all. Here the theorems stand of the struct that `plan` and `given` return. Assumes nothing.
-use mathlib.Core.Path.{_≡_, refl, sym, ap, ap₂, _∙_, subst}
+use mathlib.Core.Path.{_≡_, refl, sym, ap, _∙_, subst}
 use mathlib.Core.Bool.{Bool, true, false, true≢false, _||_}
-use mathlib.Core.List.{List, [], flatten}
-use Prim.Native.Nat.{ℕ, suc, _+_, _≤_}
+use mathlib.Core.List.{List, []}
+use Prim.Native.Nat.{ℕ, suc, _≤_}
 use native.Mathlib.Omega.{arith}
 use lib.Dec.{eqb, ltb}
-use lib.ListN.{length, getD}
+use lib.ListN.{length}
 use borrow.Author.Tests.{eq-eqb, ltb-false}
 use Rattle.counting.specs.Count.{choose}
-use Rattle.counting.proofs.Sums.{sum-ext}
-use Rattle.counting.proofs.Classes.{sum-one}
-use Rattle.matching.specs.Lists.{times, channelOf, positionOf, startsFrom}
+use Rattle.matching.specs.Lists.{channelOf, positionOf}
 use Rattle.matching.specs.Chains.{planned}
 use Rattle.matching.specs.Division.{Order, Division, Covers, Channelled}
-use Rattle.matching.proofs.Lists.{length-times}
-use Rattle.matching.proofs.Ordered.{channelled, standing}
+use Rattle.matching.proofs.Ordered.{channelled}
 use Rattle.matching.proofs.Planned.{planned-least, planned-covers}
 use Rattle.search.specs.Table.{leadsIn}
 use Rattle.channels.specs.Given.{linesOf, verticesOf, unknown?, repeats?, lacks?, broken?}
@@ -84,21 +81,14 @@ module _ (leads : ℕ → ℕ → Bool) (n : ℕ) (o : Order leads n) (ls : List
       let ch : (v : ℕ) → channel r v ≡ channelOf ls v = a .channel in
       let po : (v : ℕ) → position r v ≡ positionOf ls v = a .position in
       record {
-        channelled = record {
-          division = record {
-            below = λ v l. omega (arith, s .division .below v l, ch v, a .counted);
-            related = λ u v l m d e. s .division .related u v l m d (sym (ch u) ∙ e ∙ ch v);
-          };
-          used = λ k h. let u = s .used k (omega (arith, a .counted)) in (u .0, u .1, ch (u .0) ∙ u .2);
-          next = λ u v l m e f. s .next u v l m (sym (ch u) ∙ e ∙ ch v) (sym (po v) ∙ f ∙ ap suc (po u));
-          later = λ u v l m e f. s .later u v l m (sym (ch u) ∙ e ∙ ch v) (omega (arith, po u, po v));
-          apart = λ u v l m e f. s .apart u v l m (sym (ch u) ∙ e ∙ ch v) (sym (po u) ∙ f ∙ po v);
+        division = record {
+          below = λ v l. omega (arith, s .division .below v l, ch v, a .counted);
+          related = λ u v l m d e. s .division .related u v l m d (sym (ch u) ∙ e ∙ ch v);
         };
-        all = a .total ∙ length-times n (flatten ls) (c .only) ∙ sum-ext n (λ v. times v (flatten ls)) (λ v. 1) (c .once) ∙ sum-one n;
-        standing = λ v l.
-            a .order (getD (r .starts) (channel r v) 0 + position r v)
-            ∙ ap₂ (λ (x y : ℕ). getD (flatten ls) (x + y) 0) (a .starts (channel r v) ∙ ap (λ x. getD (startsFrom 0 ls) x 0) (ch v)) (po v)
-            ∙ standing v ls (omega (arith, c .once v l));
+        used = λ k h. let u = s .used k (omega (arith, a .counted)) in (u .0, u .1, ch (u .0) ∙ u .2);
+        next = λ u v l m e f. s .next u v l m (sym (ch u) ∙ e ∙ ch v) (sym (po v) ∙ f ∙ ap suc (po u));
+        later = λ u v l m e f. s .later u v l m (sym (ch u) ∙ e ∙ ch v) (omega (arith, po u, po v));
+        apart = λ u v l m e f. s .apart u v l m (sym (ch u) ∙ e ∙ ch v) (sym (po u) ∙ f ∙ po v);
       }
 
 -- ---- the theorems

@@ -20,7 +20,7 @@ unfoldable pub settled : ℕ → ℕ → ℕ → ℕ
 settled fault vertices n = choose (eqb fault 6) (λ _. 6) (λ _. choose (eqb vertices n) (λ _. fault) (λ _. 6))
 
 -- the first check that fails, and the channels, at most n, where none does
-pub record Walks (leads : ℕ → ℕ → Bool) (n : ℕ) (field channel position order starts : List ℕ) (r : Walked) : Type 0 where
+pub record Walks (leads : ℕ → ℕ → Bool) (n : ℕ) (field channel position : List ℕ) (r : Walked) : Type 0 where
   pub answer : r .refusal ≡ givenRefusal leads n field
-  pub laid : r .refusal ≡ 0 → Arranged (linesOf field) (tables (r .count) (r .vertices) channel position order starts)
-  pub few : r .refusal ≡ 0 → (r .count ≤ n) × (r .vertices ≤ n)
+  pub laid : r .refusal ≡ 0 → Arranged (linesOf field) (tables (r .count) channel position)
+  pub few : r .refusal ≡ 0 → r .count ≤ n

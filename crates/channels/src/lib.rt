@@ -12,7 +12,7 @@ ghost use Rattle.search.specs.Table.{leadsIn};
 ghost use Rattle.planning.specs.Arranged.{Arranged};
 ghost use Rattle.planning.specs.Laid.{tables};
 ghost use Rattle.channels.specs.Given.{verticesOf, unknown?};
-ghost use Rattle.channels.specs.Laid.{Opens, Lays};
+ghost use Rattle.channels.specs.Laid.{openedAt, Lays};
 ghost use Rattle.channels.specs.Walked.{weighed, settled, Walks};
 ghost use Rattle.channels.specs.Promise.{Plans, Gives};
 use planning::Channels;
@@ -29,40 +29,36 @@ fn wide(x: u8) -> usize
 
 // ---- channels laid in lists
 
-// Opens a channel where the position is 0: it begins at place `at` of the order. The number of channels then.
-fn opened(starts: &mut [u8], count: usize, at: usize, p: usize) -> usize
-    requires { ⌜ (length (now starts) ≡ 128) × (count < 128) × (at < 128) × (p ≢ 0 → 0 < count) ⌝ }
-    ensures { λ r. ⌜ Opens p count at (now (starts .entry)) (now (starts .exit)) r × (0 < r) × (r ≤ count + 1) ⌝ }
+// The number of channels, with one more where the position is 0.
+fn opened(count: usize, p: usize) -> usize
+    requires { ⌜ (count < 128) × (p ≢ 0 → 0 < count) ⌝ }
+    ensures { λ r. ⌜ (r ≡ openedAt p count) × (0 < r) × (r ≤ count + 1) ⌝ }
 {
     if p != 0 {
         return count;
     }
-    starts[count] = at as u8;
     count + 1
 }
 
-// Lays v at a position of the last channel, and of a new one where the position is 0; nothing where 128 are laid. The number of channels
-// then.
-fn lay<'c, 'p, 'o, 's>(
+// Lays v at a position of the last channel, and of a new one where the position is 0, behind `laid` vertices; nothing where these are 128.
+// The number of channels then.
+fn lay<'c, 'p>(
     channel: &'c mut [u8],
     position: &'p mut [u8],
-    order: &'o mut [u8],
-    starts: &'s mut [u8],
     count: usize,
-    at: usize,
+    laid: usize,
     p: usize,
     v: usize,
 ) -> usize
-    requires { ⌜ (length (now channel) ≡ 128) × (length (now position) ≡ 128) × (length (now order) ≡ 128) × (length (now starts) ≡ 128) × (count ≤ at) × (p ≤ at) × (0 < at → 0 < count) × (v < 128) ⌝ }
-    ensures { λ r. ⌜ Lays p v (tables count at (now (channel .entry)) (now (position .entry)) (now (order .entry)) (now (starts .entry))) (tables r (at + 1) (now (channel .exit)) (now (position .exit)) (now (order .exit)) (now (starts .exit))) ⌝ }
+    requires { ⌜ (length (now channel) ≡ 128) × (length (now position) ≡ 128) × (count ≤ laid) × (p ≤ laid) × (0 < laid → 0 < count) × (v < 128) ⌝ }
+    ensures { λ r. ⌜ Lays laid p v (tables count (now (channel .entry)) (now (position .entry))) (tables r (now (channel .exit)) (now (position .exit))) ⌝ }
 {
-    if 128 <= at {
+    if 128 <= laid {
         return count;
     }
-    let c = opened(starts, count, at, p);
+    let c = opened(count, p);
     channel[v] = (c - 1) as u8;
     position[v] = p as u8;
-    order[at] = v as u8;
     c
 }
 
@@ -148,26 +144,23 @@ fn settle(fault: u8, vertices: usize, n: usize) -> u8
     fault
 }
 
-// Why given channels are refused, or 0, and how many channels and vertices are laid.
+// Why given channels are refused, or 0, and how many are laid.
 struct Walked {
     refusal: u8,
     count: usize,
-    vertices: usize,
 }
 
 // The checks of the field and the channels' tables, in one walk over its bytes. Where it answers 0 the tables are those of the channels;
 // else what they hold is not said.
-fn walk<'a, 'c, 'p, 'o, 's>(
+fn walk<'a, 'c, 'p>(
     n: usize,
     table: &'a [u64],
     field: &'a [u8],
     channel: &'c mut [u8],
     position: &'p mut [u8],
-    order: &'o mut [u8],
-    starts: &'s mut [u8],
 ) -> Walked
-    requires { ⌜ (n ≢ 0) × (n ≤ 128) × Arranged [] (tables 0 0 (now channel) (now position) (now order) (now starts)) ⌝ }
-    ensures { λ r. ⌜ Walks (leadsIn (now (table .entry))) n (now (field .entry)) (now (channel .exit)) (now (position .exit)) (now (order .exit)) (now (starts .exit)) r ⌝ }
+    requires { ⌜ (n ≢ 0) × (n ≤ 128) × Arranged [] (tables 0 (now channel) (now position)) ⌝ }
+    ensures { λ r. ⌜ Walks (leadsIn (now (table .entry))) n (now (field .entry)) (now (channel .exit)) (now (position .exit)) r ⌝ }
 {
     let mut seen = [0u64; 4];
     let mut fault: u8 = 0;
@@ -190,11 +183,10 @@ fn walk<'a, 'c, 'p, 'o, 's>(
                 return Walked {
                     refusal: 3,
                     count: 0,
-                    vertices: 0,
                 };
             }
             fault = weigh(table, &mut seen, last, v, fault);
-            count = lay(channel, position, order, starts, count, vertices, p, v);
+            count = lay(channel, position, count, vertices, p, v);
             last = v;
             vertices += 1;
             p += 1;
@@ -203,11 +195,7 @@ fn walk<'a, 'c, 'p, 'o, 's>(
         i = next;
     }
     let refusal = settle(fault, vertices, n);
-    Walked {
-        refusal,
-        count,
-        vertices,
-    }
+    Walked { refusal, count }
 }
 
 // The channels of the field, in its order, for n vertices and a table. Refused with 2 (no vertex, or more than 128), 3 (a vertex of n or
@@ -223,27 +211,14 @@ pub fn given<'a>(n: usize, table: &'a [u64], field: &'a [u8]) -> Channels
     }
     let mut channel = [0u8; 128];
     let mut position = [0u8; 128];
-    let mut order = [0u8; 128];
-    let mut starts = [0u8; 128];
-    let r = walk(
-        n,
-        table,
-        field,
-        &mut channel,
-        &mut position,
-        &mut order,
-        &mut starts,
-    );
+    let r = walk(n, table, field, &mut channel, &mut position);
     if r.refusal != 0 {
         return planning::empty(r.refusal);
     }
     Channels {
         refusal: 0,
         count: r.count as u8,
-        vertices: r.vertices as u8,
         channel,
         position,
-        order,
-        starts,
     }
 }

@@ -2,16 +2,15 @@
 use mathlib.Core.Path.{_≡_, refl, sym, ap, _∙_}
 use mathlib.Core.Logic.{_≢_, _⊎_, inl, inr, ⊎-elim}
 use mathlib.Core.Bool.{Bool, true, false, false≢true}
-use mathlib.Core.List.{List, [], _∷_, _++_, flatten}
+use mathlib.Core.List.{List, [], _∷_, flatten}
 use Prim.Native.Nat.{ℕ, zero, suc, _+_, _≤_, _<_}
 use native.Mathlib.Omega.{arith}
 use native.Mathlib.Nat.{not-suc-le-zero}
 use native.Mathlib.Decide.{ℕ-discrete, decLt}
-use lib.ListN.{length, getD, length-append, List·getD-append}
-use lib.Seq.{getD-append-add}
+use lib.ListN.{length}
 use borrow.Author.Tests.{eq-eqb, ne-eqb}
 use Rattle.counting.proofs.Truth.{and-elim, lt-or-le}
-use Rattle.matching.specs.Lists.{times, has, placeFrom, linked, channelFrom, channelOf, positionOf, startsFrom, every, full, allLinked}
+use Rattle.matching.specs.Lists.{times, has, placeFrom, linked, channelFrom, channelOf, positionOf, every, full, allLinked}
 use Rattle.matching.specs.Division.{Order, Covers, Channelled}
 use Rattle.matching.proofs.Lists.{Within, within-head, within-tail, within-has, times-other, times-none, times-append, has-true, has-false, times-here, times-has, times-hasnt}
 
@@ -222,51 +221,3 @@ module _ (leads : ℕ → ℕ → Bool) (n : ℕ) where
         go u v l m d e (yes p) q = absurd (d (apart u v l m e p))
         go u v l m d e (no p) (yes q) = inl (later u v l m e q)
         go u v l m d e (no p) (no q) = inr (later v u m l (sym e) (omega arith))
-
--- ---- the order, channel by channel, and where each channel begins in it
-
--- a vertex of a list stands at its place
-place-at : (p v : ℕ) (l : List ℕ) → 0 < times v l → (i : ℕ) × (placeFrom p l v ≡ p + i) × (i < length l) × (getD l i 0 ≡ v)
-place-at p v [] h = absurd (omega (arith, times-none v))
-place-at p v (x ∷ l) h = go (ℕ-discrete v x) (place-at (suc p) v l)
-  where
-    go : Dec (v ≡ x) → (0 < times v l → (i : ℕ) × (placeFrom (suc p) l v ≡ suc p + i) × (i < length l) × (getD l i 0 ≡ v))
-        → (i : ℕ) × (placeFrom p (x ∷ l) v ≡ p + i) × (i < suc (length l)) × (getD (x ∷ l) i 0 ≡ v)
-    go (yes q) ih = (0, ap (placeFrom p (x ∷ l)) q ∙ place-first p x l ∙ omega arith, omega arith, sym q)
-    go (no q) ih = let r = ih (omega (arith, times-other x v l q)) in (suc (r .0), place-later p x v l q ∙ r .1 ∙ omega arith, omega (arith, r .2), r .3)
-
--- a vertex stands in the order as many places after the beginning of its channel as its position says
-standing-from : (s c v : ℕ) (ls : List (List ℕ)) → 0 < times v (flatten ls)
-    → (k : ℕ) × (channelFrom c ls v ≡ c + k) × (i : ℕ) × (getD (startsFrom s ls) k 0 + positionOf ls v ≡ s + i) × (i < length (flatten ls)) × (getD (flatten ls) i 0 ≡ v)
-unfolding flatten startsFrom
-standing-from s c v [] h = absurd (omega (arith, times-none v))
-standing-from s c v (l ∷ ls) h = go (has v l) refl (standing-from (s + length l) (suc c) v ls)
-  where
-    go : (b : Bool) → has v l ≡ b
-        → (0 < times v (flatten ls) → (k : ℕ) × (channelFrom (suc c) ls v ≡ suc c + k) × (i : ℕ) × (getD (startsFrom (s + length l) ls) k 0 + positionOf ls v ≡ s + length l + i) × (i < length (flatten ls)) × (getD (flatten ls) i 0 ≡ v))
-        → (k : ℕ) × (channelFrom c (l ∷ ls) v ≡ c + k) × (i : ℕ) × (getD (startsFrom s (l ∷ ls)) k 0 + positionOf (l ∷ ls) v ≡ s + i) × (i < length (l ++ flatten ls)) × (getD (l ++ flatten ls) i 0 ≡ v)
-    go true e ih =
-        let r = place-at 0 v l (has-true v l e) in (
-          0,
-          channel-here c l ls v e ∙ omega arith,
-          r .0,
-          ap (λ x. s + x) (position-here l ls v e ∙ r .1) ∙ omega arith,
-          omega (arith, r .2, length-append l (flatten ls)),
-          List·getD-append l (flatten ls) 0 (r .0) (r .2) ∙ r .3,
-        )
-    go false e ih =
-        let r = ih (further v l ls e h) in (
-          suc (r .0),
-          channel-on c l ls v e ∙ r .1 ∙ omega arith,
-          length l + r .2,
-          omega (arith, position-on l ls v e, r .3),
-          omega (arith, r .4, length-append l (flatten ls)),
-          getD-append-add l (flatten ls) (r .2) 0 ∙ r .5,
-        )
-
-pub standing : (v : ℕ) (ls : List (List ℕ)) → 0 < times v (flatten ls) → getD (flatten ls) (getD (startsFrom 0 ls) (channelOf ls v) 0 + positionOf ls v) 0 ≡ v
-unfolding channelOf
-standing v ls h =
-    let r = standing-from 0 0 v ls h in
-    ap (λ x. getD (flatten ls) (getD (startsFrom 0 ls) x 0 + positionOf ls v) 0) (let e : channelFrom 0 ls v ≡ r .0 = omega (arith, r .1) in e)
-    ∙ ap (λ x. getD (flatten ls) x 0) (let e : getD (startsFrom 0 ls) (r .0) 0 + positionOf ls v ≡ r .2 = omega (arith, r .3) in e) ∙ r .5

@@ -9,7 +9,7 @@ use Rattle.masks.specs.Bits.{bit}
 use Rattle.masks.specs.Sets.{member, inserted}
 use Rattle.matching.specs.Search.{seen, candidate, predecessorOf, marked, taken, missed, scan, augment, asks, matching}
 use Rattle.matching.specs.Chains.{successorFrom, successor, chain, begins, begun, planned}
-use Rattle.matching.specs.Lists.{has, placeFrom, channelFrom, channelOf, positionOf, startsFrom}
+use Rattle.matching.specs.Lists.{has, placeFrom, channelFrom, channelOf, positionOf}
 
 -- the relation in which u leads to the vertices of the list at u
 unfoldable pub among : List ℕ → ℕ → Bool
@@ -60,10 +60,10 @@ pub record Worked : Type 0 where
   pub ascending : planned lower 5 ≡ (0 ∷ 4 ∷ []) ∷ (1 ∷ 2 ∷ []) ∷ (3 ∷ []) ∷ []
   pub single : planned all 4 ≡ (0 ∷ 1 ∷ 2 ∷ 3 ∷ []) ∷ []
   pub none : planned ring 2 ≡ []
-  pub places : (channelOf (planned p2 5) 3 ≡ 1) × (positionOf (planned p2 5) 4 ≡ 2) × (startsFrom 0 (planned p2 5) ≡ 0 ∷ 3 ∷ [])
+  pub places : (channelOf (planned p2 5) 3 ≡ 1) × (positionOf (planned p2 5) 4 ≡ 2)
 
 pub worked : Worked
-unfolding planned begun begins chain successor successorFrom matching asks augment scan candidate seen predecessorOf marked taken missed inserted member bit has channelFrom channelOf positionOf placeFrom startsFrom p2 keep arrows routes lower all ring related among
+unfolding planned begun begins chain successor successorFrom matching asks augment scan candidate seen predecessorOf marked taken missed inserted member bit has channelFrom channelOf positionOf placeFrom p2 keep arrows routes lower all ring related among
 worked = record {
   proof-table = refl;
   moved = refl;
@@ -72,5 +72,5 @@ worked = record {
   ascending = refl;
   single = refl;
   none = refl;
-  places = (refl, refl, refl);
+  places = (refl, refl);
 }

@@ -110,23 +110,22 @@ module _ (n : ℕ) (F : List ℕ) (a : ℕ) where
     pub arranged : Arranged (ls ++ (l ∷ [])) s
 
   -- where it fits there is room for it
-  fits-few : n ≤ 128 → a < n → (ls : List (List ℕ)) → Fits n ls mine → (length ls < 128) × (length (flatten ls) < 128)
-  fits-few small m ls fit =
-      let q : length (flatten ls) < n = omega (
-        arith,
-        length-bound n (flatten (ls ++ (mine ∷ []))) (fit .only) (λ v l. fit .once v),
-        ap length (flatten-snoc ls mine),
-        length-append (flatten ls) mine,
-        ap length (followed-more n F n a m),
-      ) in
-      (omega (arith, fit .full), omega arith)
+  fits-few : n ≤ 128 → a < n → (ls : List (List ℕ)) → Fits n ls mine → length ls < 128
+  fits-few small m ls fit = omega (
+    arith,
+    fit .full,
+    length-bound n (flatten (ls ++ (mine ∷ []))) (fit .only) (λ v l. fit .once v),
+    ap length (flatten-snoc ls mine),
+    length-append (flatten ls) mine,
+    ap length (followed-more n F n a m),
+  )
 
-  following-none : (ls : List (List ℕ)) (r : Channels) → Arranged ls r → length ls < 128 → Following ls (openedIn r) a 0
-  following-none ls r g h = record {
+  following-none : (ls : List (List ℕ)) (r : Channels) → Arranged ls r → Following ls (openedIn r) a 0
+  following-none ls r g = record {
     l = [];
     size = refl;
     rest = ap (λ k. followed n F k a) (let e : suc n ≡ suc n - 0 = omega arith in e);
-    arranged = arranged-opened ls r g h;
+    arranged = arranged-opened ls r g;
   }
 
   module _ (small : n ≤ 128) (m : a < n) (ls : List (List ℕ)) (fit : Fits n ls mine) (s : Channels) (w p : ℕ) (f : Following ls s w p) where
@@ -167,19 +166,13 @@ module _ (n : ℕ) (F : List ℕ) (a : ℕ) where
 
       next : Next ls (f .l) w
       next = record {
-        few = omega (arith, fit .full, lengths, ap length here);
-        room = omega (arith, lengths, ap length here);
         vertex = omega (arith, within-has n w (flatten (ls ++ (mine ∷ []))) (fit .only) (omega (arith, often)));
         new = omega (arith, often, fit .once w);
       }
 
       -- so its entries in the lists are there, and are bytes
-      pub following-asks : (s .vertices < 128) × (p < 128) × (w < 128)
-      following-asks = (
-        omega (arith, f .arranged .total, ap length (flatten-snoc ls (f .l)), length-append (flatten ls) (f .l), next .room),
-        omega (arith, f .size, next .room),
-        next .vertex,
-      )
+      pub following-asks : (p < 128) × (w < 128)
+      following-asks = (omega (arith, f .size, lengths, ap length here), next .vertex)
 
       following-more : (w′ : ℕ) → w′ ≡ getD F w 0 → Following ls (extendedBy p w s) w′ (p + 1)
       following-more w′ ew = record {
@@ -201,28 +194,26 @@ module _ (n : ℕ) (F : List ℕ) (a : ℕ) where
   pub record Follows (r s : Channels) (w p : ℕ) : Type 0 where
     pub each : (ls : List (List ℕ)) → Arranged ls r → Fits n ls mine → Following ls s w p
 
+  pub follows-none : (count : ℕ) (channel position : List ℕ)
+      → Follows (tables count channel position) (tables (count + 1) channel position) a 0
+  follows-none count channel position = record {
+    each = λ ls g t. subst (λ s. Following ls s a 0) (opens count channel position)
+        (following-none ls (tables count channel position) g);
+  }
+
   module _ (small : n ≤ 128) (m : a < n) where
-    pub ready-few : (r : Channels) → Ready n mine r → (r .count < 128) × (r .vertices < 128)
-    ready-few r x =
-        let q = fits-few small m (x .ls) (x .fits) in
-        (omega (arith, x .arranged .counted, q .0), omega (arith, x .arranged .total, q .1))
+    pub ready-few : (r : Channels) → Ready n mine r → r .count < 128
+    ready-few r x = omega (arith, x .arranged .counted, fits-few small m (x .ls) (x .fits))
 
-    pub follows-none : (count at : ℕ) (channel position order starts : List ℕ)
-        → Follows (tables count at channel position order starts) (tables (count + 1) at channel position order (set starts count at)) a 0
-    follows-none count at channel position order starts = record {
-      each = λ ls g t. subst (λ s. Following ls s a 0) (opens count at channel position order starts)
-          (following-none ls (tables count at channel position order starts) g (fits-few small m ls t .0));
-    }
-
-    module _ (r : Channels) (count at : ℕ) (channel position order starts : List ℕ) (w p : ℕ)
-        (f : Follows r (tables (count + 1) at channel position order starts) w p) where
+    module _ (r : Channels) (count : ℕ) (channel position : List ℕ) (w p : ℕ)
+        (f : Follows r (tables (count + 1) channel position) w p) where
       abbrev s : Channels
-      s = tables (count + 1) at channel position order starts
+      s = tables (count + 1) channel position
 
       pub follows-more : w < n → (w′ : ℕ) → w′ ≡ getD F w 0
-          → Follows r (tables (count + 1) (at + 1) (set channel w count) (set position w p) (set order at w) starts) w′ (p + 1)
+          → Follows r (tables (count + 1) (set channel w count) (set position w p)) w′ (p + 1)
       follows-more d w′ ew = record {
-        each = λ ls g t. subst (λ x. Following ls x w′ (p + 1)) (extends p w count at channel position order starts)
+        each = λ ls g t. subst (λ x. Following ls x w′ (p + 1)) (extends p w count channel position)
             (following-more small m ls t s w p (f .each ls g t) d w′ ew);
       }
 
@@ -289,10 +280,8 @@ module _ (n : ℕ) (P : List ℕ) where
 
   -- all are laid, and few enough for a byte
   module _ (small : n ≤ 128) (v : ℕ) (r : Channels) (g : Laid v r) where
-    pub laid-few : (r .count ≤ n) × (r .vertices ≤ n)
-    laid-few =
-        let q = begun-room n P small v (g .upto) in
-        (omega (arith, g .arranged .counted, g .full), omega (arith, g .arranged .total))
+    pub laid-few : r .count ≤ n
+    laid-few = omega (arith, g .arranged .counted, g .full, begun-room n P small v (g .upto))
 
     pub laid-all : n ≤ v → Arranged (begun n P n) r
     laid-all l = subst (λ x. Arranged (begun n P x) r) (let e : v ≡ n = omega (arith, g .upto) in e) (g .arranged)

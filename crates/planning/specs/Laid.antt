@@ -1,4 +1,4 @@
--- Channels in four lists, and one laid behind those that stand there already. Assumes nothing.
+-- Channels in two lists, and one laid behind those that stand there already. Assumes nothing.
 use mathlib.Core.Path.{_≡_}
 use mathlib.Core.List.{List, [], _∷_, _++_, flatten}
 use Prim.Native.Nat.{ℕ, zero, suc, _≤_, _<_}
@@ -11,16 +11,8 @@ use Rattle.planning.specs.Arranged.{Arranged}
 use Rattle.planning.specs.declared.Channels.{Channels}
 
 -- the lists as channels
-abbrev pub tables : ℕ → ℕ → List ℕ → List ℕ → List ℕ → List ℕ → Channels
-tables count vertices channel position order starts = record {
-  refusal = 0;
-  count = count;
-  vertices = vertices;
-  channel = channel;
-  position = position;
-  order = order;
-  starts = starts;
-}
+abbrev pub tables : ℕ → List ℕ → List ℕ → Channels
+tables count channel position = record { refusal = 0; count = count; channel = channel; position = position }
 
 -- r has each vertex's successor by the predecessors P
 pub record Successors (n : ℕ) (P r : List ℕ) : Type 0 where

@@ -1,7 +1,7 @@
 // Layer 2: channels as data, and planned channels (document 01: 'Lines'), laid by the predecessors that the search finds.
 ghost use mathlib.Core.Path.{_≡_};
 ghost use mathlib.Core.List.{[]};
-ghost use Prim.Native.Nat.{suc, _≤_, _<_, min};
+ghost use Prim.Native.Nat.{suc, _+_, _≤_, _<_, min};
 ghost use lib.ListN.{length};
 ghost use Rattle.matching.specs.Chains.{begun, planned};
 ghost use Rattle.search.specs.Table.{leadsIn};
@@ -13,15 +13,12 @@ const MOST: usize = 128;
 
 const NOBODY: u8 = 255;
 
-// The vertices channel by channel, where each channel begins among them, and each vertex's channel and position; 0 past the last.
+// How many channels there are, and each vertex's channel and position; 0 past the last vertex.
 pub struct Channels {
     pub refusal: u8,
     pub count: u8,
-    pub vertices: u8,
     pub channel: [u8; 128],
     pub position: [u8; 128],
-    pub order: [u8; 128],
-    pub starts: [u8; 128],
 }
 
 // A byte as a usize: asks nothing of the byte, where a cast of an element asks that it fits.
@@ -38,11 +35,8 @@ pub fn empty(refusal: u8) -> Channels
     Channels {
         refusal,
         count: 0,
-        vertices: 0,
         channel: [0; 128],
         position: [0; 128],
-        order: [0; 128],
-        starts: [0; 128],
     }
 }
 
@@ -64,43 +58,25 @@ fn successors(predecessor: &[u8], n: usize) -> [u8; 128]
     r
 }
 
-// How many channels and vertices are laid.
-struct Extent {
-    count: usize,
-    vertices: usize,
-}
-
-// Lays the channel that begins with v and goes on by the vertices' successors, while these are below n, behind those that are laid.
-fn with_chain<'c, 'p, 'o, 's>(
+// Lays the channel that begins with v and goes on by the vertices' successors, while these are below n, behind the `count` that are laid.
+fn with_chain<'c, 'p>(
     channel: &'c mut [u8],
     position: &'p mut [u8],
-    order: &'o mut [u8],
-    starts: &'s mut [u8],
     successor: &[u8],
     n: usize,
-    was: Extent,
+    count: usize,
     v: usize,
-) -> Extent
-    requires { ⌜ (n ≤ 128) × (length (now successor) ≡ 128) × (v < n) × Ready n (followed n (now successor) (suc n) v) (tables (was .count) (was .vertices) (now channel) (now position) (now order) (now starts)) ⌝ }
-    ensures { λ r. ⌜ Behind n (followed n (now (successor .entry)) (suc n) v) (tables (was .count) (was .vertices) (now (channel .entry)) (now (position .entry)) (now (order .entry)) (now (starts .entry))) (tables (r .count) (r .vertices) (now (channel .exit)) (now (position .exit)) (now (order .exit)) (now (starts .exit))) ⌝ }
+)
+    requires { ⌜ (n ≤ 128) × (length (now successor) ≡ 128) × (v < n) × Ready n (followed n (now successor) (suc n) v) (tables count (now channel) (now position)) ⌝ }
+    ensures { λ _. ⌜ Behind n (followed n (now (successor .entry)) (suc n) v) (tables count (now (channel .entry)) (now (position .entry))) (tables (count + 1) (now (channel .exit)) (now (position .exit))) ⌝ }
 {
-    let count = was.count;
-    let first = was.vertices;
-    let mut vertices = first;
     let mut p: usize = 0;
     let mut w = v;
     while w < n {
         channel[w] = count as u8;
         position[w] = p as u8;
-        order[vertices] = w as u8;
-        vertices += 1;
         p += 1;
         w = wide(successor[w]);
-    }
-    starts[count] = first as u8;
-    Extent {
-        count: count + 1,
-        vertices,
     }
 }
 
@@ -112,38 +88,22 @@ fn chains(predecessor: &[u8], n: usize) -> Channels
     let successor = successors(predecessor, n);
     let mut channel = [0u8; 128];
     let mut position = [0u8; 128];
-    let mut order = [0u8; 128];
-    let mut starts = [0u8; 128];
-    let mut s = Extent {
-        count: 0,
-        vertices: 0,
-    };
+    let mut count: usize = 0;
     let mut v: usize = 0;
     while v < n {
         let p = predecessor[v];
         let next = v + 1;
         if p == NOBODY {
-            s = with_chain(
-                &mut channel,
-                &mut position,
-                &mut order,
-                &mut starts,
-                &successor,
-                n,
-                s,
-                v,
-            );
+            with_chain(&mut channel, &mut position, &successor, n, count, v);
+            count += 1;
         }
         v = next;
     }
     Channels {
         refusal: 0,
-        count: s.count as u8,
-        vertices: s.vertices as u8,
+        count: count as u8,
         channel,
         position,
-        order,
-        starts,
     }
 }
 

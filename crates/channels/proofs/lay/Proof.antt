@@ -1,4 +1,4 @@
--- `channels::lay` meets its contract: its four stores are `placedAt`. Assumes nothing.
+-- `channels::lay` meets its contract: its stores are `placedAt`. Assumes nothing.
 use native.Mathlib.Omega.{arith}
 use Rattle.channels.proofs.Laying.{stores}
 use borrow.Author.Needs.{needs}
@@ -7,15 +7,16 @@ use Rattle.channels.proofs.lay.Tie as tie
 
 returns : tie.Need-returns
 returns c =
-    let st = c .before .before .before .before .before in
+    let st = c .before .before .before in
     let past = c .if1 .taken in
-    record { placed = λ l. absurd (omega arith); some = st .pre .6 (omega arith); few = let q = st .pre .4 in omega arith }
+    record { placed = λ l. absurd (omega arith); some = st .pre .4 (omega arith); few = let q = st .pre .2 in omega arith }
 
 opened-requires : tie.Need-opened-requires
 opened-requires c κs =
-    let st = c .before .before .before .before .before .before in
-    let room = c .before .if1 .left in
-    (st .pre .3, omega arith, room, λ d. st .pre .6 (let q = st .pre .5 in omega arith))
+    let st = c .before .before .before in
+    let room = c .if1 .left in
+    let few = st .pre .2 in
+    (omega arith, λ d. st .pre .4 (let q = st .pre .3 in omega arith))
 
 sub-channel : tie.Need-sub-channel
 sub-channel c = search needs
@@ -32,30 +33,18 @@ cast-position c = search needs
 slice-write-position : tie.Need-slice-write-position
 slice-write-position c = search needs
 
-cast-order : tie.Need-cast-order
-cast-order c = search needs
-
-slice-write-order : tie.Need-slice-write-order
-slice-write-order c = search needs
-
 same-length : tie.Need-same-length
 same-length c = search needs
 
 same-length-2 : tie.Need-same-length-2
 same-length-2 c = search needs
 
-same-length-3 : tie.Need-same-length-3
-same-length-3 c = search needs
-
-same-length-4 : tie.Need-same-length-4
-same-length-4 c = search needs
-
 returns-2 : tie.Need-returns-2
 returns-2 c =
-    let st = c .before .before .before .before .before .before .before .before .before in
-    let o = c .before .before .opened .ensures in
-    let z = st .pre .4 in
-    record { placed = λ _. stores _ _ _ _ _ _ _ _ _ _ (o .0); some = o .1; few = let q = o .2 in omega arith }
+    let st = c .before .before .before .before in
+    let o = c .opened .ensures in
+    let z = st .pre .2 in
+    record { placed = λ _. stores _ _ _ _ _ _ (o .0); some = o .1; few = let q = o .2 in omega arith }
 
 pub lay-spec : {M : Type 1} → statement M
 lay-spec =
@@ -68,10 +57,6 @@ lay-spec =
     slice-write-channel
     cast-position
     slice-write-position
-    cast-order
-    slice-write-order
     same-length
     same-length-2
-    same-length-3
-    same-length-4
     returns-2)

@@ -12,16 +12,18 @@ use Rattle.channels.proofs.walk.Statement.{statement}
 use Rattle.channels.proofs.walk.Tie as tie
 
 abbrev Inv-loop : tie.InvT-loop
-Inv-loop n table field channel₀ position₀ order₀ starts₀ seen₀ fault₀ count₀ vertices₀ p₀ last₀ left₀ i₀ channel position order starts seen fault count vertices p last left i =
+Inv-loop n table field channel₀ position₀ seen₀ fault₀ count₀ vertices₀ p₀ last₀ left₀ i₀
+    channel position seen fault count vertices p last left i =
     (i ≤ length field) × Walking (leadsIn table) n field i left last seen vertices fault
-    × Tabling n field i left p (tables count vertices channel position order starts)
+    × Tabling n field i left p vertices (tables count channel position)
 
 abbrev μ-loop : tie.MeasureT-loop
-μ-loop n table field channel₀ position₀ order₀ starts₀ seen₀ fault₀ count₀ vertices₀ p₀ last₀ left₀ i₀ channel position order starts seen fault count vertices p last left i = length field - i
+μ-loop n table field channel₀ position₀ seen₀ fault₀ count₀ vertices₀ p₀ last₀ left₀ i₀
+    channel position seen fault count vertices p last left i = length field - i
 
 loop-holds : tie.Need-loop-holds Inv-loop μ-loop
 loop-holds c =
-    (omega arith, walking-none _ _ _, tabling-none _ _ _ _ _ _ (c .before .before .before .before .before .before .pre .2))
+    (omega arith, walking-none _ _ _, tabling-none _ _ _ _ (c .before .before .before .before .pre .2))
 
 shared-slice-read-wide : tie.Need-shared-slice-read-wide Inv-loop μ-loop
 shared-slice-read-wide c = search needs
@@ -41,19 +43,13 @@ same-length c = search needs
 same-length-2 : tie.Need-same-length-2 Inv-loop μ-loop
 same-length-2 c = search needs
 
-same-length-3 : tie.Need-same-length-3 Inv-loop μ-loop
-same-length-3 c = search needs
-
-same-length-4 : tie.Need-same-length-4 Inv-loop μ-loop
-same-length-4 c = search needs
-
 returns : tie.Need-returns Inv-loop μ-loop
 returns c =
     let o = c .before .before .before .before .before in
-    let st = o .before .before .before .before .before .before .before in
+    let st = o .before .before .before .before .before in
     let l = o .loop in
     let here = c .before .before .before .before .loop-test .taken in
-    walks-refused _ _ _ _ _ _ _ _ refl
+    walks-refused _ _ _ _ _ _ refl
     (walked-unknown _ _ _ (l .i) here (l .left) (l .last) (l .seen) (l .vertices) (l .fault) (l .inv .1)
     _ (c .before .before .wide .ensures .0) (c .before .if1 .left) (st .pre .0) (st .pre .1) (c .if2 .taken))
 
@@ -65,11 +61,11 @@ weigh-requires c κs = search needs
 
 lay-requires : tie.Need-lay-requires Inv-loop μ-loop
 lay-requires c κs =
-    let o = c .before .before .before .before .before .before .before .before .before .before .before .before in
+    let o = c .before .before .before .before .before .before .before .before .before .before in
     let t = o .loop .inv .2 in
-    let v = c .before .before .before .before .before .before .before .if2 .left in
-    let small = o .before .before .before .before .before .before .before .pre .1 in
-    (t .sizes .0, t .sizes .1, t .sizes .2, t .sizes .3, t .lines, t .place, t .some, omega arith)
+    let v = c .before .before .before .before .before .if2 .left in
+    let small = o .before .before .before .before .before .pre .1 in
+    (t .sizes .0, t .sizes .1, t .lines, t .place, t .some, omega arith)
 
 add-vertices : tie.Need-add-vertices Inv-loop μ-loop
 add-vertices c = search needs
@@ -87,7 +83,7 @@ loop-again c =
     let byte = c .before .wide .ensures .0 in (
       omega arith,
       walking-length _ _ _ (l .i) here (l .left) (l .last) (l .seen) (l .vertices) (l .fault) (l .inv .1) _ byte (c .if1 .taken),
-      tabling-length _ _ (l .i) here (l .left) (l .p) _ (l .inv .2) _ byte (c .if1 .taken),
+      tabling-length _ _ (l .i) here (l .left) (l .p) (l .vertices) _ (l .inv .2) _ byte (c .if1 .taken),
     )
 
 loop-less-2 : tie.Need-loop-less-2 Inv-loop μ-loop
@@ -95,8 +91,8 @@ loop-less-2 c = search needs
 
 loop-again-2 : tie.Need-loop-again-2 Inv-loop μ-loop
 loop-again-2 c =
-    let t = c .before .before .before .before .before .before .before .before .lay in
-    let w = c .before .before .before .before .before .before .before .before .before .before .before .before .before .before in
+    let t = c .before .before .before .before .lay in
+    let w = c .before .before .before .before .before .before .before .before in
     let y = w .before .before in
     let d = y .before in
     let byte = d .before .wide .ensures in
@@ -106,32 +102,26 @@ loop-again-2 c =
       omega arith,
       walking-more _ _ _ (l .i) (h .loop-test .taken) (l .left) (l .last) (l .seen) (l .vertices) (l .fault) (l .inv .1)
           _ (byte .0) (d .if1 .left) (byte .1) _ (w .weigh .ensures .1) (y .if2 .left) (w .weigh .kept .1 .0 ∙ l .inv .1 .masks) _ (w .weigh .ensures .0),
-      tabling-more _ _ (l .i) (h .loop-test .taken) (l .left) (l .p) _ (l .inv .2) _ (byte .0) (d .if1 .left) _ refl
-          (t .kept .0 ∙ sizes .0, t .kept .1 .0 ∙ sizes .1, t .kept .1 .1 .0 ∙ sizes .2, t .kept .1 .1 .1 .0 ∙ sizes .3) (t .ensures),
+      tabling-more _ _ (l .i) (h .loop-test .taken) (l .left) (l .p) (l .vertices) _ (l .inv .2) _ (byte .0)
+          (l .inv .1 .counted) (d .if1 .left) _ (t .kept .0 ∙ sizes .0, t .kept .1 .0 ∙ sizes .1) (t .ensures),
     )
 
 settle-requires : tie.Need-settle-requires Inv-loop μ-loop
 settle-requires c κs = search needs
 
-same-length-5 : tie.Need-same-length-5 Inv-loop μ-loop
-same-length-5 c = search needs
+same-length-3 : tie.Need-same-length-3 Inv-loop μ-loop
+same-length-3 c = search needs
 
-same-length-6 : tie.Need-same-length-6 Inv-loop μ-loop
-same-length-6 c = search needs
-
-same-length-7 : tie.Need-same-length-7 Inv-loop μ-loop
-same-length-7 c = search needs
-
-same-length-8 : tie.Need-same-length-8 Inv-loop μ-loop
-same-length-8 c = search needs
+same-length-4 : tie.Need-same-length-4 Inv-loop μ-loop
+same-length-4 c = search needs
 
 returns-2 : tie.Need-returns-2 Inv-loop μ-loop
 returns-2 c =
     let o = c .before .before in
-    let st = o .before .before .before .before .before .before .before in
+    let st = o .before .before .before .before .before in
     let l = o .loop in
     let done = c .before .loop-test .left in
-    walks-all _ _ (st .pre .1) _ _ _ _ _ _ (l .i) (l .left) (l .p) (l .fault) (c .settle .ensures)
+    walks-all _ _ (st .pre .1) _ _ _ _ (l .i) (l .left) (l .p) (l .vertices) (l .fault) (c .settle .ensures)
     (walked-all _ _ _ (st .pre .0) (st .pre .1) (l .i) (l .left) (l .last) (l .seen) (l .vertices) (l .fault) (l .inv .1) done)
     done (l .inv .2)
 
@@ -148,8 +138,6 @@ walk-spec =
     sub-fewer
     same-length
     same-length-2
-    same-length-3
-    same-length-4
     returns
     slice-aggregate-weigh
     weigh-requires
@@ -161,8 +149,6 @@ walk-spec =
     loop-less-2
     loop-again-2
     settle-requires
-    same-length-5
-    same-length-6
-    same-length-7
-    same-length-8
+    same-length-3
+    same-length-4
     returns-2)

@@ -10,11 +10,11 @@ use Rattle.planning.proofs.chains.Statement.{statement}
 use Rattle.planning.proofs.chains.Tie as tie
 
 abbrev Inv-loop : tie.InvT-loop
-Inv-loop predecessor n successor channel₀ position₀ order₀ starts₀ s₀ v₀ channel position order starts s v =
-    Laid n predecessor v (tables (s .count) (s .vertices) channel position order starts)
+Inv-loop predecessor n successor channel₀ position₀ count₀ v₀ channel position count v =
+    Laid n predecessor v (tables count channel position)
 
 abbrev μ-loop : tie.MeasureT-loop
-μ-loop predecessor n successor channel₀ position₀ order₀ starts₀ s₀ v₀ channel position order starts s v = n - v
+μ-loop predecessor n successor channel₀ position₀ count₀ v₀ channel position count v = n - v
 
 successors-requires : tie.Need-successors-requires Inv-loop μ-loop
 successors-requires c κs = search needs
@@ -29,38 +29,39 @@ add-next : tie.Need-add-next Inv-loop μ-loop
 add-next c = search needs
 
 slice-aggregate-with-chain : tie.Need-slice-aggregate-with-chain Inv-loop μ-loop
-slice-aggregate-with-chain c = sym (c .before .before .before .before .loop .inv .arranged .sizes .2)
+slice-aggregate-with-chain c = sym (c .before .before .before .before .loop .inv .arranged .sizes .0)
 
 slice-aggregate-with-chain-2 : tie.Need-slice-aggregate-with-chain-2 Inv-loop μ-loop
-slice-aggregate-with-chain-2 c = sym (c .before .before .before .before .before .loop .inv .arranged .sizes .3)
+slice-aggregate-with-chain-2 c = sym (c .before .before .before .before .before .loop .inv .arranged .sizes .1)
 
 slice-aggregate-with-chain-3 : tie.Need-slice-aggregate-with-chain-3 Inv-loop μ-loop
-slice-aggregate-with-chain-3 c = sym (c .before .before .before .before .before .before .loop .inv .arranged .sizes .0)
-
-slice-aggregate-with-chain-4 : tie.Need-slice-aggregate-with-chain-4 Inv-loop μ-loop
-slice-aggregate-with-chain-4 c = sym (c .before .before .before .before .before .before .before .loop .inv .arranged .sizes .1)
-
-slice-aggregate-with-chain-5 : tie.Need-slice-aggregate-with-chain-5 Inv-loop μ-loop
-slice-aggregate-with-chain-5 c =
-    sym (c .before .before .before .before .before .before .before .before .before .successors .ensures .size)
+slice-aggregate-with-chain-3 c = sym (c .before .before .before .before .before .before .before .successors .ensures .size)
 
 with-chain-requires : tie.Need-with-chain-requires Inv-loop μ-loop
 with-chain-requires c κs =
-    let o = c .before .before .before .before .before .before .before .before in
+    let o = c .before .before .before .before .before .before in
     let f = o .before in
     let a = f .before .before in
-    let i = c .before .before .before .before .before in
+    let i = c .before .before .before in
     let l = i .before .before .loop-test .taken in
     let e = f .successors .ensures in
     (a .pre .0, e .size, l, laid-ready _ _ (a .pre .0) _ e _ _ (o .loop .inv) l (i .if1 .taken))
 
+add-count : tie.Need-add-count Inv-loop μ-loop
+add-count c =
+    let o = c .before .before .before .before .before .before .before .before .before in
+    let small = o .before .before .before .pre .0 in
+    omega (arith, laid-few _ _ small _ _ (o .loop .inv))
+
 loop-less : tie.Need-loop-less Inv-loop μ-loop
-loop-less c = let l = c .before .before .before .before .before .before .before .before .before .before .before .before .loop-test .taken in omega arith
+loop-less c =
+    let l = c .before .before .before .before .before .before .before .before .loop-test .taken in
+    omega arith
 
 loop-again : tie.Need-loop-again Inv-loop μ-loop
 loop-again c =
-    let w = c .before .before .before .before in
-    let i = w .before .before .before .before .before .before in
+    let w = c .before .before in
+    let i = w .before .before .before .before in
     let l = i .before .before in
     let o = l .before in
     let f = o .before in
@@ -77,22 +78,16 @@ loop-again-2 c =
     laid-pass _ _ (f .before .before .pre .0) _ (f .successors .ensures) _ _ (o .loop .inv)
     (c .before .before .loop-test .taken) (c .if1 .left)
 
-cast-t26 : tie.Need-cast-t26 Inv-loop μ-loop
-cast-t26 c =
-    let o = c .before .before in
+cast-t21 : tie.Need-cast-t21 Inv-loop μ-loop
+cast-t21 c =
+    let o = c .before in
     let small = o .before .before .before .pre .0 in
-    omega (arith, laid-few _ _ small _ _ (o .loop .inv) .0)
-
-cast-t27 : tie.Need-cast-t27 Inv-loop μ-loop
-cast-t27 c =
-    let o = c .before .before .before in
-    let small = o .before .before .before .pre .0 in
-    omega (arith, laid-few _ _ small _ _ (o .loop .inv) .1)
+    omega (arith, laid-few _ _ small _ _ (o .loop .inv))
 
 returns : tie.Need-returns Inv-loop μ-loop
 returns c =
-    let o = c .before .before .before in
-    (refl, laid-all _ _ (o .before .before .before .pre .0) _ _ (o .loop .inv) (c .before .before .loop-test .left))
+    let o = c .before in
+    (refl, laid-all _ _ (o .before .before .before .pre .0) _ _ (o .loop .inv) (c .loop-test .left))
 
 pub chains-spec : {M : Type 1} → statement M
 chains-spec =
@@ -107,13 +102,11 @@ chains-spec =
     slice-aggregate-with-chain
     slice-aggregate-with-chain-2
     slice-aggregate-with-chain-3
-    slice-aggregate-with-chain-4
-    slice-aggregate-with-chain-5
     with-chain-requires
+    add-count
     loop-less
     loop-again
     loop-less-2
     loop-again-2
-    cast-t26
-    cast-t27
+    cast-t21
     returns)
