@@ -8,3 +8,4 @@ pub mod Deciding
 pub mod Booleans
 pub mod Choosing
 pub mod Mapping
+pub mod Clearing

@@ -3,10 +3,10 @@ use mathlib.Core.Path.{_≡_, refl, sym, ap, _∙_}
 use mathlib.Core.Logic.{_≢_, _↔_}
 use mathlib.Core.Bool.{Bool, true, false, true≢false, _&&_}
 use mathlib.Core.List.{List}
-use Prim.Native.Nat.{ℕ, _/_, _<_}
+use Prim.Native.Nat.{ℕ, _+_, _*_, _/_, _<_, min}
 use native.Mathlib.Omega.{arith}
-use borrow.Author.Tests.{eq-eqb, eqb-true, ne-eqb}
-use lib.Dec.{eqb}
+use borrow.Author.Tests.{eq-eqb, ne-eqb, le-leb, leb-true}
+use lib.Dec.{eqb, leb}
 use lib.ListN.{length, replicate}
 use Rattle.counting.specs.Count.{choose}
 use Rattle.counting.proofs.Truth.{and-intro, and-elim}
@@ -27,20 +27,37 @@ use Rattle.descent.proofs.Graphs.{graph-inside, graph-cyclic, graph-row
 
 -- ---- the lengths
 
-sized-fits : (e b t l : List ℕ) → Sized e b t l → fits? (length e) (length b) (length t) (length l) ≡ true
-unfolding fits?
-sized-fits e b t l s =
-    and-intro (eqb (length e) 256) (eqb (length b) 258 && (eqb (length t) 256 && eqb (length l) 256)) (eq-eqb _ _ (s .edges))
-    (and-intro (eqb (length b) 258) (eqb (length t) 256 && eqb (length l) 256) (eq-eqb _ _ (s .below))
-    (and-intro (eqb (length t) 256) (eqb (length l) 256) (eq-eqb _ _ (s .table)) (eq-eqb _ _ (s .longer))))
+module _ (n : ℕ) (e b t l : List ℕ) where
+  abbrev edges? : Bool
+  edges? = leb (2 * min n 128) (length e)
 
-pub fits-sized : (e b t l : List ℕ) → fits? (length e) (length b) (length t) (length l) ≡ true → Sized e b t l
-unfolding fits?
-fits-sized e b t l f =
-    let p = and-elim (eqb (length e) 256) (eqb (length b) 258 && (eqb (length t) 256 && eqb (length l) 256)) f in
-    let q = and-elim (eqb (length b) 258) (eqb (length t) 256 && eqb (length l) 256) (p .1) in
-    let r = and-elim (eqb (length t) 256) (eqb (length l) 256) (q .1) in
-    record { edges = eqb-true _ _ (p .0); below = eqb-true _ _ (q .0); table = eqb-true _ _ (r .0); longer = eqb-true _ _ (r .1) }
+  abbrev below? : Bool
+  below? = leb (2 * min n 128 + 2) (length b)
+
+  abbrev table? : Bool
+  table? = leb (2 * min n 128) (length t)
+
+  abbrev longer? : Bool
+  longer? = leb (2 * min n 128) (length l)
+
+  sized-fits : Sized n e b t l → fits? n (length e) (length b) (length t) (length l) ≡ true
+  unfolding fits?
+  sized-fits s =
+      and-intro edges? (below? && (table? && longer?)) (le-leb _ _ (s .edges))
+      (and-intro below? (table? && longer?) (le-leb _ _ (s .below))
+      (and-intro table? longer? (le-leb _ _ (s .table)) (le-leb _ _ (s .longer))))
+
+  pub fits-sized : fits? n (length e) (length b) (length t) (length l) ≡ true → Sized n e b t l
+  unfolding fits?
+  fits-sized f =
+      let p = and-elim edges? (below? && (table? && longer?)) f in
+      let q = and-elim below? (table? && longer?) (p .1) in
+      let r = and-elim table? longer? (q .1) in
+      record { edges = leb-true _ _ (p .0); below = leb-true _ _ (q .0); table = leb-true _ _ (r .0); longer = leb-true _ _ (r .1) }
+
+-- the work lists are as long as they were
+abbrev pub Kept : (e b t l e′ b′ t′ l′ : List ℕ) → Type 0
+Kept e b t l e′ b′ t′ l′ = (length e′ ≡ length e) × (length b′ ≡ length b) × (length t′ ≡ length t) × (length l′ ≡ length l)
 
 -- ---- what is returned
 
@@ -51,18 +68,19 @@ module _ (n : ℕ) (ends e b t l : List ℕ) where
   abbrev heads : List ℕ
   heads = headsOf ends
 
-  pub descends-misfit : (r : Descent) → fits? (length e) (length b) (length t) (length l) ≡ false → r ≡ noDescent 8 → Descends n ends e b t l r e b t l
+  pub descends-misfit : (r : Descent) → fits? n (length e) (length b) (length t) (length l) ≡ false → r ≡ noDescent 8
+      → Descends n ends e b t l r e b t l
   descends-misfit r f q = record {
-    answer = λ s. absurd (true≢false (sym (sized-fits e b t l s) ∙ f));
+    answer = λ s. absurd (true≢false (sym (sized-fits n e b t l s) ∙ f));
     short = λ s. (ap (λ (x : Descent). x .refusal) q, refl, refl, refl, refl);
     none = λ ne. q ∙ ap noDescent (sym (ap (λ (x : Descent). x .refusal) q));
     made = λ z. absurd (let w : r .refusal ≡ 8 = ap (λ (x : Descent). x .refusal) q in omega arith);
     long = (refl, refl, refl, refl);
   }
 
-  module _ (sized : Sized e b t l) where
+  module _ (sized : Sized n e b t l) where
     -- refused with k
-    module _ (k : ℕ) (r : Descent) (q : r ≡ noDescent k) (e′ b′ t′ l′ : List ℕ) (long : Sized e′ b′ t′ l′) where
+    module _ (k : ℕ) (r : Descent) (q : r ≡ noDescent k) (e′ b′ t′ l′ : List ℕ) (long : Kept e b t l e′ b′ t′ l′) where
       refused : k ≢ 0 → edgesRefusal n tails heads ≡ k → Descends n ends e b t l r e′ b′ t′ l′
       refused ne a =
           let w : r .refusal ≡ k = ap (λ (x : Descent). x .refusal) q in
@@ -71,7 +89,7 @@ module _ (n : ℕ) (ends e b t l : List ℕ) where
             short = λ s. absurd (s sized);
             none = λ _. q ∙ ap noDescent (sym w);
             made = λ z. absurd (ne (sym w ∙ z));
-            long = (long .edges ∙ sym (sized .edges), long .below ∙ sym (sized .below), long .table ∙ sym (sized .table), long .longer ∙ sym (sized .longer));
+            long = long;
           }
 
       pub descends-outsized : outsized? n (length ends / 2) ≡ true → k ≡ 2 → Descends n ends e b t l r e′ b′ t′ l′
@@ -109,26 +127,28 @@ module _ (n : ℕ) (ends e b t l : List ℕ) where
             answer-cycle n tails heads outsized no-ends .0
             ∙ ap (λ (x : Bool). choose {A = ℕ} x (λ _. 5) (λ _. 0)) (graph-cyclic n tails heads e′ none-refused edge-bits top (replicate 128 0) rows b′ laid)
 
-        pub descends-cyclic : (r : Descent) (t′ l′ : List ℕ) → top ≡ 0 → r ≡ noDescent 5 → Sized e′ b′ t′ l′ → Descends n ends e b t l r e′ b′ t′ l′
+        pub descends-cyclic : (r : Descent) (t′ l′ : List ℕ) → top ≡ 0 → r ≡ noDescent 5 → Kept e b t l e′ b′ t′ l′
+            → Descends n ends e b t l r e′ b′ t′ l′
         descends-cyclic r t′ l′ z q long = refused 5 r q e′ b′ t′ l′ long (omega arith) (cyclic ∙ choose-yes (eqb top 0) _ _ (eq-eqb _ _ z))
 
         -- and no cycle
         module _ (t₀ l₀ t′ l′ counts : List ℕ) (some : top ≢ 0) (blank : Blank t₀) (blank′ : Blank l₀) (closed : Closed e′ n t₀ l₀ (replicate 128 0) t′ l′ counts) where
-          pub descends-made : Sized e′ b′ t′ l′ → length rows ≡ 128 → length counts ≡ 128
+          pub descends-made : Kept e b t l e′ b′ t′ l′ → length rows ≡ 128 → length counts ≡ 128
               → Descends n ends e b t l (record { refusal = 0; used = top; rows = rows; counts = counts }) e′ b′ t′ l′
           descends-made long lr lc = record {
             answer = λ s. sym (cyclic ∙ choose-no (eqb top 0) _ _ (ne-eqb _ _ some));
             short = λ s. absurd (s sized);
             none = λ ne. absurd (ne refl);
             made = λ z. record {
-              closure = graph-closure n tails heads e′ none-refused edge-bits t₀ l₀ (replicate 128 0) t′ l′ counts closed (blank .zero) (blank′ .zero) (zeros 128)
-                  (long .edges) (long .table) lc;
-              longer = graph-composed n tails heads e′ none-refused edge-bits t₀ l₀ (replicate 128 0) t′ l′ counts closed (blank .zero) (blank′ .zero) (zeros 128) (long .longer);
+              closure = graph-closure n tails heads e′ none-refused edge-bits t₀ l₀ (replicate 128 0) t′ l′ counts closed
+                  (blank .zero) (blank′ .zero) (zeros 128) lc;
+              longer = graph-composed n tails heads e′ none-refused edge-bits t₀ l₀ (replicate 128 0) t′ l′ counts closed
+                  (blank .zero) (blank′ .zero) (zeros 128);
               rows = graph-rows n tails heads e′ none-refused edge-bits top (replicate 128 0) rows b′ laid some;
               past = λ v h. laid .past v h ∙ zeros 128 v;
               used = graph-used n tails heads e′ none-refused edge-bits top (replicate 128 0) rows b′ laid some;
               below = graph-below n tails heads e′ none-refused edge-bits top (replicate 128 0) rows b′ laid some;
-              sizes = (lr, lc, long .below);
+              sizes = (lr, lc);
             };
-            long = (long .edges ∙ sym (sized .edges), long .below ∙ sym (sized .below), long .table ∙ sym (sized .table), long .longer ∙ sym (sized .longer));
+            long = long;
           }

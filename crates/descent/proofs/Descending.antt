@@ -17,8 +17,9 @@ use Rattle.masks.proofs.Pairing.{pair-lt, pair-or, pair-at, max-split, max-make
 use Rattle.reach.specs.Graph.{Reaches, Longer}
 use Rattle.reach.specs.Graph.Reaches.{one, more}
 use Rattle.reach.proofs.Routes.{reaches-trans}
-use Rattle.descent.specs.Members.{Pictured, Nested}
-use Rattle.descent.specs.Closed.{Arc, Reached, Finished, Same, Vertex}
+use Rattle.descent.specs.Members.{Long, Pictured, Nested}
+use Rattle.descent.specs.Closed.{Arc, Ample, Reached, Finished, Same, Vertex}
+use Rattle.descent.proofs.Gathering.{long-both}
 
 -- ---- two masks are stored for u
 
@@ -80,16 +81,22 @@ same-trans w t l c t′ l′ c′ t″ l″ c″ p q = record {
 
 -- ---- one vertex
 
--- the sets of u's successors hold the sets of those of them that they have
-pub nested-law : (e t : List ℕ) (u low high : ℕ) → u < 128 → low ≡ getD e (2 * u) 0 → high ≡ getD e (2 * u + 1) 0 → ((w : ℕ) → Arc e u w → Reached e t w) → Nested t low high
-nested-law e t u low high hu el eh right = record {
-  holds = λ x w v hx hw hv mx mw p q.
-      let rx = right x (arc x hx mx) in
-      rx v hv .1 (reaches-trans (rx w hw .0 p) (right w (arc w hw mw) v hv .0 q));
-}
-  where
-    arc : (w : ℕ) → w < 128 → inPair low high w ≡ 1 → Arc e u w
-    arc w hw m = (hu, hw, sym (ap₂ (λ (x y : ℕ). inPair x y w) el eh ∙ pair-at e u w hw) ∙ m)
+module _ (e t : List ℕ) (u low high : ℕ) (hu : u < 128) (el : low ≡ getD e (2 * u) 0) (eh : high ≡ getD e (2 * u + 1) 0) where
+  -- a member of u's two masks is a successor
+  arc : (w : ℕ) → w < 128 → inPair low high w ≡ 1 → Arc e u w
+  arc w hw m = (hu, hw, sym (ap₂ (λ (x y : ℕ). inPair x y w) el eh ∙ pair-at e u w hw) ∙ m)
+
+  -- the table has masks for u's successors
+  pub long-law : Ample e t → Long t low 0 × Long t high 64
+  long-law ample = long-both t low high (λ w hw m. ample .room u w (arc w hw m))
+
+  -- the sets of u's successors hold the sets of those of them that they have
+  pub nested-law : ((w : ℕ) → Arc e u w → Reached e t w) → Nested t low high
+  nested-law right = record {
+    holds = λ x w v hx hw hv mx mw p q.
+        let rx = right x (arc x hx mx) in
+        rx v hv .1 (reaches-trans (rx w hw .0 p) (right w (arc w hw mw) v hv .0 q));
+  }
 
 module _ (e t l c : List ℕ) (u low high p q : ℕ) (hu : u < 128) (el : low ≡ getD e (2 * u) 0) (eh : high ≡ getD e (2 * u + 1) 0)
     (m : Pictured t low high p q) (right : (w : ℕ) → Arc e u w → Reached e t w) where

@@ -2,11 +2,11 @@
 use mathlib.Core.Path.{_≡_, sym, ap, _∙_, subst}
 use mathlib.Core.Logic.{_≢_, _⊎_, inl, inr, ⊎-elim}
 use mathlib.Core.List.{List}
-use Prim.Native.Nat.{ℕ, _+_, _-_, _*_, _^_, _<_, max}
+use Prim.Native.Nat.{ℕ, _+_, _-_, _*_, _^_, _≤_, _<_, max}
 use native.Mathlib.Omega.{arith}
 use lib.Bits.{bitOr}
 use lib.Count.{trailingZeros}
-use lib.ListN.{getD}
+use lib.ListN.{length, getD}
 use Rattle.counting.proofs.Truth.{lt-or-le}
 use Rattle.masks.specs.Bits.{bit}
 use Rattle.masks.specs.Sets.{at}
@@ -15,7 +15,15 @@ use Rattle.masks.proofs.Tables.{at-lt}
 use Rattle.masks.proofs.Clearing.{clear}
 use Rattle.masks.proofs.Visiting.{Visited, visited-none, visited-all, visited-more, lowest-lt, lowest-in}
 use Rattle.masks.proofs.Pairing.{pair-lt, pair-low, pair-high, pair-zero, pair-or, pair-at, max-split, max-make}
-use Rattle.descent.specs.Members.{Gathered, Pictured}
+use Rattle.descent.specs.Members.{Long, Gathered, Pictured}
+
+-- a table that has masks for the members of a set has them for those of its two masks
+pub long-both : (t : List ℕ) (low high : ℕ) → ((v : ℕ) → v < 128 → inPair low high v ≡ 1 → 2 * v + 2 ≤ length t)
+    → Long t low 0 × Long t high 64
+long-both t low high h = (
+  record { room = λ j l e. let k = h j (omega arith) (pair-low low high j l ∙ e) in omega arith },
+  record { room = λ j l e. h (64 + j) (omega arith) (pair-high low high j l ∙ e) },
+)
 
 -- the set of a member is in the set a, b
 abbrev pub Held : List ℕ → ℕ → ℕ → ℕ → ℕ → Type 0

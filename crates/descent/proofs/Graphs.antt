@@ -138,13 +138,12 @@ module _ (n : ℕ) (tails heads e : List ℕ) (accepted : refusal n tails heads 
         (lt-or-le u n)
 
     -- the graph's reachability
-    pub graph-closure : length e ≡ 256 → length t′ ≡ 256 → length c′ ≡ 128 → Closure n tails heads (record { edges = e; table = t′; counts = c′ })
-    graph-closure le lt lc = record { edge-masks = le; edge-bits = edges; masks = lt; bits = graph-bits; vertices = lc; counted = graph-counts }
+    pub graph-closure : length c′ ≡ 128 → Closure n tails heads (record { edges = e; table = t′; counts = c′ })
+    graph-closure lc = record { edge-bits = edges; bits = graph-bits; vertices = lc; counted = graph-counts }
 
     -- the table followed by itself
-    pub graph-composed : length l′ ≡ 256 → Composed t′ l′
-    graph-composed ll = record {
-      masks = ll;
+    pub graph-composed : Composed t′ l′
+    graph-composed = record {
       bits = λ u v hu hv. (
         (λ i. let p = longer-between .0 (graph-longer u v hu hv .0 i) in
             let hw = ends (p .1) in

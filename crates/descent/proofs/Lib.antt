@@ -1,4 +1,3 @@
-pub mod Blanking
 pub mod Duplicates
 pub mod Scanning
 pub mod Gathering

@@ -5,7 +5,7 @@ use mathlib.Core.List.{List}
 use Prim.Native.Nat.{ℕ, _+_, _-_, _*_, _^_, _≤_, _<_}
 use native.Mathlib.Omega.{arith}
 use borrow.Author.Tests.{eq-eqb}
-use lib.ListN.{getD}
+use lib.ListN.{length, getD}
 use Rattle.counting.proofs.Truth.{lt-or-le, two-cases}
 use Rattle.masks.specs.Bits.{bit}
 use Rattle.masks.specs.Sets.{at}
@@ -18,9 +18,15 @@ use Rattle.reach.specs.Graph.Reaches.{one, more}
 use Rattle.layers.specs.Rows.{above, rowWithin, row}
 use Rattle.layers.proofs.Above.{above-each}
 use Rattle.layers.proofs.Depth.{settled}
-use Rattle.descent.specs.Closed.{Arc, edgeIn, Finished, Same, Row, Inside, Prefixes, Closed}
+use Rattle.descent.specs.Members.{Long}
+use Rattle.descent.specs.Closed.{Arc, Ample, edgeIn, Finished, Same, Row, Inside, Prefixes, Closed}
+use Rattle.descent.proofs.Gathering.{long-both}
 use Rattle.descent.proofs.Descending.{same-refl, same-trans}
 use Rattle.descent.proofs.Arcs.{reached-count}
+
+-- a table of 2 n masks has masks for every vertex that an edge enters
+pub inside-ample : (e t : List ℕ) (n : ℕ) → Inside e n → 2 * n ≤ length t → Ample e t
+inside-ample e t n inside h = record { room = λ u v a. let k = inside .head u v a in omega arith }
 
 -- rows rise along every edge, where they are below 128
 module _ (e : List ℕ) (n : ℕ) (inside : Inside e n) (low : (v : ℕ) → v < n → row (edgeIn e) n v < 128) where
@@ -50,7 +56,7 @@ module _ (e : List ℕ) (n top : ℕ) (below : List ℕ) (inside : Inside e n) (
   descended-none t l c = record { done = λ v h g. absurd (let k = pre .all v h in omega arith); others = λ v h. same-refl v t l c }
 
   rises : (u v : ℕ) → Arc e u v → row (edgeIn e) n u < row (edgeIn e) n v
-  rises = arc-rises e n inside (λ v h. let a = pre .all v h in let b = pre .few in omega arith)
+  rises = arc-rises e n inside (λ v h. let a = pre .all v h in let b = pre .few in let s = inside .small in omega arith)
 
   module _ (r p q p′ q′ : ℕ) (hr : r < top) (ep : p ≡ getD below (2 * r + 2) 0) (eq : q ≡ getD below (2 * r) 0) (ep′ : p′ ≡ getD below (2 * r + 3) 0) (eq′ : q′ ≡ getD below (2 * r + 1) 0)
       (fq : q < 2 ^ 64) (fq′ : q′ < 2 ^ 64) where
@@ -87,6 +93,10 @@ module _ (e : List ℕ) (n top : ℕ) (below : List ℕ) (inside : Inside e n) (
 
     high-row : (j : ℕ) → j < 64 → bit (without p′ q′) j ≡ 1 ↔ ((64 + j < n) × (row (edgeIn e) n (64 + j) ≡ r))
     high-row j h = ((λ i. of-row (64 + j) (omega arith) .0 (pair-high _ _ j h ∙ i)), λ i. sym (pair-high (without p q) _ j h) ∙ of-row (64 + j) (omega arith) .1 i)
+
+    -- a table of 2 n masks has masks for them
+    pub row-long : (t : List ℕ) → 2 * n ≤ length t → Long t (without p q) 0 × Long t (without p′ q′) 64
+    row-long t h = long-both t (without p q) (without p′ q′) (λ v hv i. let o = of-row v hv .0 i .0 in omega arith)
 
     module _ (t₀ l₀ c₀ t l c : List ℕ) (g : Descended e n (r + 1) t₀ l₀ c₀ t l c) where
       ready : (u w : ℕ) → row (edgeIn e) n u ≡ r → Arc e u w → Finished e t l c w

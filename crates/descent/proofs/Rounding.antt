@@ -11,7 +11,7 @@ use native.Mathlib.Omega.{arith}
 use borrow.Author.Tests.{eq-eqb, eqb-true}
 use lib.Bits.{bitOr, bitAnd, and-le-l, or-comm}
 use lib.Count.{trailingZeros}
-use lib.ListN.{getD}
+use lib.ListN.{length, getD}
 use Rattle.counting.specs.Count.{some}
 use Rattle.counting.proofs.Truth.{lt-or-le, two-cases, true-or-false}
 use Rattle.counting.proofs.Somes.{some-found, some-which}
@@ -27,8 +27,9 @@ use Rattle.layers.specs.Rows.{above, rowWithin, row, rowsUsed}
 use Rattle.layers.proofs.Above.{above-each, above-le, above-which}
 use Rattle.layers.proofs.Depth.{settled, shallow}
 use Rattle.layers.proofs.Compaction.{Order, rows-below}
-use Rattle.descent.specs.Members.{Below, Pictured, Written}
+use Rattle.descent.specs.Members.{Below, Long, Pictured, Written}
 use Rattle.descent.specs.Closed.{edgeIn, arc?, Inside, Laid}
+use Rattle.descent.proofs.Gathering.{long-both}
 use Rattle.descent.proofs.Descending.{Stored, stored-at, same-bits}
 use Rattle.descent.proofs.Arcs.{reached-decided}
 use Rattle.descent.proofs.Ranking.{no-cycle}
@@ -235,7 +236,7 @@ module _ (e : List ℕ) (n : ℕ) (small : n ≤ 128) (r low high first second p
     })
 
     -- none grows on: the rows are those of the rule
-    module _ (inside : Inside e n) (hr : r < 128) (z : bitOr a b ≡ 0) where
+    module _ (inside : Inside e n) (hr : r < n) (z : bitOr a b ≡ 0) where
       low-rows : (v : ℕ) → v < n → rowWithin (edgeIn e) n (suc r) v < suc r
       low-rows v h =
           let hv : v < 128 = omega arith in
@@ -271,6 +272,11 @@ module _ (e : List ℕ) (n : ℕ) (small : n ≤ 128) (r low high first second p
         };
         past = next-past;
       }
+
+-- the vertices that still grow have their masks in a table of 2 n
+pub round-long : (e : List ℕ) (n r low high : ℕ) (rows s below : List ℕ) → Round e n r low high rows s below → 2 * n ≤ length e
+    → Long e low 0 × Long e high 64
+round-long e n r low high rows s below o h = long-both e low high (λ v hv i. let g = o .growing v hv .0 i .0 in omega arith)
 
 -- after n rounds some still grow: a vertex reaches itself
 module _ (e : List ℕ) (n low high : ℕ) (rows s below : List ℕ) (inside : Inside e n) (o : Round e n n low high rows s below) where

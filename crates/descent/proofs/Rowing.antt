@@ -4,6 +4,7 @@ use mathlib.Core.Logic.{_≢_}
 use mathlib.Core.List.{List}
 use Prim.Native.Nat.{ℕ, _+_, _^_, _<_}
 use native.Mathlib.Decide.{ℕ-discrete}
+use native.Mathlib.Omega.{arith}
 use lib.Count.{trailingZeros}
 use lib.ListN.{length, getD, set}
 use lib.Seq.{getD-set-same, getD-set-other}
@@ -11,7 +12,7 @@ use Rattle.masks.specs.Bits.{bit}
 use Rattle.masks.proofs.Clearing.{clear}
 use Rattle.masks.proofs.Visiting.{Visited, visited-none, visited-all, visited-more, lowest-lt, lowest-in}
 use Rattle.descent.specs.Members.{Written}
-use Rattle.descent.specs.Closed.{Finished, Same, Vertex, Row}
+use Rattle.descent.specs.Closed.{Ample, Finished, Same, Vertex, Row}
 use Rattle.descent.proofs.Descending.{finished-same, same-refl, same-trans}
 
 -- v is no member of a mask that begins at vertex `base`
@@ -45,6 +46,10 @@ module _ (mask base r : ℕ) (rows : List ℕ) where
   writing-all s x g z = record { done = λ j h e. visited-all mask x (λ i. getD s (base + i) 0 ≡ r) (g .members) z j e; others = g .others }
 
 -- ---- the sets of each member
+
+-- a table as long has the same room
+pub ample-same : (e t t′ : List ℕ) → length t′ ≡ length t → Ample e t → Ample e t′
+ample-same e t t′ q a = record { room = λ u v arc. let k = a .room u v arc in omega arith }
 
 pub record Closing (e : List ℕ) (mask base : ℕ) (t l c t′ l′ c′ : List ℕ) (x : ℕ) : Type 0 where
   pub members : Visited mask x (λ j. Finished e t′ l′ c′ (base + j))

@@ -18,7 +18,6 @@ use Rattle.counting.proofs.Somes.{some-found, some-none}
 use Rattle.masks.specs.Bits.{bit}
 use Rattle.masks.specs.Sets.{at, member, member?, inserted}
 use Rattle.masks.proofs.Bits.{bit-of-zero}
-use Rattle.masks.proofs.Sets.{inserted-length}
 use Rattle.masks.proofs.Tables.{Put, put-law}
 use Rattle.reach.specs.Graph.{edgeCount, Edge}
 use Rattle.reach.specs.Refusal.{strange?}
@@ -46,7 +45,6 @@ module _ (n : ℕ) (ends : List ℕ) where
   -- ---- after i edges
 
   pub record Scanning (i : ℕ) (t : List ℕ) (double : ℕ) : Type 0 where
-    pub masks : length t ≡ 256
     pub marked : Marked 2 tails heads i t
     pub within : Within n i tails heads
     pub twice : double ≡ choose (duplicate? i tails heads) (λ _. 4) (λ _. 0)
@@ -54,7 +52,6 @@ module _ (n : ℕ) (ends : List ℕ) where
   pub scanning-none : (t : List ℕ) → Blank t → Scanning 0 t 0
   unfolding duplicate? some at member
   scanning-none t b = record {
-    masks = b .masks;
     marked = record {
       only = λ u v h e. absurd (let z : at 2 t u v ≡ 0 = ap (λ (x : ℕ). bit x (v % 64)) (b .zero (2 * u + v / 64)) ∙ bit-of-zero (v % 64) in omega arith);
       all = λ j l. absurd (not-suc-le-zero l);
@@ -64,7 +61,8 @@ module _ (n : ℕ) (ends : List ℕ) where
   }
 
   -- one edge more
-  module _ (i : ℕ) (t : List ℕ) (d : ℕ) (small : n ≤ 128) (f : Scanning i t d) (u v : ℕ) (eu : u ≡ getD ends (2 * i) 0) (ev : v ≡ getD ends (2 * i + 1) 0) (hu : u < n) (hv : v < n) where
+  module _ (i : ℕ) (t : List ℕ) (d : ℕ) (small : n ≤ 128) (room : 2 * n ≤ length t) (f : Scanning i t d)
+      (u v : ℕ) (eu : u ≡ getD ends (2 * i) 0) (ev : v ≡ getD ends (2 * i + 1) 0) (hu : u < n) (hv : v < n) where
     at-tail : u ≡ getD tails i 0
     at-tail = eu ∙ sym (tail-at ends i)
 
@@ -99,12 +97,11 @@ module _ (n : ℕ) (ends : List ℕ) where
 
     pub scanning-more : (s : List ℕ) (r : ℕ) → (r ≡ choose (member? t (2 * u) v) (λ _. 4) (λ _. d)) × (s ≡ inserted t (2 * u) v) → Scanning (i + 1) s r
     scanning-more s r e = record {
-      masks = ap length (e .1) ∙ inserted-length t (2 * u) v ∙ f .masks;
       marked = marked-more 2 tails heads i t s (λ j l. lt-of-lt-of-le (within-next .head j l) small)
           (subst (λ (x : List ℕ). Put 2 t (getD tails i 0) (getD heads i 0) x)
           (sym (e .1 ∙ ap₂ (λ (a b : ℕ). inserted t (2 * a) b) at-tail at-head))
           (put-law 2 t (getD tails i 0) (getD heads i 0) (let h = within-next .head i (omega arith) in omega arith)
-          (let g = within-next .tail i (omega arith) in let h = within-next .head i (omega arith) in let l = f .masks in omega arith)))
+          (let g = within-next .tail i (omega arith) in let h = within-next .head i (omega arith) in omega arith)))
           (f .marked);
       within = within-next;
       twice = e .0 ∙ double-next (member? t (2 * u) v) refl;
@@ -115,7 +112,6 @@ module _ (n : ℕ) (ends : List ℕ) where
   unfolding strange? endsRefusal
   scanned-strange i t d f l o = record {
     answer = sym (choose-yes (some m (strange? n tails heads)) _ _ found);
-    masks = f .masks;
     bits = λ ne. absurd (ne refl);
   }
     where
@@ -132,7 +128,6 @@ module _ (n : ℕ) (ends : List ℕ) where
   unfolding endsRefusal strange? Edge
   scanned-whole t d small f = record {
     answer = f .twice ∙ sym (choose-no (some m (strange? n tails heads)) _ _ none);
-    masks = f .masks;
     bits = λ _ u v hu hv. (
       (λ e. f .marked .only u v hv e),
       (λ a. sym (ap₂ (at 2 t) (a .2) (a .3)) ∙ f .marked .all (a .0) (a .1)),

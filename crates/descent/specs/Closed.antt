@@ -5,7 +5,7 @@ use mathlib.Core.Bool.{Bool, _&&_}
 use mathlib.Core.List.{List}
 use Prim.Native.Nat.{ℕ, _+_, _*_, _≤_, _<_}
 use lib.Dec.{eqb, ltb}
-use lib.ListN.{getD}
+use lib.ListN.{length, getD}
 use Rattle.counting.specs.Count.{sum, count}
 use Rattle.masks.specs.Bits.{bit}
 use Rattle.masks.specs.Sets.{at}
@@ -22,6 +22,10 @@ edgeIn e u v = eqb (at 2 e u v) 1
 
 unfoldable pub arc? : List ℕ → ℕ → ℕ → Bool
 arc? e u v = ltb u 128 && (ltb v 128 && edgeIn e u v)
+
+-- t has two masks for every vertex that an edge of e enters
+pub record Ample (e t : List ℕ) : Type 0 where
+  pub room : (u v : ℕ) → Arc e u v → 2 * v + 2 ≤ length t
 
 -- the set of u in t is what u reaches by the edges of e
 abbrev pub Reached : List ℕ → List ℕ → ℕ → Type 0
@@ -60,7 +64,7 @@ pub record Inside (e : List ℕ) (n : ℕ) : Type 0 where
 
 -- set r of `below` has the vertices whose row is below r; no row is `top` or more
 pub record Prefixes (e : List ℕ) (n top : ℕ) (below : List ℕ) : Type 0 where
-  pub few : top ≤ 128
+  pub few : top ≤ n
   pub members : (r v : ℕ) → r ≤ top → v < 128 → at 2 below r v ≡ 1 ↔ ((v < n) × (row (edgeIn e) n v < r))
   pub all : (v : ℕ) → v < n → row (edgeIn e) n v < top
 

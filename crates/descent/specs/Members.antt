@@ -2,8 +2,8 @@
 use mathlib.Core.Path.{_≡_}
 use mathlib.Core.Logic.{_≢_, _⊎_, _↔_}
 use mathlib.Core.List.{List}
-use Prim.Native.Nat.{ℕ, _+_, _^_, _<_}
-use lib.ListN.{getD}
+use Prim.Native.Nat.{ℕ, _+_, _*_, _^_, _≤_, _<_}
+use lib.ListN.{length, getD}
 use Rattle.masks.specs.Bits.{bit}
 use Rattle.masks.specs.Sets.{at}
 use Rattle.masks.specs.Pairs.{inPair}
@@ -13,6 +13,10 @@ pub record Below (n a b : ℕ) : Type 0 where
   pub low-fits : a < 2 ^ 64
   pub high-fits : b < 2 ^ 64
   pub members : (v : ℕ) → v < 128 → inPair a b v ≡ 1 ↔ v < n
+
+-- the table has two masks for every member of a mask that begins at vertex `base`
+pub record Long (t : List ℕ) (mask base : ℕ) : Type 0 where
+  pub room : (j : ℕ) → j < 64 → bit mask j ≡ 1 → 2 * (base + j) + 2 ≤ length t
 
 -- the set a, b is c, d with the sets put in that the table has for the members of a mask that begins at vertex `base`
 pub record Gathered (t : List ℕ) (mask base c d a b : ℕ) : Type 0 where

@@ -3,16 +3,15 @@ use mathlib.Core.Path.{_≡_}
 use mathlib.Core.Logic.{_≢_, _↔_}
 use mathlib.Core.List.{List}
 use Prim.Native.Nat.{ℕ, _<_}
-use lib.ListN.{length, getD}
+use lib.ListN.{getD}
 use Rattle.counting.specs.Count.{choose, some}
 use Rattle.masks.specs.Sets.{at}
 use Rattle.reach.specs.Graph.{edgeCount, Edge}
 use Rattle.reach.specs.Refusal.{strange?}
 use Rattle.reach.specs.Ends.{tailsOf, headsOf, duplicate?}
 
--- 256 masks with no bit set
+-- masks with no bit set
 pub record Blank (t : List ℕ) : Type 0 where
-  pub masks : length t ≡ 256
   pub zero : (i : ℕ) → getD t i 0 ≡ 0
 
 -- why edges are refused, however many they are: 3, an end is no vertex; 4, an edge stands twice; or 0
@@ -24,5 +23,4 @@ endsRefusal n tails heads =
 -- r is the answer of the checks 3 and 4 of edges of bytes, and, where every end is a vertex, t has the edges' bits and no other
 pub record Scanned (n : ℕ) (ends t : List ℕ) (r : ℕ) : Type 0 where
   pub answer : r ≡ endsRefusal n (tailsOf ends) (headsOf ends)
-  pub masks : length t ≡ 256
   pub bits : r ≢ 3 → (u v : ℕ) → u < 128 → v < 128 → at 2 t u v ≡ 1 ↔ Edge (tailsOf ends) (headsOf ends) u v

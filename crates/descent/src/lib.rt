@@ -2,15 +2,15 @@
 // row down, each vertex gets the union of its successors' sets. A table has two masks of 64 bits a vertex: bit v mod 64, lowest first, of
 // mask 2 u + v / 64 says that v is in the set of u.
 ghost use mathlib.Core.Path.{_≡_};
-ghost use Prim.Native.Nat.{ℕ, _+_, _*_, _≤_, _<_};
+ghost use Prim.Native.Nat.{ℕ, _+_, _*_, _≤_, _<_, min};
 ghost use lib.ListN.{length};
 ghost use Rattle.counting.specs.Count.{choose};
 ghost use Rattle.masks.specs.Bits.{bit};
 ghost use Rattle.masks.specs.Sets.{member?, inserted};
 ghost use Rattle.reach.specs.Refusal.{outsized?};
-ghost use Rattle.descent.specs.Members.{Below, Gathered, Pictured, Nested, Covered, Written};
+ghost use Rattle.descent.specs.Members.{Below, Long, Gathered, Pictured, Nested, Covered, Written};
 ghost use Rattle.descent.specs.Scanned.{Blank, Scanned};
-ghost use Rattle.descent.specs.Closed.{Arc, Reached, Finished, Vertex, Row, Inside, Prefixes, Laid, Closed};
+ghost use Rattle.descent.specs.Closed.{Arc, Ample, Reached, Finished, Vertex, Row, Inside, Prefixes, Laid, Closed};
 ghost use Rattle.descent.specs.Promise.{noDescent, fits?, Descends};
 
 // The most vertices and edges of a graph.
@@ -41,19 +41,18 @@ fn wide(x: u8) -> usize
 
 // ---- the edges
 
-// No bit set in 256 masks.
+// No bit set in any mask.
 fn clear(masks: &mut [u64])
-    requires { ⌜ length (now masks) ≡ 256 ⌝ }
     ensures { λ _. ⌜ Blank (now (masks .exit)) ⌝ }
 {
-    for i in 0..256usize {
+    for i in 0..masks.len() {
         masks[i] = 0;
     }
 }
 
 // Puts v into the set of u: 4 where it stood there before, else what came in.
 fn mark(edges: &mut [u64], u: usize, v: usize, double: u8) -> u8
-    requires { ⌜ (u < 128) × (v < 128) × (length (now edges) ≡ 256) ⌝ }
+    requires { ⌜ (u < 128) × (v < 128) × (2 * u + 2 ≤ length (now edges)) ⌝ }
     ensures { λ r. ⌜ (r ≡ choose (member? (now (edges .entry)) (2 * u) v) (λ _. 4) (λ _. double)) × (now (edges .exit) ≡ inserted (now (edges .entry)) (2 * u) v) ⌝ }
 {
     let w = 2 * u + v / 64;
@@ -68,7 +67,7 @@ fn mark(edges: &mut [u64], u: usize, v: usize, double: u8) -> u8
 // The checks 3 and 4 of edges, two bytes each, among n vertices: the first that fails, else 0. Unless it answers 3, `edges` has the
 // edges' bits and no other.
 fn scan(ends: &[u8], n: usize, edges: &mut [u64]) -> u8
-    requires { ⌜ (n ≤ 128) × Blank (now edges) ⌝ }
+    requires { ⌜ (n ≤ 128) × (2 * n ≤ length (now edges)) × Blank (now edges) ⌝ }
     ensures { λ r. ⌜ Scanned n (now (ends .entry)) (now (edges .exit)) r ⌝ }
 {
     let m = ends.len() / 2;
@@ -112,7 +111,7 @@ fn below_n(n: usize) -> Pair
 
 // The set of two masks with the sets of the members of a mask, which begins at vertex `base`, put in.
 fn gather(table: &[u64], mask: u64, base: usize, low: u64, high: u64) -> Pair
-    requires { ⌜ (base ≤ 64) × (length (now table) ≡ 256) ⌝ }
+    requires { ⌜ (base ≤ 64) × Long (now table) mask base ⌝ }
     ensures { λ r. ⌜ Gathered (now (table .entry)) mask base low high (r .low) (r .high) ⌝ }
 {
     let mut a = low;
@@ -129,7 +128,7 @@ fn gather(table: &[u64], mask: u64, base: usize, low: u64, high: u64) -> Pair
 
 // The union of the sets of the members of a set of two masks.
 fn image(table: &[u64], low: u64, high: u64) -> Pair
-    requires { ⌜ length (now table) ≡ 256 ⌝ }
+    requires { ⌜ Long (now table) low 0 × Long (now table) high 64 ⌝ }
     ensures { λ r. ⌜ Pictured (now (table .entry)) low high (r .low) (r .high) ⌝ }
 {
     let p = gather(table, low, 0, 0, 0);
@@ -138,7 +137,7 @@ fn image(table: &[u64], low: u64, high: u64) -> Pair
 
 // A set with the sets of the members of its second mask put in, where it holds the sets of those that it has: they are left out.
 fn with_second(table: &[u64], mask: u64, low: u64, high: u64) -> Pair
-    requires { ⌜ (length (now table) ≡ 256) × Nested (now table) 0 mask × Covered (now table) 0 mask low high ⌝ }
+    requires { ⌜ Long (now table) mask 64 × Nested (now table) 0 mask × Covered (now table) 0 mask low high ⌝ }
     ensures { λ r. ⌜ Gathered (now (table .entry)) mask 64 low high (r .low) (r .high) ⌝ }
 {
     let mut a = low;
@@ -155,7 +154,7 @@ fn with_second(table: &[u64], mask: u64, low: u64, high: u64) -> Pair
 
 // The union of sets that hold the sets of their own members among `low`, `high`: those that are in the union already are left out.
 fn reached(table: &[u64], low: u64, high: u64) -> Pair
-    requires { ⌜ (length (now table) ≡ 256) × Nested (now table) low high ⌝ }
+    requires { ⌜ Long (now table) low 0 × Long (now table) high 64 × Nested (now table) low high ⌝ }
     ensures { λ r. ⌜ Pictured (now (table .entry)) low high (r .low) (r .high) ⌝ }
 {
     let mut a: u64 = 0;
@@ -188,7 +187,7 @@ fn set_rows(mask: u64, base: usize, r: u8, rows: &mut [u8])
 // The row of each of n vertices, and for each number up to that of the rows used the set of the vertices of lower rows. The number of rows
 // used, or 0 where a vertex reaches itself.
 fn grown(edges: &[u64], n: usize, rows: &mut [u8], below: &mut [u64]) -> usize
-    requires { ⌜ (0 < n) × (length (now edges) ≡ 256) × (length (now rows) ≡ 128) × (length (now below) ≡ 258) × Inside (now edges) n ⌝ }
+    requires { ⌜ (0 < n) × (2 * n ≤ length (now edges)) × (length (now rows) ≡ 128) × (2 * n + 2 ≤ length (now below)) × Inside (now edges) n ⌝ }
     ensures { λ r. ⌜ Laid (now (edges .entry)) n r (now (rows .entry)) (now (rows .exit)) (now (below .exit)) ⌝ }
 {
     let all = below_n(n);
@@ -222,7 +221,7 @@ fn grown(edges: &[u64], n: usize, rows: &mut [u8], below: &mut [u64]) -> usize
 
 // The sets of u from those of its successors.
 fn close_vertex(u: usize, edges: &[u64], table: &mut [u64], longer: &mut [u64], counts: &mut [u8])
-    requires { ⌜ (u < 128) × (length (now edges) ≡ 256) × (length (now table) ≡ 256) × (length (now longer) ≡ 256) × (length (now counts) ≡ 128) × ((w : ℕ) → Arc (now edges) u w → Reached (now edges) (now table) w) ⌝ }
+    requires { ⌜ (u < 128) × (2 * u + 2 ≤ length (now edges)) × (2 * u + 2 ≤ length (now table)) × (2 * u + 2 ≤ length (now longer)) × (length (now counts) ≡ 128) × Ample (now edges) (now table) × ((w : ℕ) → Arc (now edges) u w → Reached (now edges) (now table) w) ⌝ }
     ensures { λ _. ⌜ Vertex (now (edges .entry)) u (now (table .entry)) (now (longer .entry)) (now (counts .entry)) (now (table .exit)) (now (longer .exit)) (now (counts .exit)) ⌝ }
 {
     let low = edges[2 * u];
@@ -246,7 +245,7 @@ fn close_row(
     longer: &mut [u64],
     counts: &mut [u8],
 )
-    requires { ⌜ (base ≤ 64) × (length (now edges) ≡ 256) × (length (now table) ≡ 256) × (length (now longer) ≡ 256) × (length (now counts) ≡ 128) × ((j : ℕ) → j < 64 → bit mask j ≡ 1 → (w : ℕ) → Arc (now edges) (base + j) w → Finished (now edges) (now table) (now longer) (now counts) w) ⌝ }
+    requires { ⌜ (base ≤ 64) × Long (now edges) mask base × Long (now table) mask base × Long (now longer) mask base × (length (now counts) ≡ 128) × Ample (now edges) (now table) × ((j : ℕ) → j < 64 → bit mask j ≡ 1 → (w : ℕ) → Arc (now edges) (base + j) w → Finished (now edges) (now table) (now longer) (now counts) w) ⌝ }
     ensures { λ _. ⌜ Row (now (edges .entry)) mask base (now (table .entry)) (now (longer .entry)) (now (counts .entry)) (now (table .exit)) (now (longer .exit)) (now (counts .exit)) ⌝ }
 {
     let mut x = mask;
@@ -267,7 +266,7 @@ fn close(
     longer: &mut [u64],
     counts: &mut [u8],
 )
-    requires { ⌜ (length (now edges) ≡ 256) × (length (now below) ≡ 258) × (length (now table) ≡ 256) × (length (now longer) ≡ 256) × (length (now counts) ≡ 128) × Inside (now edges) n × Prefixes (now edges) n top (now below) ⌝ }
+    requires { ⌜ (2 * n ≤ length (now edges)) × (2 * n + 2 ≤ length (now below)) × (2 * n ≤ length (now table)) × (2 * n ≤ length (now longer)) × (length (now counts) ≡ 128) × Inside (now edges) n × Prefixes (now edges) n top (now below) ⌝ }
     ensures { λ _. ⌜ Closed (now (edges .entry)) n (now (table .entry)) (now (longer .entry)) (now (counts .entry)) (now (table .exit)) (now (longer .exit)) (now (counts .exit)) ⌝ }
 {
     let mut r = top;
@@ -294,20 +293,31 @@ fn no_descent(refusal: u8) -> Descent
     }
 }
 
-// Whether work lists of these lengths have room.
-fn is_fit(edges: usize, below: usize, table: usize, longer: usize) -> bool
-    ensures { λ r. ⌜ r ≡ fits? edges below table longer ⌝ }
+// How many masks the sets of n vertices have, of at most 128.
+fn room(n: usize) -> usize
+    ensures { λ r. ⌜ r ≡ 2 * min n 128 ⌝ }
 {
-    if edges != 256 {
+    if n < MOST_VERTICES {
+        return 2 * n;
+    }
+    2 * MOST_VERTICES
+}
+
+// Whether work lists of these lengths have room for the sets of n vertices.
+fn is_fit(n: usize, edges: usize, below: usize, table: usize, longer: usize) -> bool
+    ensures { λ r. ⌜ r ≡ fits? n edges below table longer ⌝ }
+{
+    let least = room(n);
+    if edges < least {
         return false;
     }
-    if below != 258 {
+    if below < least + 2 {
         return false;
     }
-    if table != 256 {
+    if table < least {
         return false;
     }
-    longer == 256
+    least <= longer
 }
 
 // Whether n vertices and m edges are too few or too many.
@@ -323,7 +333,7 @@ fn is_outsized(n: usize, m: usize) -> bool
     MOST_EDGES < m
 }
 
-// The tables of n vertices and of edges of two bytes each, tail and head. Refused with 8 (a work list of another length: nothing is changed),
+// The tables of n vertices and of edges of two bytes each, tail and head. Refused with 8 (a work list lacks room: nothing is changed),
 // 2 (no vertex, more than 128, or more than 4,096 edges), 3 (an end of n or more), 4 (an edge twice) or 5 (a cycle).
 pub fn descend(
     n: usize,
@@ -335,7 +345,7 @@ pub fn descend(
 ) -> Descent
     ensures { λ r. ⌜ Descends n (now (ends .entry)) (now (edges .entry)) (now (below .entry)) (now (table .entry)) (now (longer .entry)) r (now (edges .exit)) (now (below .exit)) (now (table .exit)) (now (longer .exit)) ⌝ }
 {
-    if !is_fit(edges.len(), below.len(), table.len(), longer.len()) {
+    if !is_fit(n, edges.len(), below.len(), table.len(), longer.len()) {
         return no_descent(8);
     }
     if is_outsized(n, ends.len() / 2) {

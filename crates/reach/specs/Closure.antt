@@ -30,16 +30,13 @@ pub record Reachability : Type 0 where
   pub counts : List ℕ
 
 -- r is the graph's reachability: a table of its edges, document 01's 'descent table', each two masks a vertex, and the number of
--- descendants of each vertex
+-- descendants of each vertex. A mask past a table's end counts as 0
 pub record Closure (n : ℕ) (tails heads : List ℕ) (r : Reachability) : Type 0 where
-  pub edge-masks : length (r .edges) ≡ 256
   pub edge-bits : (u v : ℕ) → u < 128 → v < 128 → at 2 (r .edges) u v ≡ 1 ↔ Adjacent n tails heads u v
-  pub masks : length (r .table) ≡ 256
   pub bits : (u v : ℕ) → u < 128 → v < 128 → at 2 (r .table) u v ≡ 1 ↔ Reachable n tails heads u v
   pub vertices : length (r .counts) ≡ 128
   pub counted : (u : ℕ) → u < 128 → getD (r .counts) u 0 ≡ count 128 (reachable? n tails heads u)
 
 -- r is the table t followed by itself: v is in the set of u exactly when some w is in the set of u, and v in that of w
 pub record Composed (t r : List ℕ) : Type 0 where
-  pub masks : length r ≡ 256
   pub bits : (u v : ℕ) → u < 128 → v < 128 → at 2 r u v ≡ 1 ↔ ((w : ℕ) × (w < 128) × (at 2 t u w ≡ 1) × (at 2 t w v ≡ 1))

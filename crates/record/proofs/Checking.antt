@@ -6,7 +6,6 @@ use mathlib.Core.List.{List}
 use Prim.Native.Nat.{ℕ, zero, suc, _≤_, _<_}
 use native.Mathlib.Omega.{arith}
 use lib.Dec.{leb}
-use lib.ListN.{length}
 use Rattle.counting.specs.Count.{choose}
 use Rattle.reach.specs.Refusal as edges
 use Rattle.reach.specs.Refusal.{outsized?, verdict}
@@ -27,7 +26,7 @@ use Rattle.channels.proofs.Answers.{sized, plan-taken}
 use Rattle.channels.proofs.Theorems.{taken}
 use Rattle.record.specs.declared.checks.Checked.{Checked}
 use Rattle.record.specs.Checks.{content, refusalOf}
-use Rattle.record.specs.Checked.{uncheckedBy, Passes, Checks}
+use Rattle.record.specs.Checked.{uncheckedBy, Checks}
 use Rattle.record.proofs.Judging.{refused-edges, edges-accepted, bare-refusal, given-refusal, first-high}
 
 -- a graph of no vertex is refused
@@ -69,10 +68,10 @@ module _ (n : ℕ) (ends : List ℕ) (given : Bool) (field e b t l : List ℕ) (
 
   -- they are not
   module _ (passed : d .refusal ≡ 0) where
-    fits : (Sized e b t l → ⊥) → ⊥
+    fits : (Sized n e b t l → ⊥) → ⊥
     fits s = let p = promised .short s .0 in absurd (omega arith)
 
-    module _ (s : Sized e b t l) where
+    module _ (s : Sized n e b t l) where
       sound : edgesRefusal n tails heads ≡ 0
       sound = sym (promised .answer s) ∙ passed
 
@@ -90,11 +89,11 @@ module _ (n : ℕ) (ends : List ℕ) (given : Bool) (field e b t l : List ℕ) (
       table-same u v hu hv = same-test n tails heads t′ (promised .made passed .closure .bits) u v (let k = small in omega arith) (let k = small in omega arith)
 
     module _ (ch : Channels) (lined : choose given (λ _. Gives n t′ field ch) (λ _. Plans n t′ ch)) where
-      answered : (g : Bool) → given ≡ g → choose g (λ _. Gives n t′ field ch) (λ _. Plans n t′ ch) → Sized e b t l → ch .refusal ≡ refusalOf (content n tails heads g field)
+      answered : (g : Bool) → given ≡ g → choose g (λ _. Gives n t′ field ch) (λ _. Plans n t′ ch) → Sized n e b t l → ch .refusal ≡ refusalOf (content n tails heads g field)
       answered true h p s = p .refused ∙ given-refusal n tails heads field (sound s) (leadsIn t′) (table-same s) (of-size s)
       answered false h p s = p .refused ∙ plan-taken n (of-size s) ∙ sym (bare-refusal n tails heads field (sound s))
 
-      same-answer : Sized e b t l → ch .refusal ≡ answer
+      same-answer : Sized n e b t l → ch .refusal ≡ answer
       same-answer s = answered given refl lined s
 
       -- the given channels are refused

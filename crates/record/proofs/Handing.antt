@@ -3,6 +3,7 @@ use mathlib.Core.Path.{_≡_, refl, sym, ap, _∙_, subst}
 use mathlib.Core.Logic.{_≢_, _↔_}
 use mathlib.Core.List.{List}
 use Prim.Native.Nat.{ℕ, _+_, _-_, _*_, _<_}
+use native.Mathlib.Omega.{arith}
 use lib.ListN.{replicate, take, drop}
 use Rattle.masks.specs.Sets.{at}
 use Rattle.reach.specs.Closure.{Reachable}
@@ -13,13 +14,14 @@ use Rattle.record.specs.declared.layout.Layout.the-variants.{Good}
 use Rattle.record.specs.declared.checks.Checked.{Checked}
 use Rattle.record.specs.declared.reading.Reading.{Reading}
 use Rattle.record.specs.Layout.{layoutOf}
-use Rattle.record.specs.Checks.{Content, content, refusalOf}
+use Rattle.record.specs.Checks.{Content, refusalOf}
 use Rattle.record.specs.Checked.{Checks}
-use Rattle.record.specs.Reading.{contentOf, recordRefusal, unreadBy, Reads}
+use Rattle.record.specs.Reading.{contentOf, unreadBy, Reads}
 use Rattle.record.proofs.Readings.{good-refusal, parts-content, unread-reads, read-reads}
 
-fresh : Sized (replicate 256 0) (replicate 258 0) (replicate 256 0) (replicate 256 0)
-fresh = record { edges = refl; below = refl; table = refl; longer = refl }
+-- arrays of the largest size have room for every graph
+fresh : (n : ℕ) → Sized n (replicate 256 0) (replicate 258 0) (replicate 256 0) (replicate 256 0)
+fresh n = record { edges = omega arith; below = omega arith; table = omega arith; longer = omega arith }
 
 module _ (b : List ℕ) (f : Fields) (good : layoutOf b ≡ Good f) (k : Checked) (e′ b′ t′ l′ : List ℕ) where
   abbrev ends : List ℕ
@@ -30,7 +32,7 @@ module _ (b : List ℕ) (f : Fields) (good : layoutOf b ≡ Good f) (k : Checked
 
   module _ (p : Checks (f .vertices) ends (f .given) field (replicate 256 0) (replicate 258 0) (replicate 256 0) (replicate 256 0) k e′ b′ t′ l′) where
     answer : k .refusal ≡ refusalOf (contentOf b f)
-    answer = p .answer fresh ∙ ap refusalOf (parts-content b f)
+    answer = p .answer (fresh (f .vertices)) ∙ ap refusalOf (parts-content b f)
 
     pub read-refused : k .refusal ≢ 0 → (r : Reading) → r ≡ unreadBy (k .refusal) → Reads b r
     read-refused ne r made = unread-reads b (k .refusal) r (good-refusal b f good ∙ sym answer) ne made
@@ -39,5 +41,5 @@ module _ (b : List ℕ) (f : Fields) (good : layoutOf b ≡ Good f) (k : Checked
     read-passed z r made =
         let passes = p .passes z in
         let bits : (u v : ℕ) → u < 128 → v < 128 → at 2 t′ u v ≡ 1 ↔ Reachable (f .vertices) (tailsOf ends) (headsOf ends) u v = passes .descended .closure .bits in
-        subst (Reads b) (sym made) (read-reads b f (record { refusal = 0; vertices = f .vertices; table = t′ }) good (sym answer ∙ z) refl refl (passes .descended .closure .masks)
+        subst (Reads b) (sym made) (read-reads b f (record { refusal = 0; vertices = f .vertices; table = t′ }) good (sym answer ∙ z) refl refl (p .long .2)
         (subst (λ (c : Content). (u v : ℕ) → u < 128 → v < 128 → at 2 t′ u v ≡ 1 ↔ Reachable (c .vertices) (c .tails) (c .heads) u v) (parts-content b f) bits))

@@ -22,7 +22,7 @@ uncheckedBy k = record {
   used = 0;
   rows = replicate 128 0;
   counts = replicate 128 0;
-  channels = record { refusal = 0; count = 0; vertices = 0; channel = replicate 128 0; position = replicate 128 0; order = replicate 128 0; starts = replicate 128 0 };
+  channels = record { refusal = 0; count = 0; channel = replicate 128 0; position = replicate 128 0 };
 }
 
 -- a graph that passes: its tables, and the channels, the given ones in their order or those planned by the table t
@@ -34,8 +34,8 @@ pub record Passes (n : ℕ) (ends : List ℕ) (given : Bool) (field : List ℕ) 
 -- r is the first check that fails and no count, or 0 and what passes; e, b, t and l are the lists that are lent, and e′ to l′ what they hold
 -- afterwards. On a refusal but 8 it is left free what they hold
 pub record Checks (n : ℕ) (ends : List ℕ) (given : Bool) (field e b t l : List ℕ) (r : Checked) (e′ b′ t′ l′ : List ℕ) : Type 0 where
-  pub answer : Sized e b t l → r .refusal ≡ refusalOf (content n (tailsOf ends) (headsOf ends) given field)
-  pub short : (Sized e b t l → ⊥) → (r .refusal ≡ 8) × (e′ ≡ e) × (b′ ≡ b) × (t′ ≡ t) × (l′ ≡ l)
+  pub answer : Sized n e b t l → r .refusal ≡ refusalOf (content n (tailsOf ends) (headsOf ends) given field)
+  pub short : (Sized n e b t l → ⊥) → (r .refusal ≡ 8) × (e′ ≡ e) × (b′ ≡ b) × (t′ ≡ t) × (l′ ≡ l)
   pub none : r .refusal ≢ 0 → r ≡ uncheckedBy (r .refusal)
   pub passes : r .refusal ≡ 0 → Passes n ends given field r e′ b′ t′ l′
   pub long : (length e′ ≡ length e) × (length b′ ≡ length b) × (length t′ ≡ length t) × (length l′ ≡ length l)

@@ -30,11 +30,8 @@ fn refused(refusal: u8) -> Checked
         channels: Channels {
             refusal: 0,
             count: 0,
-            vertices: 0,
             channel: [0; 128],
             position: [0; 128],
-            order: [0; 128],
-            starts: [0; 128],
         },
     }
 }
@@ -69,7 +66,7 @@ fn channels_of<'a>(n: usize, table: &'a [u64], given: bool, field: &'a [u8]) -> 
 
 // The checks of n vertices, the edges whose ends are bytes, tail and head in turn, and the given channels in the bytes of their field, if
 // there are any: the first that fails refuses. The lists get the edges' masks, the sets of vertices by row, what reaches what, and what
-// does by two edges or more; 8, and nothing changed, where one is not as long as it must be.
+// does by two edges or more; 8, and nothing changed, where one has too little room.
 pub fn check<'a, 'f, 'e, 'b, 't, 'l>(
     n: usize,
     ends: &'a [u8],

@@ -1,24 +1,26 @@
+use mathlib.Core.Path.{_≡_, refl}
 use Prim.Native.Nat.{_-_, _≤_, zero-le}
 use native.Mathlib.Omega.{arith}
+use lib.ListN.{length}
+use Rattle.counting.proofs.Clearing.{Clearing, clearing-none, clearing-more, clearing-zero}
 use borrow.Author.Needs.{needs}
-use Rattle.descent.proofs.Blanking.{Blanking, blanking-none, blanking-more, blanking-all}
 use Rattle.descent.proofs.clear.Statement.{statement}
 use Rattle.descent.proofs.clear.Tie as tie
 
 abbrev Inv-loop : tie.InvT-loop
-Inv-loop masks₀ i₀ masks i = (i ≤ 256) × Blanking i masks
+Inv-loop masks₀ i₀ end masks i = (i ≤ end) × (end ≡ length masks₀) × Clearing 0 i masks₀ masks
 
 abbrev μ-loop : tie.MeasureT-loop
-μ-loop masks₀ i₀ masks i = 256 - i
+μ-loop masks₀ i₀ end masks i = end - i
 
 loop-holds : tie.Need-loop-holds Inv-loop μ-loop
-loop-holds c = (zero-le, blanking-none (c .args .masks .now) (c .pre))
+loop-holds c = (zero-le, refl, clearing-none 0 _)
 
 mul-masks : tie.Need-mul-masks Inv-loop μ-loop
 mul-masks c = search needs
 
 slice-write-masks : tie.Need-slice-write-masks Inv-loop μ-loop
-slice-write-masks c = search needs
+slice-write-masks c = omega (arith, c .before .loop .inv .2 .long)
 
 add-i : tie.Need-add-i Inv-loop μ-loop
 add-i c = search needs
@@ -27,13 +29,13 @@ loop-less : tie.Need-loop-less Inv-loop μ-loop
 loop-less c = search needs
 
 loop-again : tie.Need-loop-again Inv-loop μ-loop
-loop-again c = (omega arith, blanking-more _ _ (omega arith) (c .before .loop .inv .1))
+loop-again c = (omega arith, c .before .loop .inv .1, clearing-more 0 _ _ _ (omega arith) (c .before .loop .inv .2))
 
 same-length : tie.Need-same-length Inv-loop μ-loop
-same-length c = search needs
+same-length c = c .before .loop .inv .2 .long
 
 returns : tie.Need-returns Inv-loop μ-loop
-returns c = blanking-all _ _ (omega arith) (c .before .loop .inv .1)
+returns c = record { zero = clearing-zero _ _ _ (omega arith) (c .before .loop .inv .2) }
 
 pub clear-spec : {M : Type 1} → statement M
 clear-spec =

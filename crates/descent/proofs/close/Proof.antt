@@ -3,12 +3,15 @@ use Prim.Native.Nat.{ℕ, _+_, _-_, _*_, _≤_, _<_, zero-le}
 use native.Mathlib.Omega.{arith}
 use lib.ListN.{length}
 use borrow.Author.Needs.{needs}
-use Rattle.descent.proofs.Ranking.{Descended, descended-none, descended-more, descended-all, ready-low, ready-high}
+use Rattle.descent.proofs.Ranking.{inside-ample, row-long, ready-low, ready-high}
+use Rattle.descent.proofs.Ranking.{Descended, descended-none, descended-more, descended-all}
 use Rattle.descent.proofs.close.Statement.{statement}
 use Rattle.descent.proofs.close.Tie as tie
 
 abbrev Inv-loop : tie.InvT-loop
-Inv-loop edges below n top table₀ longer₀ counts₀ r₀ table longer counts r = (r ≤ top) × (top ≤ 128) × (length below ≡ 258) × (length table ≡ 256) × (length longer ≡ 256) × (length counts ≡ 128) × Descended edges n r table₀ longer₀ counts₀ table longer counts
+Inv-loop edges below n top table₀ longer₀ counts₀ r₀ table longer counts r =
+    (r ≤ top) × (top ≤ n) × (n ≤ 128) × (2 * n + 2 ≤ length below) × (length table ≡ length table₀) × (length longer ≡ length longer₀)
+    × (length counts ≡ 128) × Descended edges n r table₀ longer₀ counts₀ table longer counts
 
 abbrev μ-loop : tie.MeasureT-loop
 μ-loop edges below n top table₀ longer₀ counts₀ r₀ table longer counts r = r
@@ -18,14 +21,15 @@ loop-holds c =
     let st = c .before .before .before .before .before in
     let a = st .args in
     let pre = st .pre in
-    (omega arith, pre .6 .few, pre .1, pre .2, pre .3, pre .4, descended-none (a .edges .now) (a .n) (a .top) (a .below .now) (pre .5) (pre .6) (a .table .now) (a .longer .now) (a .counts .now))
+    let none = descended-none (a .edges .now) (a .n) (a .top) (a .below .now) (pre .5) (pre .6) in
+    (omega arith, pre .6 .few, pre .5 .small, pre .1, refl, refl, pre .4, none (a .table .now) (a .longer .now) (a .counts .now))
 
 -- the descent so far, one row above the one that is next
 so-far : (c : tie.In-loop Inv-loop μ-loop) → let l = c .before .loop in let a = c .before .before .before .before .before .before .before .args in Descended (a .edges .now) (a .n) (l .r - 1 + 1) (a .table .now) (a .longer .now) (a .counts .now) (l .table) (l .longer) (l .counts)
 so-far c =
     let l = c .before .loop in
     let a = c .before .before .before .before .before .before .before .args in
-    subst (λ (r : ℕ). Descended (a .edges .now) (a .n) r (a .table .now) (a .longer .now) (a .counts .now) (l .table) (l .longer) (l .counts)) (let e : l .r ≡ l .r - 1 + 1 = (let k = c .loop-test .taken in omega arith) in e) (l .inv .6)
+    subst (λ (r : ℕ). Descended (a .edges .now) (a .n) r (a .table .now) (a .longer .now) (a .counts .now) (l .table) (l .longer) (l .counts)) (let e : l .r ≡ l .r - 1 + 1 = (let k = c .loop-test .taken in omega arith) in e) (l .inv .7)
 
 sub-r : tie.Need-sub-r Inv-loop μ-loop
 sub-r c = search needs
@@ -83,12 +87,16 @@ close-row-requires c κs =
     let known = c .before .before .before .before .before .before .before .before .before .before .before .before .shared-slice-known2 .given in
     let turn = c .before .before .before .before .before .before .before in
     let l = turn .before .loop in
-    let hr : l .r - 1 < a .top = (let i = l .inv .0 in let k = turn .loop-test .taken in omega arith) in (
+    let hr : l .r - 1 < a .top = (let i = l .inv .0 in let k = turn .loop-test .taken in omega arith) in
+    let long = row-long (a .edges .now) (a .n) (a .top) (a .below .now) (pre .5) (pre .6) (l .r - 1) _ _ _ _ hr refl refl refl refl
+    (known (2 * (l .r - 1)) .fits) (known (2 * (l .r - 1) + 1) .fits) in
+    let room : 2 * a .n ≤ length (l .table) = (let k = pre .2 in let q = l .inv .4 in omega arith) in (
       zero-le,
-      pre .0,
-      l .inv .3,
-      l .inv .4,
-      l .inv .5,
+      long (a .edges .now) (pre .0) .0,
+      long (l .table) room .0,
+      long (l .longer) (let k = pre .3 in let q = l .inv .5 in omega arith) .0,
+      l .inv .6,
+      inside-ample (a .edges .now) (l .table) (a .n) (pre .5) room,
       ready-low (a .edges .now) (a .n) (a .top) (a .below .now) (pre .5) (pre .6) (l .r - 1) _ _ _ _ hr refl refl refl refl (known (2 * (l .r - 1)) .fits) (known (2 * (l .r - 1) + 1) .fits)
           (a .table .now) (a .longer .now) (a .counts .now) (l .table) (l .longer) (l .counts) (so-far turn),
     )
@@ -102,12 +110,17 @@ close-row-requires-2 c κs =
     let turn = c .before .before .before .before .before .before .before .before .before .before .before .before .before .before .before .before .before in
     let l = turn .before .loop in
     let hr : l .r - 1 < a .top = (let i = l .inv .0 in let k = turn .loop-test .taken in omega arith) in
-    let first = c .before .before .before .before .before .before .before .before .before .close-row in (
+    let first = c .before .before .before .before .before .before .before .before .before .close-row in
+    let long = row-long (a .edges .now) (a .n) (a .top) (a .below .now) (pre .5) (pre .6) (l .r - 1) _ _ _ _ hr refl refl refl refl
+    (known (2 * (l .r - 1)) .fits) (known (2 * (l .r - 1) + 1) .fits) in
+    let room : 2 * a .n ≤ length (first .last .1 .1 .1 .0) =
+    (let k = pre .2 in let q = first .kept .1 .1 .1 .0 ∙ l .inv .4 in omega arith) in (
       omega arith,
-      pre .0,
-      first .kept .1 .1 .1 .0 ∙ l .inv .3,
-      first .kept .1 .1 .1 .1 .0 ∙ l .inv .4,
-      first .kept .1 .1 .1 .1 .1 .0 ∙ l .inv .5,
+      long (a .edges .now) (pre .0) .1,
+      long (first .last .1 .1 .1 .0) room .1,
+      long (first .last .1 .1 .1 .1 .0) (let k = pre .3 in let q = first .kept .1 .1 .1 .1 .0 ∙ l .inv .5 in omega arith) .1,
+      first .kept .1 .1 .1 .1 .1 .0 ∙ l .inv .6,
+      inside-ample (a .edges .now) (first .last .1 .1 .1 .0) (a .n) (pre .5) room,
       ready-high (a .edges .now) (a .n) (a .top) (a .below .now) (pre .5) (pre .6) (l .r - 1) _ _ _ _ hr refl refl refl refl (known (2 * (l .r - 1)) .fits) (known (2 * (l .r - 1) + 1) .fits)
           (a .table .now) (a .longer .now) (a .counts .now) (l .table) (l .longer) (l .counts) (so-far turn) _ _ _ (first .ensures),
     )
@@ -129,9 +142,10 @@ loop-again c =
       omega arith,
       l .inv .1,
       l .inv .2,
-      second .kept .1 .1 .1 .0 ∙ first .kept .1 .1 .1 .0 ∙ l .inv .3,
-      second .kept .1 .1 .1 .1 .0 ∙ first .kept .1 .1 .1 .1 .0 ∙ l .inv .4,
-      second .kept .1 .1 .1 .1 .1 .0 ∙ first .kept .1 .1 .1 .1 .1 .0 ∙ l .inv .5,
+      l .inv .3,
+      second .kept .1 .1 .1 .0 ∙ first .kept .1 .1 .1 .0 ∙ l .inv .4,
+      second .kept .1 .1 .1 .1 .0 ∙ first .kept .1 .1 .1 .1 .0 ∙ l .inv .5,
+      second .kept .1 .1 .1 .1 .1 .0 ∙ first .kept .1 .1 .1 .1 .1 .0 ∙ l .inv .6,
       descended-more (a .edges .now) (a .n) (a .top) (a .below .now) (pre .5) (pre .6) (l .r - 1) _ _ _ _ hr refl refl refl refl (known (2 * (l .r - 1)) .fits) (known (2 * (l .r - 1) + 1) .fits)
           (a .table .now) (a .longer .now) (a .counts .now) (l .table) (l .longer) (l .counts) (so-far turn) _ _ _ (first .ensures) _ _ _ (second .ensures),
     )
@@ -151,7 +165,7 @@ returns c =
     let a = st .args in
     let l = c .before .loop in
     descended-all (a .edges .now) (a .n) (a .top) (a .below .now) (st .pre .5) (st .pre .6) (a .table .now) (a .longer .now) (a .counts .now) (l .table) (l .longer) (l .counts)
-    (subst (λ (r : ℕ). Descended (a .edges .now) (a .n) r (a .table .now) (a .longer .now) (a .counts .now) (l .table) (l .longer) (l .counts)) (let e : l .r ≡ 0 = (let k = c .loop-test .left in omega arith) in e) (l .inv .6))
+    (subst (λ (r : ℕ). Descended (a .edges .now) (a .n) r (a .table .now) (a .longer .now) (a .counts .now) (l .table) (l .longer) (l .counts)) (let e : l .r ≡ 0 = (let k = c .loop-test .left in omega arith) in e) (l .inv .7))
 
 pub close-spec : {M : Type 1} → statement M
 close-spec =

@@ -5,12 +5,14 @@ use lib.Count.{trailingZeros}
 use lib.ListN.{length}
 use borrow.Author.Needs.{needs}
 use Rattle.masks.proofs.Visiting.{lowest-lt, lowest-in, visited-less}
-use Rattle.descent.proofs.Rowing.{Closing, closing-none, closing-more, closing-all}
+use Rattle.descent.proofs.Rowing.{ample-same, Closing, closing-none, closing-more, closing-all}
 use Rattle.descent.proofs.close_row.Statement.{statement}
 use Rattle.descent.proofs.close_row.Tie as tie
 
 abbrev Inv-loop : tie.InvT-loop
-Inv-loop mask base edges table₀ longer₀ counts₀ x₀ table longer counts x = (length table ≡ 256) × (length longer ≡ 256) × (length counts ≡ 128) × Closing edges mask base table₀ longer₀ counts₀ table longer counts x
+Inv-loop mask base edges table₀ longer₀ counts₀ x₀ table longer counts x =
+    (length table ≡ length table₀) × (length longer ≡ length longer₀) × (length counts ≡ 128)
+    × Closing edges mask base table₀ longer₀ counts₀ table longer counts x
 
 abbrev μ-loop : tie.MeasureT-loop
 μ-loop mask base edges table₀ longer₀ counts₀ x₀ table longer counts x = x
@@ -19,7 +21,8 @@ loop-holds : tie.Need-loop-holds Inv-loop μ-loop
 loop-holds c =
     let st = c .before .before .before .before in
     let a = st .args in
-    (st .pre .2, st .pre .3, st .pre .4, closing-none (a .edges .now) (a .mask) (a .base) (a .table .now) (a .longer .now) (a .counts .now) (st .fits .mask .fits))
+    let none = closing-none (a .edges .now) (a .mask) (a .base) (a .table .now) (a .longer .now) (a .counts .now) (st .fits .mask .fits) in
+    (refl, refl, st .pre .4, none)
 
 -- the number of the member is below 64
 small : (c : tie.In-loop Inv-loop μ-loop) → trailingZeros 64 (c .before .loop .x) < 64
@@ -42,7 +45,19 @@ close-vertex-requires c κs =
     let k = small t in
     let base = st .pre .0 in
     let inside = lowest-in _ (l .x) _ (l .inv .3 .members) (t .loop-test .taken) in
-    (omega arith, st .pre .1, l .inv .0, l .inv .1, l .inv .2, λ w arc. l .inv .3 .kept w (st .pre .5 _ k inside w arc) .reached)
+    let e = st .pre .1 .room _ k inside in
+    let t = st .pre .2 .room _ k inside in
+    let f = st .pre .3 .room _ k inside in
+    let q = l .inv .0 in
+    let p = l .inv .1 in (
+      omega arith,
+      e,
+      omega arith,
+      omega arith,
+      l .inv .2,
+      ample-same _ _ _ q (st .pre .5),
+      λ w arc. l .inv .3 .kept w (st .pre .6 _ k inside w arc) .reached,
+    )
 
 loop-less : tie.Need-loop-less Inv-loop μ-loop
 loop-less c = let l = c .before .before .before .before .before .before .before .before .before .before .before .loop in visited-less _ (l .x) _ (l .inv .3 .members) (c .before .before .before .before .before .before .before .before .before .before .loop-test .taken)

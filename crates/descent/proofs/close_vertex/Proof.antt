@@ -5,7 +5,7 @@ use lib.Bits.{bitOr, or-lt}
 use lib.Count.{ones-le}
 use lib.ListN.{getD, set, length-set}
 use lib.Seq.{getD-set-same, getD-set-other}
-use Rattle.descent.proofs.Descending.{stored-law, nested-law, vertex-law}
+use Rattle.descent.proofs.Descending.{stored-law, long-law, nested-law, vertex-law}
 use borrow.Author.Needs.{needs}
 use Rattle.descent.proofs.close_vertex.Statement.{statement}
 use Rattle.descent.proofs.close_vertex.Tie as tie
@@ -35,7 +35,8 @@ reached-requires : tie.Need-reached-requires
 reached-requires c κs =
     let st = c .before .before .before .before .before .before .before in
     let a = st .args in
-    (st .pre .2, nested-law (a .edges .now) (a .table .now) (a .u) _ _ (st .pre .0) refl refl (st .pre .5))
+    let room = long-law (a .edges .now) (a .table .now) (a .u) _ _ (st .pre .0) refl refl (st .pre .5) in
+    (room .0, room .1, nested-law (a .edges .now) (a .table .now) (a .u) _ _ (st .pre .0) refl refl (st .pre .6))
 
 mul-longer : tie.Need-mul-longer
 mul-longer c = search needs
@@ -114,7 +115,7 @@ returns c =
     let a = st .args in
     let pre = st .pre in
     let p = c .before .before .reached in
-    vertex-law (a .edges .now) (a .table .now) (a .longer .now) (a .counts .now) (a .u) _ _ (p .result .low) (p .result .high) (pre .0) refl refl (p .ensures) (pre .5)
+    vertex-law (a .edges .now) (a .table .now) (a .longer .now) (a .counts .now) (a .u) _ _ (p .result .low) (p .result .high) (pre .0) refl refl (p .ensures) (pre .6)
     _ _ _ (stored-law (a .table .now) (a .u) _ _ (omega arith)) (stored-law (a .longer .now) (a .u) _ _ (omega arith))
     (getD-set-same (a .counts .now) (a .u) _ 0 (omega arith)) (λ w d. getD-set-other (a .counts .now) (a .u) w _ 0 d) (first-fits c) (second-fits c)
 

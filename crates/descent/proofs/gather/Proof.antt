@@ -1,16 +1,17 @@
-use mathlib.Core.Path.{_≡_, refl}
-use Prim.Native.Nat.{_≤_, _<_}
+use mathlib.Core.Path.{refl}
+use Prim.Native.Nat.{_+_, _*_, _≤_, _<_}
 use native.Mathlib.Omega.{arith}
 use lib.Count.{trailingZeros}
 use lib.ListN.{length}
 use borrow.Author.Needs.{needs}
-use Rattle.masks.proofs.Visiting.{lowest-lt, visited-less}
+use Rattle.masks.proofs.Visiting.{lowest-lt, lowest-in, visited-less}
+use Rattle.descent.specs.Members.{Long}
 use Rattle.descent.proofs.Gathering.{Gathering, gathering-none, gathering-more, gathering-all}
 use Rattle.descent.proofs.gather.Statement.{statement}
 use Rattle.descent.proofs.gather.Tie as tie
 
 abbrev Inv-loop : tie.InvT-loop
-Inv-loop table mask base low high a₀ b₀ x₀ a b x = (base ≤ 64) × (length table ≡ 256) × Gathering table mask base low high a b x
+Inv-loop table mask base low high a₀ b₀ x₀ a b x = (base ≤ 64) × Long table mask base × Gathering table mask base low high a b x
 
 abbrev μ-loop : tie.MeasureT-loop
 μ-loop table mask base low high a₀ b₀ x₀ a b x = x
@@ -21,6 +22,11 @@ loop-holds c = let a = c .args in (c .pre .0, c .pre .1, gathering-none (a .tabl
 -- the number of the member is below 64
 small : (c : tie.In-loop Inv-loop μ-loop) → trailingZeros 64 (c .before .loop .x) < 64
 small c = lowest-lt _ (c .before .loop .x) _ (c .before .loop .inv .2 .members) (c .loop-test .taken)
+
+-- the table has its masks
+room : (c : tie.In-loop Inv-loop μ-loop) → let a = c .before .before .args in
+    2 * (a .base + trailingZeros 64 (c .before .loop .x)) + 2 ≤ length (a .table .now)
+room c = let l = c .before .loop in l .inv .1 .room _ (small c) (lowest-in _ (l .x) _ (l .inv .2 .members) (c .loop-test .taken))
 
 cast-w : tie.Need-cast-w Inv-loop μ-loop
 cast-w c = omega (arith, small c)
@@ -35,7 +41,7 @@ mul-a-2 : tie.Need-mul-a-2 Inv-loop μ-loop
 mul-a-2 c = omega (arith, small c)
 
 shared-slice-read-a : tie.Need-shared-slice-read-a Inv-loop μ-loop
-shared-slice-read-a c = omega (arith, small (c .before))
+shared-slice-read-a c = omega (arith, room (c .before))
 
 mul-b : tie.Need-mul-b Inv-loop μ-loop
 mul-b c = omega (arith, small (c .before))
@@ -47,7 +53,7 @@ mul-b-2 : tie.Need-mul-b-2 Inv-loop μ-loop
 mul-b-2 c = omega (arith, small (c .before))
 
 shared-slice-read-b : tie.Need-shared-slice-read-b Inv-loop μ-loop
-shared-slice-read-b c = omega (arith, small (c .before .before))
+shared-slice-read-b c = omega (arith, room (c .before .before))
 
 sub-x : tie.Need-sub-x Inv-loop μ-loop
 sub-x c = search needs

@@ -1,16 +1,18 @@
 use mathlib.Core.Path.{_≡_, refl, _∙_, subst}
-use Prim.Native.Nat.{ℕ, _+_, _-_, _≤_, zero-le}
+use Prim.Native.Nat.{ℕ, _+_, _-_, _*_, _≤_, zero-le}
 use native.Mathlib.Omega.{arith}
 use lib.ListN.{length, length-set}
 use borrow.Author.Needs.{needs}
 use Rattle.descent.specs.Members.{Below}
 use Rattle.descent.proofs.Descending.{stored-law}
-use Rattle.descent.proofs.Rounding.{Round, round-none, round-more, round-over, round-refused}
+use Rattle.descent.proofs.Rounding.{Round, round-none, round-long, round-more, round-over, round-refused}
 use Rattle.descent.proofs.grown.Statement.{statement}
 use Rattle.descent.proofs.grown.Tie as tie
 
 abbrev Inv-loop : tie.InvT-loop
-Inv-loop edges n rows₀ below₀ first second low₀ high₀ r₀ rows below low high r = (r ≤ n) × (n ≤ 128) × (length edges ≡ 256) × (length rows ≡ 128) × (length below ≡ 258) × Below n first second × Round edges n r low high rows₀ rows below
+Inv-loop edges n rows₀ below₀ first second low₀ high₀ r₀ rows below low high r =
+    (r ≤ n) × (n ≤ 128) × (2 * n ≤ length edges) × (length rows ≡ 128) × (length below ≡ length below₀) × (2 * n + 2 ≤ length below)
+    × Below n first second × Round edges n r low high rows₀ rows below
 
 abbrev μ-loop : tie.MeasureT-loop
 μ-loop edges n rows₀ below₀ first second low₀ high₀ r₀ rows below low high r = n - r
@@ -19,10 +21,10 @@ below-n-requires : tie.Need-below-n-requires Inv-loop μ-loop
 below-n-requires c κs = c .before .before .before .pre .4 .small
 
 slice-write-below : tie.Need-slice-write-below Inv-loop μ-loop
-slice-write-below c = search needs
+slice-write-below c = let p = c .before .before .before .before .pre .3 in omega arith
 
 slice-write-below-2 : tie.Need-slice-write-below-2 Inv-loop μ-loop
-slice-write-below-2 c = search needs
+slice-write-below-2 c = simp length-set (let p = c .before .before .before .before .pre .3 in omega arith)
 
 loop-holds : tie.Need-loop-holds Inv-loop μ-loop
 loop-holds c =
@@ -34,13 +36,14 @@ loop-holds c =
       pre .4 .small,
       pre .1,
       pre .2,
+      refl,
       simp length-set (pre .3),
       c .below-n .ensures,
       round-none (a .edges .now) (a .n) (c .below-n .result .low) (c .below-n .result .high) (a .rows .now) _ (pre .0) (c .below-n .ensures) (zeros .low) (zeros .high),
     )
 
 image-requires : tie.Need-image-requires Inv-loop μ-loop
-image-requires c κs = c .before .loop .inv .2
+image-requires c κs = let l = c .before .loop in round-long _ _ (l .r) (l .low) (l .high) _ _ _ (l .inv .7) (l .inv .2)
 
 cast-set-rows : tie.Need-cast-set-rows Inv-loop μ-loop
 cast-set-rows c = search needs
@@ -82,7 +85,9 @@ same-length : tie.Need-same-length Inv-loop μ-loop
 same-length c = search needs
 
 same-length-2 : tie.Need-same-length-2 Inv-loop μ-loop
-same-length-2 c = simp length-set (omega arith)
+same-length-2 c =
+    let l = c .before .before .before .before .before .before .before .before .before .before .before .before .before .loop in
+    simp length-set (simp length-set at (l .inv .4))
 
 returns : tie.Need-returns Inv-loop μ-loop
 returns c =
@@ -93,7 +98,7 @@ returns c =
     let image = c .before .before .before .before .before .before .before .before .before .before .before .image in
     let one = c .before .before .before .before .before .before .before .set-rows in
     let two = c .before .before .before .set-rows2 in
-    round-over (a .edges .now) (a .n) (l .inv .1) (l .r) (l .low) (l .high) _ _ (image .result .low) (image .result .high) _ _ (a .rows .now) (l .rows) (l .below) (l .inv .6) (l .inv .5) (image .ensures) refl refl
+    round-over (a .edges .now) (a .n) (l .inv .1) (l .r) (l .low) (l .high) _ _ (image .result .low) (image .result .high) _ _ (a .rows .now) (l .rows) (l .below) (l .inv .7) (l .inv .6) (image .ensures) refl refl
     _ _ _ (one .ensures) (two .ensures) (stored-law (l .below) (l .r + 1) _ _ (omega arith)) (st .pre .4) (omega arith) (c .if1 .taken)
 
 loop-less : tie.Need-loop-less Inv-loop μ-loop
@@ -112,9 +117,10 @@ loop-again c =
       l .inv .1,
       l .inv .2,
       two .kept .1 .1 .1 .0 ∙ one .kept .1 .1 .1 .0 ∙ l .inv .3,
-      simp length-set (l .inv .4),
-      l .inv .5,
-      round-more (a .edges .now) (a .n) (l .inv .1) (l .r) (l .low) (l .high) _ _ (image .result .low) (image .result .high) _ _ (a .rows .now) (l .rows) (l .below) (l .inv .6) (l .inv .5) (image .ensures) refl refl
+      simp length-set (simp length-set at (l .inv .4)),
+      simp length-set (l .inv .5),
+      l .inv .6,
+      round-more (a .edges .now) (a .n) (l .inv .1) (l .r) (l .low) (l .high) _ _ (image .result .low) (image .result .high) _ _ (a .rows .now) (l .rows) (l .below) (l .inv .7) (l .inv .6) (image .ensures) refl refl
           _ _ _ (one .ensures) (two .ensures) (stored-law (l .below) (l .r + 1) _ _ (omega arith)) (c .if1 .left),
     )
 
@@ -122,7 +128,7 @@ same-length-3 : tie.Need-same-length-3 Inv-loop μ-loop
 same-length-3 c = search needs
 
 same-length-4 : tie.Need-same-length-4 Inv-loop μ-loop
-same-length-4 c = search needs
+same-length-4 c = simp length-set at (c .before .loop .inv .4)
 
 returns-2 : tie.Need-returns-2 Inv-loop μ-loop
 returns-2 c =
@@ -130,7 +136,7 @@ returns-2 c =
     let a = st .args in
     let l = c .before .loop in
     round-refused (a .edges .now) (a .n) (l .low) (l .high) (a .rows .now) (l .rows) (l .below) (st .pre .4)
-    (subst (λ (r : ℕ). Round (a .edges .now) (a .n) r (l .low) (l .high) (a .rows .now) (l .rows) (l .below)) (let e : l .r ≡ a .n = (let k = c .loop-test .left in let i = l .inv .0 in omega arith) in e) (l .inv .6))
+    (subst (λ (r : ℕ). Round (a .edges .now) (a .n) r (l .low) (l .high) (a .rows .now) (l .rows) (l .below)) (let e : l .r ≡ a .n = (let k = c .loop-test .left in let i = l .inv .0 in omega arith) in e) (l .inv .7))
 
 pub grown-spec : {M : Type 1} → statement M
 grown-spec =

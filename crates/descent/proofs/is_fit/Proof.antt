@@ -1,23 +1,48 @@
-use borrow.Author.Tests.{eq-eqb, ne-eqb}
+use mathlib.Core.Path.{_≡_, sym}
+use Prim.Native.Nat.{ℕ, _+_, _*_, _≤_, _<_, min}
+use native.Mathlib.Omega.{arith}
+use borrow.Author.Needs.{needs}
+use borrow.Author.Tests.{lt-leb, le-leb}
+use lib.Dec.{leb}
 use Rattle.descent.specs.Promise.{fits?}
 use Rattle.descent.proofs.is_fit.Statement.{statement}
 use Rattle.descent.proofs.is_fit.Tie as tie
 
+room-requires : tie.Need-room-requires
+room-requires c κs = search needs
+
 returns : tie.Need-returns
 unfolding fits?
-returns c = simp (ne-eqb _ _ (c .if1 .taken))
+returns c = simp (sym (c .before .room .ensures), lt-leb _ _ (c .if1 .taken))
+
+add-if2 : tie.Need-add-if2
+add-if2 c = omega (arith, c .before .room .ensures)
 
 returns-2 : tie.Need-returns-2
 unfolding fits?
-returns-2 c = simp (eq-eqb _ _ (c .before .if1 .left), ne-eqb _ _ (c .if2 .taken))
+returns-2 c =
+    let r = c .before .before .room in
+    let short : c .before .before .before .args .below < r .result + 2 = (let k = c .if2 .taken in omega arith) in
+    simp (sym (r .ensures), le-leb _ _ (c .before .if1 .left), lt-leb _ _ short)
+
+-- `below` has room for one set more
+roomy : (c : tie.Else2) → c .before .before .room .result + 2 ≤ c .before .before .before .args .below
+roomy c = let k = c .if2 .left in omega arith
 
 returns-3 : tie.Need-returns-3
 unfolding fits?
-returns-3 c = simp (eq-eqb _ _ (c .before .before .if1 .left), eq-eqb _ _ (c .before .if2 .left), ne-eqb _ _ (c .if3 .taken))
+returns-3 c =
+    let same = c .before .before .before .room .ensures in
+    simp (sym same, le-leb _ _ (c .before .before .if1 .left), le-leb _ _ (roomy (c .before)), lt-leb _ _ (c .if3 .taken))
+
+-- where the first three have room, it is the last that says
+last : (n k e b t l : ℕ) → k ≡ 2 * min n 128 → k ≤ e → k + 2 ≤ b → k ≤ t → leb k l ≡ fits? n e b t l
+unfolding fits?
+last n k e b t l q he hb ht = simp (sym q, le-leb _ _ he, le-leb _ _ hb, le-leb _ _ ht)
 
 returns-4 : tie.Need-returns-4
-unfolding fits?
-returns-4 c = simp (eq-eqb _ _ (c .before .before .if1 .left), eq-eqb _ _ (c .before .if2 .left), eq-eqb _ _ (c .if3 .left))
+returns-4 c =
+    last _ _ _ _ _ _ (c .before .before .before .room .ensures) (c .before .before .if1 .left) (roomy (c .before)) (c .if3 .left)
 
 pub is-fit-spec : {M : Type 1} → statement M
-is-fit-spec = tie.close (tie.spec returns returns-2 returns-3 returns-4)
+is-fit-spec = tie.close (tie.spec room-requires returns add-if2 returns-2 returns-3 returns-4)

@@ -1,17 +1,17 @@
-use mathlib.Core.Path.{_≡_}
-use Prim.Native.Nat.{_<_}
+use Prim.Native.Nat.{_+_, _*_, _≤_, _<_}
 use native.Mathlib.Omega.{arith}
 use lib.Count.{trailingZeros}
 use lib.ListN.{length}
 use borrow.Author.Needs.{needs}
-use Rattle.masks.proofs.Visiting.{lowest-lt}
+use Rattle.masks.proofs.Visiting.{lowest-lt, lowest-in}
+use Rattle.descent.specs.Members.{Long}
 use Rattle.descent.proofs.Gathering.{gathering-all, pictured-both}
 use Rattle.descent.proofs.Skipping.{First, first-none, first-more, nested-second, covered-second, skip-less}
 use Rattle.descent.proofs.reached.Statement.{statement}
 use Rattle.descent.proofs.reached.Tie as tie
 
 abbrev Inv-loop : tie.InvT-loop
-Inv-loop table low high a₀ b₀ x₀ a b x = (length table ≡ 256) × First table low high a b x
+Inv-loop table low high a₀ b₀ x₀ a b x = Long table low 0 × First table low high a b x
 
 abbrev μ-loop : tie.MeasureT-loop
 μ-loop table low high a₀ b₀ x₀ a b x = x
@@ -25,6 +25,11 @@ loop-holds c =
 small : (c : tie.In-loop Inv-loop μ-loop) → trailingZeros 64 (c .before .loop .x) < 64
 small c = lowest-lt _ (c .before .loop .x) _ (c .before .loop .inv .1 .so-far .members) (c .loop-test .taken)
 
+-- the table has its masks
+room : (c : tie.In-loop Inv-loop μ-loop)
+    → 2 * (0 + trailingZeros 64 (c .before .loop .x)) + 2 ≤ length (c .before .before .before .args .table .now)
+room c = let l = c .before .loop in l .inv .0 .room _ (small c) (lowest-in _ (l .x) _ (l .inv .1 .so-far .members) (c .loop-test .taken))
+
 cast-w : tie.Need-cast-w Inv-loop μ-loop
 cast-w c = omega (arith, small c)
 
@@ -35,7 +40,7 @@ mul-a-2 : tie.Need-mul-a-2 Inv-loop μ-loop
 mul-a-2 c = omega (arith, small c)
 
 shared-slice-read-a : tie.Need-shared-slice-read-a Inv-loop μ-loop
-shared-slice-read-a c = omega (arith, small (c .before))
+shared-slice-read-a c = omega (arith, room (c .before))
 
 mul-b : tie.Need-mul-b Inv-loop μ-loop
 mul-b c = omega (arith, small (c .before))
@@ -47,7 +52,7 @@ mul-b-2 : tie.Need-mul-b-2 Inv-loop μ-loop
 mul-b-2 c = omega (arith, small (c .before))
 
 shared-slice-read-b : tie.Need-shared-slice-read-b Inv-loop μ-loop
-shared-slice-read-b c = omega (arith, small (c .before .before))
+shared-slice-read-b c = omega (arith, room (c .before .before))
 
 sub-x : tie.Need-sub-x Inv-loop μ-loop
 sub-x c = search needs
@@ -60,14 +65,17 @@ loop-again c =
     let st = c .before .before .before .before .before in
     let a = st .args in
     let l = c .before .before .before .loop in
-    (l .inv .0, first-more (a .table .now) (a .low) (a .high) (st .pre .1) (λ i. c .shared-slice-known3 .given i .fits) (l .a) (l .b) (l .x) (l .inv .1) (c .before .before .loop-test .taken))
+    (l .inv .0, first-more (a .table .now) (a .low) (a .high) (st .pre .2) (λ i. c .shared-slice-known3 .given i .fits) (l .a) (l .b) (l .x) (l .inv .1) (c .before .before .loop-test .taken))
 
 with-second-requires : tie.Need-with-second-requires Inv-loop μ-loop
 with-second-requires c κs =
     let st = c .before .before .before in
     let a = st .args in
-    let l = c .before .loop in
-    (l .inv .0, nested-second (a .table .now) (a .low) (a .high) (st .pre .1), covered-second (a .table .now) (a .low) (a .high) (l .a) (l .b) (l .inv .1 .covered))
+    let l = c .before .loop in (
+      st .pre .1,
+      nested-second (a .table .now) (a .low) (a .high) (st .pre .2),
+      covered-second (a .table .now) (a .low) (a .high) (l .a) (l .b) (l .inv .1 .covered),
+    )
 
 returns : tie.Need-returns Inv-loop μ-loop
 returns c =

@@ -1,15 +1,15 @@
-use mathlib.Core.Path.{subst}
+use mathlib.Core.Path.{_≡_, refl, _∙_, subst}
 use mathlib.Core.Logic.{inl, inr}
 use Prim.Native.Nat.{ℕ, _+_, _-_, _*_, _≤_, zero-le}
 use native.Mathlib.Omega.{arith}
-use lib.ListN.{getD}
+use lib.ListN.{length, getD}
 use Rattle.descent.proofs.Scanning.{Scanning, scanning-none, scanning-more, scanned-strange, scanned-all}
 use borrow.Author.Needs.{needs}
 use Rattle.descent.proofs.scan.Statement.{statement}
 use Rattle.descent.proofs.scan.Tie as tie
 
 abbrev Inv-loop : tie.InvT-loop
-Inv-loop ends n edges₀ m double₀ i₀ edges double i = (i ≤ m) × Scanning n ends i edges double
+Inv-loop ends n edges₀ m double₀ i₀ edges double i = (i ≤ m) × (length edges ≡ length edges₀) × Scanning n ends i edges double
 
 abbrev μ-loop : tie.MeasureT-loop
 μ-loop ends n edges₀ m double₀ i₀ edges double i = m - i
@@ -17,7 +17,7 @@ abbrev μ-loop : tie.MeasureT-loop
 loop-holds : tie.Need-loop-holds Inv-loop μ-loop
 loop-holds c =
     let st = c .before .before in
-    (zero-le, scanning-none (st .args .n) (st .args .ends .now) (st .args .edges .now) (st .pre .1))
+    (zero-le, refl, scanning-none (st .args .n) (st .args .ends .now) (st .args .edges .now) (st .pre .2))
 
 mul-at : tie.Need-mul-at Inv-loop μ-loop
 mul-at c = search needs
@@ -45,7 +45,7 @@ returns c =
     let st = c .before .before .before .before .before .before .before .before .before in
     let l = c .before .before .before .before .before .before .loop in
     let bad : st .args .n ≤ getD (st .args .ends .now) (2 * l .i) 0 = subst (λ (x : ℕ). st .args .n ≤ x) (c .before .before .before .wide .ensures .0) (c .if1 .taken) in
-    scanned-strange (st .args .n) (st .args .ends .now) (l .i) (l .edges) (l .double) (l .inv .1) (c .before .before .before .before .before .loop-test .taken) (inl bad)
+    scanned-strange (st .args .n) (st .args .ends .now) (l .i) (l .edges) (l .double) (l .inv .2) (c .before .before .before .before .before .loop-test .taken) (inl bad)
 
 same-length-2 : tie.Need-same-length-2 Inv-loop μ-loop
 same-length-2 c = search needs
@@ -55,7 +55,7 @@ returns-2 c =
     let st = c .before .before .before .before .before .before .before .before .before .before in
     let l = c .before .before .before .before .before .before .before .loop in
     let bad : st .args .n ≤ getD (st .args .ends .now) (2 * l .i + 1) 0 = subst (λ (x : ℕ). st .args .n ≤ x) (c .before .before .wide2 .ensures .0) (c .if2 .taken) in
-    scanned-strange (st .args .n) (st .args .ends .now) (l .i) (l .edges) (l .double) (l .inv .1) (c .before .before .before .before .before .before .loop-test .taken) (inr bad)
+    scanned-strange (st .args .n) (st .args .ends .now) (l .i) (l .edges) (l .double) (l .inv .2) (c .before .before .before .before .before .before .loop-test .taken) (inr bad)
 
 mark-requires : tie.Need-mark-requires Inv-loop μ-loop
 mark-requires c κs = search needs
@@ -72,7 +72,9 @@ loop-again c =
     let l = c .before .before .before .before .before .before .before .before .before .before .before .loop in
     let here = c .before .before .before .before .before .before .before .before .before .before .loop-test .taken in (
       omega arith,
-      scanning-more (st .args .n) (st .args .ends .now) (l .i) (l .edges) (l .double) (st .pre .0) (l .inv .1) _ _ (c .before .before .before .before .before .before .before .before .wide .ensures .0) (c .before .before .before .before .before .before .wide2 .ensures .0) (c .before .before .before .before .before .if1 .left) (c .before .before .before .before .if2 .left) _ _ (c .before .before .mark .ensures),
+      c .before .before .mark .kept .0 ∙ l .inv .1,
+      scanning-more (st .args .n) (st .args .ends .now) (l .i) (l .edges) (l .double) (st .pre .0)
+          (let k = st .pre .1 in let q = l .inv .1 in omega arith) (l .inv .2) _ _ (c .before .before .before .before .before .before .before .before .wide .ensures .0) (c .before .before .before .before .before .before .wide2 .ensures .0) (c .before .before .before .before .before .if1 .left) (c .before .before .before .before .if2 .left) _ _ (c .before .before .mark .ensures),
     )
 
 same-length-3 : tie.Need-same-length-3 Inv-loop μ-loop
@@ -82,7 +84,7 @@ returns-3 : tie.Need-returns-3 Inv-loop μ-loop
 returns-3 c =
     let st = c .before .before .before .before in
     let l = c .before .loop in
-    scanned-all (st .args .n) (st .args .ends .now) (l .i) (l .edges) (l .double) (st .pre .0) (omega arith) (l .inv .1)
+    scanned-all (st .args .n) (st .args .ends .now) (l .i) (l .edges) (l .double) (st .pre .0) (omega arith) (l .inv .2)
 
 pub scan-spec : {M : Type 1} → statement M
 scan-spec =
