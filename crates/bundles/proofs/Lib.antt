@@ -14,7 +14,7 @@ pub mod Filling
 pub mod Gathering
 pub mod Standing
 pub mod Going
-pub mod Lining
+pub mod Putting
 pub mod Levels
 pub mod Theorems
 pub mod Answers

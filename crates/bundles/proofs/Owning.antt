@@ -12,15 +12,16 @@ use borrow.Author.Tests.{eq-eqb, eqb-true, lt-ltb, le-ltb, ltb-true}
 use lib.Bits.{bitAnd, bitOr}
 use lib.Dec.{eqb, ltb}
 use lib.ListN.{getD, set, replicate, length-replicate}
+use lib.Pow.{pow-pos}
 use Rattle.counting.proofs.Truth.{true-or-false, lt-or-le, and-intro, and-elim, same-truth}
 use Rattle.counting.proofs.Booleans.{and-no}
 use Rattle.masks.specs.Bits.{bit}
-use Rattle.masks.proofs.Bits.{bit-and, one-shl}
+use Rattle.masks.proofs.Bits.{bit-lt, bit-of-zero, bit-and, one-shl, bit-high, bit-not}
 use Rattle.masks.specs.Sets.{member, member?, at, inserted}
 use Rattle.masks.proofs.Sets.{inserted-length, member-lt}
 use Rattle.masks.proofs.Tables.{at-zeros, Put, put-law}
 use Rattle.bundles.specs.Sides.{adjacent?, apart?, tableSide?}
-use Rattle.bundles.specs.Steps.{Owned, Part, lowSide}
+use Rattle.bundles.specs.Steps.{FirstBits, Owned, Part, lowSide}
 
 -- a bit is set in a mask as the code does it
 pub stored : (s : List ℕ) (first v : ℕ) → set s (first + v / 64)
@@ -30,17 +31,17 @@ stored s first v = ap (λ (x : ℕ). set s (first + v / 64) (bitOr (getD s (firs
 
 -- ---- the table is filled
 
-pub owned-none : (channel : List ℕ) → Owned channel 0 (replicate 256 0)
+pub owned-none : (channels : ℕ) (channel : List ℕ) (k : ℕ) → 2 * channels ≤ k → Owned channels channel 0 (replicate k 0)
 unfolding at
-owned-none channel = record {
-  size = length-replicate {A = ℕ} 256 0;
-  only = λ c v h l e. absurd (let z = at-zeros 2 256 c v in omega arith);
+owned-none channels channel k room = record {
+  size = let e = length-replicate {A = ℕ} k 0 in omega arith;
+  only = λ c v h l e. absurd (let z = at-zeros 2 k c v in omega arith);
   all = λ c v h l. absurd (not-suc-le-zero l);
 }
 
-module _ (channel own : List ℕ) (j : ℕ) (o : Owned channel j own) where
-  -- the channel of j is not below 128
-  pub owned-skip : 128 ≤ getD channel j 0 → Owned channel (j + 1) own
+module _ (channels : ℕ) (channel own : List ℕ) (j : ℕ) (o : Owned channels channel j own) where
+  -- the channel of j is not one of these
+  pub owned-skip : channels ≤ getD channel j 0 → Owned channels channel (j + 1) own
   owned-skip high = record {
     size = o .size;
     only = λ c v h l e. let p = o .only c v h l e in (omega arith, p .1);
@@ -51,10 +52,10 @@ module _ (channel own : List ℕ) (j : ℕ) (o : Owned channel j own) where
   }
 
   -- j is put into the masks of its channel
-  pub owned-put : j < 128 → getD channel j 0 < 128 → Owned channel (j + 1) (inserted own (2 * getD channel j 0) j)
+  pub owned-put : j < 128 → getD channel j 0 < channels → Owned channels channel (j + 1) (inserted own (2 * getD channel j 0) j)
   unfolding at
   owned-put low small = record {
-    size = inserted-length own (2 * getD channel j 0) j ∙ o .size;
+    size = let e = inserted-length own (2 * getD channel j 0) j in let h = o .size in omega arith;
     only = λ c v h l e. only c v h l e (ℕ-discrete v j) (ℕ-discrete c (getD channel j 0));
     all = λ c v h l e. ⊎-elim
         (λ k. put .other c v (omega arith) (λ p q. omega arith) ∙ o .all c v h k e)
@@ -72,17 +73,18 @@ module _ (channel own : List ℕ) (j : ℕ) (o : Owned channel j own) where
           ap (λ (x : ℕ). member (inserted own (2 * getD channel j 0) j) (2 * x) v) k ∙ ap
           (member (inserted own (2 * getD channel j 0) j) (2 * getD channel j 0)) z ∙ put .here
 
-      only : (c v : ℕ) → c < 128 → v < 128 → member (inserted own (2 * getD channel j 0) j) (2 * c) v ≡ 1 → Dec (v ≡ j) → Dec
+      only : (c v : ℕ) → c < channels → v < 128 → member (inserted own (2 * getD channel j 0) j) (2 * c) v ≡ 1 → Dec (v ≡ j) → Dec
           (c ≡ getD channel j 0) → (v < j + 1) × (getD channel v 0 ≡ c)
       only c v h l e (yes p) (yes q) = (omega arith, ap (λ (u : ℕ). getD channel u 0) p ∙ sym q)
       only c v h l e (yes p) (no q) = absurd (let k = o .only c v h l (sym (put .other c v l (λ x y. q x)) ∙ e) .0 in omega arith)
       only c v h l e (no p) q = let k = o .only c v h l (sym (put .other c v l (λ x y. p y)) ∙ e) in (omega arith, k .1)
 
   -- the same as the code's loop takes it: k is the number of its channel
-  pub owned-more : (k : ℕ) → j < 128 → k ≡ getD channel j 0 → k < 128
-      → Owned channel (j + 1) (set own (2 * k + j / 64) (bitOr (getD own (2 * k + j / 64) 0) ((1 * 2 ^ (j % 64)) % 2 ^ 64)))
+  pub owned-more : (k : ℕ) → j < 128 → k ≡ getD channel j 0 → k < channels
+      → Owned channels channel (j + 1) (set own (2 * k + j / 64) (bitOr (getD own (2 * k + j / 64) 0) ((1 * 2 ^ (j % 64)) % 2 ^ 64)))
   owned-more k low e small =
-      subst (Owned channel (j + 1)) (sym (stored own (2 * k) j ∙ ap (λ (x : ℕ). inserted own (2 * x) j) e)) (owned-put low (omega arith))
+      subst (Owned channels channel (j + 1)) (sym (stored own (2 * k) j ∙ ap (λ (x : ℕ). inserted own (2 * x) j) e))
+      (owned-put low (omega arith))
 
 -- ---- a channel's two masks
 
@@ -94,7 +96,7 @@ as-bit s first i j l =
     let y : (64 * i + j) % 64 ≡ j = omega arith in
     ap (λ (k : ℕ). bit (getD s (first + k) 0) ((64 * i + j) % 64)) x ∙ ap (bit (getD s (first + i) 0)) y
 
-module _ (n : ℕ) (small : n ≤ 128) (channel own : List ℕ) (o : Owned channel n own) (c : ℕ) (low : c < 128) where
+module _ (n channels : ℕ) (small : n ≤ 128) (channel own : List ℕ) (o : Owned channels channel n own) (c : ℕ) (low : c < channels) where
   pub owned-part : (i mask base : ℕ) → i < 2 → mask ≡ getD own (2 * c + i) 0 → base ≡ 64 * i → Part n channel c mask base
   owned-part i mask base hi e z =
       subst (Part n channel c mask) (sym z)
@@ -120,15 +122,22 @@ module _ (n : ℕ) (small : n ≤ 128) (channel own : List ℕ) (o : Owned chann
         (λ (x : ℕ). min x (member own (2 * c) (64 * i + j))) (as-bit edges (2 * u) i j l) ∙ ap
         (min (bit (getD edges (2 * u + i) 0) j)) (as-bit own (2 * c) i j l))
 
-    pub masked : (j : ℕ) → j < 64 → lowSide n edges channel position u (base + j) ≡ (eqb (bit mask j) 1 && far j)
+    pub masked-heads : (j : ℕ) → j < 64 → bit mask j ≡ 1 → base + j < n
+    masked-heads j l m =
+        let b = both j l in
+        let x = member-lt edges (2 * u) (base + j) in
+        let y = member-lt own (2 * c) (base + j) in
+        o .only c (base + j) low (omega arith) (omega arith) .0
+
+    pub masked : (j : ℕ) → j < 64 → lowSide n channels edges channel position u (base + j) ≡ (eqb (bit mask j) 1 && far j)
     unfolding lowSide tableSide? apart?
     masked j l = same-truth _ (eqb (bit mask j) 1 && far j) there back
       where
-        there : lowSide n edges channel position u (base + j) ≡ true → (eqb (bit mask j) 1 && far j) ≡ true
+        there : lowSide n channels edges channel position u (base + j) ≡ true → (eqb (bit mask j) 1 && far j) ≡ true
         there t =
             let p = and-elim (member? edges (2 * u) (base + j) &&
             ((ltb u n && ltb (base + j) n) && (eqb (getD channel u 0) (getD channel (base + j) 0) && far j)))
-            (ltb (getD channel u 0) 128) t .0 in
+            (ltb (getD channel u 0) channels) t .0 in
             let q = and-elim (member? edges (2 * u) (base + j)) ((ltb u n && ltb (base + j) n) &&
             (eqb (getD channel u 0) (getD channel (base + j) 0) && far j)) p in
             let r = and-elim (ltb u n && ltb (base + j) n) (eqb (getD channel u 0) (getD channel (base + j) 0) && far j) (q .1) in
@@ -140,7 +149,7 @@ module _ (n : ℕ) (small : n ≤ 128) (channel own : List ℕ) (o : Owned chann
             let b = both j l in
             and-intro (eqb (bit mask j) 1) (far j) (eq-eqb (bit mask j) 1 (omega arith)) (s .1)
 
-        back : (eqb (bit mask j) 1 && far j) ≡ true → lowSide n edges channel position u (base + j) ≡ true
+        back : (eqb (bit mask j) 1 && far j) ≡ true → lowSide n channels edges channel position u (base + j) ≡ true
         back t =
             let p = and-elim (eqb (bit mask j) 1) (far j) t in
             let b = both j l in
@@ -149,20 +158,20 @@ module _ (n : ℕ) (small : n ≤ 128) (channel own : List ℕ) (o : Owned chann
             let y = member-lt own (2 * c) (base + j) in
             let w = o .only c (base + j) low (omega arith) (omega arith) in
             let w1 = w .1 in
-            and-intro _ (ltb (getD channel u 0) 128)
+            and-intro _ (ltb (getD channel u 0) channels)
             (and-intro (member? edges (2 * u) (base + j)) _ (eq-eqb (member edges (2 * u) (base + j)) 1 (omega arith))
             (and-intro (ltb u n && ltb (base + j) n) _
             (and-intro (ltb u n) (ltb (base + j) n) (lt-ltb u n below) (lt-ltb (base + j) n (w .0)))
             (and-intro (eqb (getD channel u 0) (getD channel (base + j) 0)) (far j)
             (eq-eqb (getD channel u 0) (getD channel (base + j) 0) (omega arith)) (p .1))))
-            (lt-ltb (getD channel u 0) 128 (omega arith))
+            (lt-ltb (getD channel u 0) channels (omega arith))
 
--- no edge out of u is bundled where its channel is not below 128
-pub high-channel : (n : ℕ) (edges channel position : List ℕ) (u : ℕ) → 128 ≤ getD channel u 0 → (v : ℕ)
-    → lowSide n edges channel position u v ≡ false
+-- no edge out of u is bundled where its channel is not one of these
+pub high-channel : (n channels : ℕ) (edges channel position : List ℕ) (u : ℕ) → channels ≤ getD channel u 0 → (v : ℕ)
+    → lowSide n channels edges channel position u v ≡ false
 unfolding lowSide
-high-channel n edges channel position u h v =
-    ap (λ t. tableSide? n edges (λ w. getD channel w 0) (λ w. getD position w 0) u v && t) (le-ltb (getD channel u 0) 128 h)
+high-channel n channels edges channel position u h v =
+    ap (λ t. tableSide? n edges (λ w. getD channel w 0) (λ w. getD position w 0) u v && t) (le-ltb (getD channel u 0) channels h)
     ∙ and-no (tableSide? n edges (λ w. getD channel w 0) (λ w. getD position w 0) u v)
 
 -- ---- no edge out of the vertices before u, as the loop that looks for one takes it
@@ -179,23 +188,31 @@ module _ (n : ℕ) (edges channel position : List ℕ) (u : ℕ) where
   far-from-u v = eqb (getD channel u 0) (getD channel v 0) && not (adjacent? (getD position u 0) (getD position v 0))
 
   -- where mask i has no such vertex, there is no edge into one of its 64
-  no-side-mask : (i mask : ℕ) → mask ≡ getD edges (2 * u + i) 0 → ((j : ℕ) → bit mask j ≡ 1 → far-from-u (64 * i + j) ≡ false)
-      → (j : ℕ) → j < 64 → tableSide? n edges (λ w. getD channel w 0) (λ w. getD position w 0) u (64 * i + j) ≡ false
+  no-side-mask : (i k mask ones : ℕ) → k ≡ n - 64 * i → mask ≡ bitAnd (getD edges (2 * u + i) 0) ones → FirstBits k ones
+      → ((j : ℕ) → bit mask j ≡ 1 → far-from-u (64 * i + j) ≡ false)
+      → (j : ℕ) → j < 64 → 64 * i + j < n → tableSide? n edges (λ w. getD channel w 0) (λ w. getD position w 0) u (64 * i + j) ≡ false
   unfolding tableSide? apart?
-  no-side-mask i mask e h j l =
+  no-side-mask i k mask ones k-is e first h j l m =
       ⊎-elim
-      (λ t. ap (λ s. member? edges (2 * u) (64 * i + j) && ((ltb u n && ltb (64 * i + j) n) && s))
-      (h j (ap (λ (m : ℕ). bit m j) e ∙ sym (as-bit edges (2 * u) i j l) ∙ eqb-true _ 1 t))
+      (λ t. ap (λ s. member? edges (2 * u) (64 * i + j) && ((ltb u n && ltb (64 * i + j) n) && s)) (h j (has t))
       ∙ ap (λ s. member? edges (2 * u) (64 * i + j) && s) (and-no (ltb u n && ltb (64 * i + j) n))
       ∙ and-no (member? edges (2 * u) (64 * i + j)))
       (λ t. ap (λ s. s && ((ltb u n && ltb (64 * i + j) n) && far-from-u (64 * i + j))) t)
       (true-or-false (member? edges (2 * u) (64 * i + j)))
+    where
+      has : member? edges (2 * u) (64 * i + j) ≡ true → bit mask j ≡ 1
+      has t =
+          let a = sym (as-bit edges (2 * u) i j l) ∙ eqb-true _ 1 t in
+          let b = first .all j l (omega arith) in
+          let d = bit-and (getD edges (2 * u + i) 0) ones j in
+          ap (λ (m : ℕ). bit m j) e ∙ (let z : bit (bitAnd (getD edges (2 * u + i) 0) ones) j ≡ 1 = omega arith in z)
 
   -- nor out of u, where neither of its two masks has a vertex of its channel that is not next to it
-  pub no-side-more : n ≤ 128 → NoSide n edges channel position u → (low high : ℕ) → low ≡ getD edges (2 * u + 0) 0
-      → high ≡ getD edges (2 * u + 1) 0 → ((j : ℕ) → bit low j ≡ 1 → far-from-u (0 + j) ≡ false)
+  pub no-side-more : n ≤ 128 → NoSide n edges channel position u → (low high first second : ℕ)
+      → low ≡ bitAnd (getD edges (2 * u + 0) 0) first → high ≡ bitAnd (getD edges (2 * u + 1) 0) second
+      → FirstBits n first → FirstBits (n - 64) second → ((j : ℕ) → bit low j ≡ 1 → far-from-u (0 + j) ≡ false)
       → ((j : ℕ) → bit high j ≡ 1 → far-from-u (64 + j) ≡ false) → NoSide n edges channel position (u + 1)
-  no-side-more small o low high a b f g = record {
+  no-side-more small o low high first second a b x y f g = record {
     none = λ a v l m. ⊎-elim (λ k. o .none a v k m) (λ k. ap (λ (x : ℕ). side x v) (let e : a ≡ u = omega arith in e) ∙ out v m)
         (lt-or-le a u);
   }
@@ -205,6 +222,32 @@ module _ (n : ℕ) (edges channel position : List ℕ) (u : ℕ) where
 
       out : (v : ℕ) → v < n → side u v ≡ false
       out v m = ⊎-elim
-          (λ k. ap (side u) (let e : v ≡ 64 * 0 + v = omega arith in e) ∙ no-side-mask 0 low a f v k)
-          (λ k. ap (side u) (let e : v ≡ 64 * 1 + (v - 64) = omega arith in e) ∙ no-side-mask 1 high b g (v - 64) (omega arith))
+          (λ k. ap (side u) (let e : v ≡ 64 * 0 + v = omega arith in e) ∙ no-side-mask 0 n low first (omega arith) a x f v k (omega arith))
+          (λ k. ap (side u) (let e : v ≡ 64 * 1 + (v - 64) = omega arith in e)
+          ∙ no-side-mask 1 (n - 64) high second (omega arith) b y g (v - 64) (omega arith) (omega arith))
           (lt-or-le v 64)
+
+-- ---- the first bits
+
+-- a member of a mask that is cut to the first k
+pub cut-below : (x k ones : ℕ) → FirstBits k ones → (j : ℕ) → j < 64 → bit (bitAnd x ones) j ≡ 1 → j < k
+cut-below x k ones first j l e =
+    let d = bit-and x ones j in
+    let a = bit-lt x j in
+    let b = bit-lt ones j in
+    first .only j l (omega arith)
+
+pub first-of : (k mask : ℕ) → mask ≡ 2 ^ k - 1 → FirstBits k mask
+first-of k mask e = record {
+  only = λ j l t. ⊎-elim (λ m. m) (λ m. absurd (let z = bit-high k (2 ^ k - 1) j (let p = pow-pos k in omega arith) m in
+      let q = ap (λ (x : ℕ). bit x j) e in omega arith)) (lt-or-le j k);
+  all = λ j l m. ap (λ (x : ℕ). bit x j) (e ∙ (let q : 2 ^ k - 1 ≡ (2 ^ k - 1) - 0 = omega arith in q)) ∙ bit-not k 0 j (pow-pos k) m ∙
+      (let z = bit-of-zero j in omega arith);
+}
+
+-- all of them
+pub first-all : (k mask : ℕ) → 64 ≤ k → FirstBits 64 mask → FirstBits k mask
+first-all k mask h o = record { only = λ j l t. omega arith; all = λ j l m. o .all j l l }
+
+pub first-rest : (n t mask : ℕ) → t ≡ min n 64 → FirstBits (n - t) mask → FirstBits (n - 64) mask
+first-rest n t mask e = subst (λ (k : ℕ). FirstBits k mask) (let z : n - t ≡ n - 64 = omega arith in z)

@@ -1,26 +1,41 @@
 -- The state stands for the bundles made so far: at the start, after a bundle, and at the end. Assumes nothing.
 use mathlib.Core.Path.{_≡_, refl, sym, ap, ap₂, _∙_, subst}
 use mathlib.Core.Logic.{_≢_, _⊎_, inl, inr, ⊎-elim}
-use mathlib.Core.Bool.{Bool, true, false, not, _&&_}
+use mathlib.Core.Bool.{Bool, true, false, true≢false, not, _&&_}
 use mathlib.Core.List.{List, [], _∷_, _++_}
-use Prim.Native.Nat.{ℕ, zero, suc, _+_, _*_, _≤_, _<_, min, max}
+use Prim.Native.Nat.{ℕ, _+_, _*_, _≤_, _<_, min, max}
 use native.Mathlib.Decide.{ℕ-discrete}
 use native.Mathlib.Omega.{arith}
 use borrow.Author.Tests.{eq-eqb, ne-eqb, lt-ltb, ltb-true}
 use lib.Dec.{eqb, ltb}
-use lib.ListN.{length, getD, set, replicate, length-set, length-append, List·getD-append, List·getD-eq-default}
+use lib.ListN.{length, getD, set, length-set, length-append, List·getD-append, List·getD-eq-default}
 use lib.Seq.{getD-set-same, getD-set-other, getD-append-seam}
 use Rattle.counting.specs.Count.{indicator, count}
 use Rattle.counting.proofs.Truth.{true-or-false, lt-or-le, and-elim, two-cases}
 use Rattle.counting.proofs.Falsity.{not-true}
 use Rattle.counting.proofs.Sums.{sum-ext, sum-less}
 use Rattle.counting.proofs.Classes.{sum-term}
-use Rattle.counting.proofs.Zeros.{zeros}
 use Rattle.masks.specs.Sets.{member, member?}
 use Rattle.masks.proofs.Sets.{member-lt}
 use Rattle.bundles.specs.Bundles.{Bundle, gathers, taken, along, waits, waitsAt, lowest, highest, made}
 use Rattle.bundles.specs.Promise.{empty, numberFrom, Listed}
-use Rattle.bundles.specs.Steps.{endOf, Sets, sideIn, Filled, Loaded, openAt, State, state, Room, Added, Column, Holds, Stands}
+use Rattle.bundles.specs.Steps.{
+  endOf,
+  Sets,
+  sideIn,
+  Filled,
+  Loaded,
+  openAt,
+  State,
+  state,
+  AsLong,
+  Room,
+  Added,
+  Column,
+  Holds,
+  Stands,
+  Blank,
+}
 use Rattle.counting.proofs.Booleans.{and-no, and-yes}
 use Rattle.bundles.proofs.Ends.{end-below, same-end, other-end}
 use Rattle.counting.proofs.Choosing.{choose-yes, choose-no}
@@ -39,8 +54,8 @@ module _ (n : ℕ) (small : n ≤ 128) (sets : List ℕ) where
       let b = and-elim (ltb u n) (ltb v n) (a .0) in
       (ltb-true u n (b .0), ltb-true v n (b .1))
 
-  module _ (side : ℕ → ℕ → Bool) (inside : (u v : ℕ) → side u v ≡ true → (u < n) × (v < n)) (s : Sets side sets) where
-    pub side-same : (u v : ℕ) → u < 128 → v < 128 → sideIn n sets u v ≡ side u v
+  module _ (side : ℕ → ℕ → Bool) (inside : (u v : ℕ) → side u v ≡ true → (u < n) × (v < n)) (s : Sets n side sets) where
+    pub side-same : (u v : ℕ) → u < n → v < 128 → sideIn n sets u v ≡ side u v
     unfolding sideIn
     side-same u v l m = ap (λ t. (ltb u n && ltb v n) && t) (s .has false u v l m) ∙ go (side u v) refl
       where
@@ -48,19 +63,25 @@ module _ (n : ℕ) (small : n ≤ 128) (sets : List ℕ) where
         go true e = let i = inside u v e in ap₂ (λ a b. (a && b) && side u v) (lt-ltb u n (i .0)) (lt-ltb v n (i .1))
         go false e = ap (λ t. (ltb u n && ltb v n) && t) e ∙ and-no (ltb u n && ltb v n) ∙ sym e
 
-    pub sets-own : Sets (sideIn n sets) sets
+    -- an edge that neither has
+    both-none : (u v : ℕ) → n ≤ u → sideIn n sets u v ≡ side u v
+    both-none u v l =
+        not-true (sideIn n sets u v) (λ e. let i = side-inside u v e .0 in omega arith)
+        ∙ sym (not-true (side u v) (λ e. let i = inside u v e .0 in omega arith))
+
+    pub sets-own : Sets n (sideIn n sets) sets
     sets-own = record { size = s .size; has = has }
       where
-        has : (d : Bool) (v w : ℕ) → v < 128 → w < 128 → member? sets (2 * endOf d v) w ≡ along d (sideIn n sets) v w
-        has true v w l m = s .has true v w l m ∙ sym (side-same w v m l)
+        has : (d : Bool) (v w : ℕ) → v < n → w < 128 → member? sets (2 * endOf d v) w ≡ along d (sideIn n sets) v w
+        has true v w l m =
+            s .has true v w l m ∙ sym (⊎-elim (λ k. side-same w v k (omega arith)) (both-none w v) (lt-or-le w n))
         has false v w l m = s .has false v w l m ∙ sym (side-same v w l m)
 
 -- ---- at the start
 
-numbers : (k i : ℕ) → i < k → _≡_ {A = ℕ} (getD (replicate k 256) i 0) 256
-numbers zero i h = absurd (omega arith)
-numbers (suc k) zero h = refl
-numbers (suc k) (suc i) h = numbers k i (omega arith)
+-- a list of zeros is 0 past its end too
+blank-value : (l : List ℕ) → Filled 0 (length l) l → (b : ℕ) → getD l b 0 ≡ 0
+blank-value l f b = ⊎-elim (λ h. f .value b h) (λ h. List·getD-eq-default l 0 h) (lt-or-le b (length l))
 
 indicator-member : (x : ℕ) → x < 2 → x ≡ indicator (eqb x 1)
 indicator-member x l = ⊎-elim (λ e. rw e) (λ e. rw e) (two-cases x l)
@@ -76,33 +97,38 @@ module _ (n : ℕ) (small : n ≤ 128) (side : ℕ → ℕ → Bool) (inside : (
   nothing-taken false v w = sym (and-yes (side v w))
 
   -- no bundle yet
-  pub stands-none : (sets load : List ℕ) → Sets side sets → Loaded sets load
-      → Stands n side [] (state 0 (replicate 256 0) (replicate 256 0) (replicate 256 0) (replicate 256 256) load)
+  pub stands-none : (sets load of first last number : List ℕ) → Sets n side sets → Loaded n sets load → Blank n of first last number
+      → Stands n side [] (state 0 of first last number load)
   unfolding numberFrom count
-  stands-none sets load s l = record {
+  stands-none sets load of first last number s l b = record {
     holds = record {
-      sized = record { channel = refl; first = refl; last = refl; number = refl; load = l .size };
+      sized = record { channel = b .channel .0; first = b .first .0; last = b .last .0; number = b .number .0; load = l .size };
       counted = refl;
-      channel = record { value = zeros 256 };
-      first = record { value = zeros 256 };
-      last = record { value = zeros 256 };
-      number = λ d v h. numbers 256 (endOf d v) (end-below d v h);
+      channel = record { value = blank-value of (b .channel .1) };
+      first = record { value = blank-value first (b .first .1) };
+      last = record { value = blank-value last (b .last .1) };
+      number = λ d v h. b .number .1 .value (endOf d v) (let q = end-below d n v h in let r = b .number .0 in omega arith);
+      past = λ e h k. b .number .1 .value e k;
     };
     load = λ d v h. l .value d v h
-        ∙ sum-ext 128 (member sets (2 * endOf d v)) (λ w. indicator (along d side v w)) (λ w m. indicator-member (member sets (2 * endOf d v) w) (member-lt sets (2 * endOf d v) w) ∙ ap indicator (s .has d v w h m))
+        ∙ sum-ext 128 (member sets (2 * endOf d v)) (λ w. indicator (along d side v w))
+        (λ w m. indicator-member (member sets (2 * endOf d v) w) (member-lt sets (2 * endOf d v) w) ∙ ap indicator (s .has d v w h m))
         ∙ sum-less n 128 (λ w. indicator (along d side v w)) small (λ w a b. ap indicator (along-inside d v w a))
-        ∙ sum-ext n (λ w. indicator (along d side v w)) (λ w. indicator (waitsAt side [] d v w)) (λ w m. ap indicator (nothing-taken d v w));
+        ∙ sum-ext n (λ w. indicator (along d side v w)) (λ w. indicator (waitsAt side [] d v w))
+        (λ w m. ap indicator (nothing-taken d v w));
   }
 
 -- ---- after a bundle
 
-pub column-more : (f : Bundle → ℕ) → f empty ≡ 0 → (bs : List Bundle) (values : List ℕ) (b : Bundle) → length bs < length values → Column f bs values → Column f (bs ++ (b ∷ [])) (set values (length bs) (f b))
+pub column-more : (f : Bundle → ℕ) → f empty ≡ 0 → (bs : List Bundle) (values : List ℕ) (b : Bundle) → length bs < length values
+    → Column f bs values → Column f (bs ++ (b ∷ [])) (set values (length bs) (f b))
 column-more f z bs values b h c = record { value = value }
   where
     value : (i : ℕ) → getD (set values (length bs) (f b)) i 0 ≡ f (getD (bs ++ (b ∷ [])) i empty)
     value i =
         ⊎-elim
-        (λ l. getD-set-other values (length bs) i (f b) 0 (λ e. omega arith) ∙ c .value i ∙ ap f (sym (List·getD-append bs (b ∷ []) empty i l)))
+        (λ l. getD-set-other values (length bs) i (f b) 0 (λ e. omega arith) ∙ c .value i
+        ∙ ap f (sym (List·getD-append bs (b ∷ []) empty i l)))
         (λ l. past (ℕ-discrete i (length bs)) l)
         (lt-or-le i (length bs))
       where
@@ -110,10 +136,33 @@ column-more f z bs values b h c = record { value = value }
         past (yes q) l = rw q (getD-set-same values (length bs) (f b) 0 h ∙ ap f (sym (getD-append-seam bs b [] empty)))
         past (no q) l =
             getD-set-other values (length bs) i (f b) 0 q ∙ c .value i
-            ∙ ap f (List·getD-eq-default bs empty l ∙ sym (List·getD-eq-default (bs ++ (b ∷ [])) empty (let e = length-append bs (b ∷ []) in omega arith)))
+            ∙ ap f (List·getD-eq-default bs empty l ∙ sym
+            (List·getD-eq-default (bs ++ (b ∷ [])) empty (let e = length-append bs (b ∷ []) in omega arith)))
+
+pub as-long : (s : State) → AsLong s s
+as-long s = record { channel = refl; first = refl; last = refl; number = refl; load = refl }
+
+pub as-long-then : (s t r : State) → AsLong s t → AsLong t r → AsLong s r
+as-long-then s t r a b = record {
+  channel = b .channel ∙ a .channel;
+  first = b .first ∙ a .first;
+  last = b .last ∙ a .last;
+  number = b .number ∙ a .number;
+  load = b .load ∙ a .load;
+}
+
+pub added-long : (sets rows : List ℕ) (c : ℕ) (d : Bool) (v : ℕ) (s r : State) → Added sets rows c d v s r → AsLong s r
+added-long sets rows c d v s r a = record {
+  channel = ap length (a .channel) ∙ length-set (s .channel) (s .count) _;
+  first = ap length (a .first) ∙ length-set (s .first) (s .count) _;
+  last = ap length (a .last) ∙ length-set (s .last) (s .count) _;
+  number = ap length (a .number) ∙ length-set (s .number) (endOf d v) _;
+  load = a .size;
+}
 
 -- an end that the new bundle is not of keeps its number
-number-same : (bs : List Bundle) (b : Bundle) (d : Bool) (v : ℕ) → gathers b d v ≡ false → numberFrom 0 (bs ++ (b ∷ [])) d v ≡ numberFrom 0 bs d v
+number-same : (bs : List Bundle) (b : Bundle) (d : Bool) (v : ℕ) → gathers b d v ≡ false
+    → numberFrom 0 (bs ++ (b ∷ [])) d v ≡ numberFrom 0 bs d v
 number-same bs b d v e =
     ⊎-elim
     (λ t. number-kept 0 bs (b ∷ []) d v t)
@@ -126,32 +175,47 @@ same-or-not true false = inr refl
 same-or-not false true = inr refl
 same-or-not false false = inl refl
 
-module _ (n : ℕ) (small : n ≤ 128) (side : ℕ → ℕ → Bool) (inside : (u v : ℕ) → side u v ≡ true → (u < n) × (v < n)) (sets rows : List ℕ) (s : Sets side sets)
-    (bs : List Bundle) (st : State) (o : Stands n side bs st) (d : Bool) (v : ℕ) (below : v < n) (few : length bs < 256) (some : 0 < count n (waitsAt side bs d v)) where
+module _ (n : ℕ) (small : n ≤ 128) (side : ℕ → ℕ → Bool) (inside : (u v : ℕ) → side u v ≡ true → (u < n) × (v < n))
+    (sets rows : List ℕ) (s : Sets n side sets) (bs : List Bundle) (st : State) (o : Stands n side bs st) (d : Bool) (v : ℕ)
+    (below : v < n) (few : length bs < 2 * n) (some : 0 < count n (waitsAt side bs d v)) where
+  waits-inside : (w : ℕ) → n ≤ w → waitsAt side bs d v w ≡ false
+  waits-inside w l =
+      waits-ends side bs d v w
+      ∙ ap (λ t. t && (not (gathered bs d v) && not (gathered bs (not d) w))) (along-inside n small side inside d v w l)
+
   -- the code's test of an edge is the rule's
   open-waits : (w : ℕ) → w < 128 → openAt sets (st .number) d v w ≡ waitsAt side bs d v w
   unfolding openAt
   open-waits w l =
-      ap₂ (λ a b. a && b) (s .has d v w (omega arith) l) (ap (λ (x : ℕ). eqb x 256) (o .holds .number (not d) w l) ∙ open-end bs (not d) w (omega arith))
+      ⊎-elim
+      (λ k. ap₂ (λ a b. a && b) (s .has d v w below l)
+      (ap (λ (x : ℕ). eqb x 256) (o .holds .number (not d) w k) ∙ open-end bs (not d) w (omega arith))
       ∙ ap (λ t. along d side v w && (t && not (gathered bs (not d) w))) (sym (ap not (waiting-open side bs d v n some)))
-      ∙ sym (waits-ends side bs d v w)
+      ∙ sym (waits-ends side bs d v w))
+      (λ k. ap (λ t. t && eqb (getD (st .number) (endOf (not d) w) 0) 256)
+      (s .has d v w below l ∙ along-inside n small side inside d v w k) ∙ sym (waits-inside w k))
+      (lt-or-le w n)
 
-  pub stands-room : length rows ≡ 128 → Room sets rows d v st
+  pub stands-room : n ≤ length rows → Room sets rows d v st
   unfolding count
   stands-room h = record {
+    n = n;
+    small = small;
     sized = o .holds .sized;
     count = (let e = o .holds .counted in omega arith);
-    vertex = omega arith;
+    vertex = below;
     masks = s .size;
     long = h;
-    counted = λ w l t. let e = o .load (not d) w l in
+    inside = λ w l t. ⊎-elim (λ k. k)
+        (λ k. absurd (true≢false (sym t ∙ s .has d v w below l ∙ along-inside n small side inside d v w k))) (lt-or-le w n);
+    counted = λ w l t. ⊎-elim
+        (λ k. let e = o .load (not d) w k in
         let i = ap indicator (sym (turned side bs d w v) ∙ sym (open-waits w l) ∙ t) in
         let p = sum-term n (λ x. indicator (waitsAt side bs (not d) w x)) v below in
-        omega arith;
+        omega arith)
+        (λ k. absurd (true≢false (sym t ∙ open-waits w l ∙ waits-inside w k)))
+        (lt-or-le w n);
   }
-
-  waits-inside : (w : ℕ) → n ≤ w → waitsAt side bs d v w ≡ false
-  waits-inside w l = waits-ends side bs d v w ∙ ap (λ t. t && (not (gathered bs d v) && not (gathered bs (not d) w))) (along-inside n small side inside d v w l)
 
   module _ (channel position : ℕ → ℕ) (c : ℕ) (r : State) (a : Added sets rows c d v st r) where
     abbrev b : Bundle
@@ -165,7 +229,8 @@ module _ (n : ℕ) (small : n ≤ 128) (side : ℕ → ℕ → Bool) (inside : (
     unfolding made
     first-is =
         ap (λ (x : ℕ). min x (getD rows v 0))
-        (joined-ext min 255 128 (openAt sets (st .number) d v) (waitsAt side bs d v) (λ w. getD rows w 0) (λ w. getD rows w 0) open-waits (λ w l. refl)
+        (joined-ext min 255 128 (openAt sets (st .number) d v) (waitsAt side bs d v) (λ w. getD rows w 0) (λ w. getD rows w 0) open-waits
+        (λ w l. refl)
         ∙ lowest-cut n 128 (waitsAt side bs d v) (λ w. getD rows w 0) small (λ w l m. waits-inside w l))
         ∙ sym (lowest-with n (waitsAt side bs d v) (λ w. getD rows w 0) v below)
 
@@ -173,7 +238,8 @@ module _ (n : ℕ) (small : n ≤ 128) (side : ℕ → ℕ → Bool) (inside : (
     unfolding made
     last-is =
         ap (λ (x : ℕ). max x (getD rows v 0))
-        (joined-ext max 0 128 (openAt sets (st .number) d v) (waitsAt side bs d v) (λ w. getD rows w 0) (λ w. getD rows w 0) open-waits (λ w l. refl)
+        (joined-ext max 0 128 (openAt sets (st .number) d v) (waitsAt side bs d v) (λ w. getD rows w 0) (λ w. getD rows w 0) open-waits
+        (λ w l. refl)
         ∙ highest-cut n 128 (waitsAt side bs d v) (λ w. getD rows w 0) small (λ w l m. waits-inside w l))
         ∙ sym (highest-with n (waitsAt side bs d v) (λ w. getD rows w 0) v below)
 
@@ -182,90 +248,106 @@ module _ (n : ℕ) (small : n ≤ 128) (side : ℕ → ℕ → Bool) (inside : (
     channel-is = refl
 
     -- a column with the value of the new bundle
-    column : (f : Bundle → ℕ) → f empty ≡ 0 → (values is : List ℕ) (x : ℕ) → length values ≡ 256 → Column f bs values → x ≡ f b → is ≡ set values (st .count) x → Column f (bs ++ (b ∷ [])) is
+    column : (f : Bundle → ℕ) → f empty ≡ 0 → (values is : List ℕ) (x : ℕ) → 2 * n ≤ length values → Column f bs values → x ≡ f b
+        → is ≡ set values (st .count) x → Column f (bs ++ (b ∷ [])) is
     column f z values is x l k e q =
         subst (Column f (bs ++ (b ∷ []))) (sym (q ∙ ap₂ (set values) (o .holds .counted) e)) (column-more f z bs values b (omega arith) k)
 
-    number : (t : Bool) (u : ℕ) → u < 128 → getD (r .number) (endOf t u) 0 ≡ numberFrom 0 (bs ++ (b ∷ [])) t u
-    number t u l = ap (λ (x : List ℕ). getD x (endOf t u) 0) (a .number) ∙ ⊎-elim (λ q. same t q (ℕ-discrete u v)) (λ q. other t q) (same-or-not d t)
+    number : (t : Bool) (u : ℕ) → u < n → getD (r .number) (endOf t u) 0 ≡ numberFrom 0 (bs ++ (b ∷ [])) t u
+    number t u l = ap (λ (x : List ℕ). getD x (endOf t u) 0) (a .number)
+        ∙ ⊎-elim (λ q. same t q (ℕ-discrete u v)) (λ q. other t q) (same-or-not d t)
       where
-        kept : (t : Bool) → gathers b t u ≡ false → endOf t u ≢ endOf d v → getD (set (st .number) (endOf d v) (st .count)) (endOf t u) 0 ≡ numberFrom 0 (bs ++ (b ∷ [])) t u
-        kept t g ne = getD-set-other (st .number) (endOf d v) (endOf t u) (st .count) 0 ne ∙ o .holds .number t u l ∙ sym (number-same bs b t u g)
+        kept : (t : Bool) → gathers b t u ≡ false → endOf t u ≢ endOf d v
+            → getD (set (st .number) (endOf d v) (st .count)) (endOf t u) 0 ≡ numberFrom 0 (bs ++ (b ∷ [])) t u
+        kept t g ne = getD-set-other (st .number) (endOf d v) (endOf t u) (st .count) 0 ne ∙ o .holds .number t u l
+            ∙ sym (number-same bs b t u g)
 
-        same : (t : Bool) → t ≡ d → Dec (u ≡ v) → getD (set (st .number) (endOf d v) (st .count)) (endOf t u) 0 ≡ numberFrom 0 (bs ++ (b ∷ [])) t u
+        same : (t : Bool) → t ≡ d → Dec (u ≡ v) → getD (set (st .number) (endOf d v) (st .count)) (endOf t u) 0 ≡ numberFrom 0
+            (bs ++ (b ∷ [])) t u
         same t q (yes e) =
             rw (q, e)
-            (getD-set-same (st .number) (endOf d v) (st .count) 0 (let e = o .holds .sized .number in let q = end-below d v (omega arith) in omega arith)
+            (getD-set-same (st .number) (endOf d v) (st .count) 0
+            (let e = o .holds .sized .number in let q = end-below d n v below in omega arith)
             ∙ o .holds .counted
-            ∙ sym (number-last 0 bs b d v (waiting-open side bs d v n some) ∙ choose-yes (gathers b d v) (λ _. 0 + length bs) (λ _. 256) (of-here b d v v of ∙ eq-eqb v v refl) ∙ (let z : 0 + length bs ≡ length bs = omega arith in z)))
+            ∙ sym (number-last 0 bs b d v (waiting-open side bs d v n some)
+            ∙ choose-yes (gathers b d v) (λ _. 0 + length bs) (λ _. 256) (of-here b d v v of ∙ eq-eqb v v refl)
+            ∙ (let z : 0 + length bs ≡ length bs = omega arith in z)))
         same t q (no e) = rw q (kept d (of-here b d v u of ∙ ne-eqb v u (λ z. e (sym z))) (λ z. e (same-end d u v z)))
 
         other : (t : Bool) → t ≡ not d → getD (set (st .number) (endOf d v) (st .count)) (endOf t u) 0 ≡ numberFrom 0 (bs ++ (b ∷ [])) t u
-        other t q = rw q (kept (not d) (of-there b d v u of) (λ z. other-end d v u (omega arith) l (sym z)))
+        other t q = rw q (kept (not d) (of-there b d v u of) (λ z. other-end d v u (sym z)))
 
-    load : (t : Bool) (u : ℕ) → u < 128 → getD (r .load) (endOf t u) 0 ≡ count n (waitsAt side (bs ++ (b ∷ [])) t u)
+    load : (t : Bool) (u : ℕ) → u < n → getD (r .load) (endOf t u) 0 ≡ count n (waitsAt side (bs ++ (b ∷ [])) t u)
     load t u l = ⊎-elim (λ q. same t q (ℕ-discrete u v)) (λ q. other t q) (same-or-not d t)
       where
         same : (t : Bool) → t ≡ d → Dec (u ≡ v) → getD (r .load) (endOf t u) 0 ≡ count n (waitsAt side (bs ++ (b ∷ [])) t u)
         same t q (yes e) = rw (q, e) (a .gone ∙ sym (wait-gone side bs b d v of n))
-        same t q (no e) = rw q (a .kept u l e ∙ o .load d u l ∙ sym (wait-kept side bs b d v of n u e))
+        same t q (no e) = rw q (a .kept u (omega arith) e ∙ o .load d u l ∙ sym (wait-kept side bs b d v of n u e))
 
         other : (t : Bool) → t ≡ not d → getD (r .load) (endOf t u) 0 ≡ count n (waitsAt side (bs ++ (b ∷ [])) t u)
         other t q =
             rw q
-            (let x = a .fewer u l in
+            (let x = a .fewer u (omega arith) in
             let y = o .load (not d) u l in
             let z = wait-fewer side bs b d v of n u below in
-            let i = ap indicator (open-waits u l) in
+            let i = ap indicator (open-waits u (omega arith)) in
             omega arith)
+
+    past : (e : ℕ) → 2 * n ≤ e → e < length (r .number) → getD (r .number) e 0 ≡ 256
+    past e h k =
+        ap (λ (x : List ℕ). getD x e 0) (a .number)
+        ∙ getD-set-other (st .number) (endOf d v) e (st .count) 0 (λ z. let q = end-below d n v below in omega arith)
+        ∙ o .holds .past e h (let q = added-long sets rows c d v st r a .number in omega arith)
 
     pub stands-more : Stands n side (bs ++ (b ∷ [])) r
     stands-more =
         let h = o .holds in
+        let l = added-long sets rows c d v st r a in
         record {
           holds = record {
             sized = record {
-              channel = ap length (a .channel) ∙ length-set (st .channel) (st .count) _ ∙ h .sized .channel;
-              first = ap length (a .first) ∙ length-set (st .first) (st .count) _ ∙ h .sized .first;
-              last = ap length (a .last) ∙ length-set (st .last) (st .count) _ ∙ h .sized .last;
-              number = ap length (a .number) ∙ length-set (st .number) (endOf d v) _ ∙ h .sized .number;
-              load = a .size ∙ h .sized .load;
+              channel = let x = l .channel in let y = h .sized .channel in omega arith;
+              first = let x = l .first in let y = h .sized .first in omega arith;
+              last = let x = l .last in let y = h .sized .last in omega arith;
+              number = let x = l .number in let y = h .sized .number in omega arith;
+              load = let x = l .load in let y = h .sized .load in omega arith;
             };
             counted = (let e = length-append bs (b ∷ []) in let p = a .count in let q = h .counted in omega arith);
-            channel = column (λ x. x .channel) refl (st .channel) (r .channel) c (h .sized .channel) (h .channel) (sym channel-is) (a .channel);
+            channel = column (λ x. x .channel) refl (st .channel) (r .channel) c (h .sized .channel) (h .channel) (sym channel-is)
+                (a .channel);
             first = column (λ x. x .first) refl (st .first) (r .first) _ (h .sized .first) (h .first) first-is (a .first);
             last = column (λ x. x .last) refl (st .last) (r .last) _ (h .sized .last) (h .last) last-is (a .last);
             number = number;
+            past = past;
           };
           load = load;
         }
 
 -- ---- at the end
 
-pub holds-listed : (n : ℕ) (bs : List Bundle) (s : State) (count : ℕ) (into out : List ℕ) → length bs ≤ 2 * n → count ≡ s .count → Holds bs s
-    → Filled 128 (λ v. getD (s .number) (endOf true v) 0) 128 into → Filled 128 (λ v. getD (s .number) (endOf false v) 0) 128 out
-    → Listed n bs (record { count = count; channel = s .channel; first = s .first; last = s .last; into = into; «out_of» = out })
-holds-listed n bs s count into out few e h i o = record {
-  counted = e ∙ h .counted;
+pub holds-listed : (n : ℕ) (bs : List Bundle) (s : State) → length bs ≤ 2 * n → Holds n bs s
+    → Listed n bs (s .count) (s .channel) (s .first) (s .last) (s .number)
+holds-listed n bs s few h = record {
+  counted = h .counted;
   few = few;
   channel = h .channel .value;
   first = h .first .value;
   last = h .last .value;
-  into = λ v l. i .value v l ∙ h .number true v l;
-  out-of = λ v l. o .value v l ∙ h .number false v l;
-  sizes = (h .sized .channel, h .sized .first, h .sized .last, i .size, o .size);
+  into = h .number true;
+  out-of = h .number false;
+  past = h .past;
 }
 
 -- no bundle at all
-pub nothing-listed : (n : ℕ) → Listed n [] (record { count = 0; channel = replicate 256 0; first = replicate 256 0; last = replicate 256 0; into = replicate 128 256; «out_of» = replicate 128 256 })
+pub nothing-listed : (n : ℕ) (of first last number : List ℕ) → Blank n of first last number → Listed n [] 0 of first last number
 unfolding numberFrom
-nothing-listed n = record {
+nothing-listed n of first last number b = record {
   counted = refl;
   few = omega arith;
-  channel = zeros 256;
-  first = zeros 256;
-  last = zeros 256;
-  into = λ v l. numbers 128 v l;
-  out-of = λ v l. numbers 128 v l;
-  sizes = (refl, refl, refl, refl, refl);
+  channel = blank-value of (b .channel .1);
+  first = blank-value first (b .first .1);
+  last = blank-value last (b .last .1);
+  into = λ v l. b .number .1 .value (2 * v) (let r = b .number .0 in omega arith);
+  out-of = λ v l. b .number .1 .value (2 * v + 1) (let r = b .number .0 in omega arith);
+  past = λ e h k. b .number .1 .value e k;
 }

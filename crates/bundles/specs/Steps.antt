@@ -1,4 +1,4 @@
--- What the private steps leave behind. An end is a vertex with a direction: number v for the edges into v, 128 + v for those out of v.
+-- What the private steps leave behind. An end is a vertex with a direction: number 2 v for the edges into v, 2 v + 1 for those out of v.
 -- Assumes nothing.
 use mathlib.Core.Path.{_≡_}
 use mathlib.Core.Logic.{_≢_, _⊎_}
@@ -19,61 +19,68 @@ use Rattle.bundles.specs.declared.Span.{Span}
 
 -- the number of an end: of the edges into v, or out of v
 abbrev pub endOf : Bool → ℕ → ℕ
-endOf true v = v
-endOf false v = 128 + v
+endOf true v = 2 * v
+endOf false v = 2 * v + 1
 
--- of each end, two masks have the vertices at the other ends of its edges
-pub record Sets (edge : ℕ → ℕ → Bool) (sets : List ℕ) : Type 0 where
-  pub size : length sets ≡ 512
-  pub has : (into : Bool) (v w : ℕ) → v < 128 → w < 128 → member? sets (2 * endOf into v) w ≡ along into edge v w
+-- of each end of n vertices, two masks have the vertices at the other ends of its edges
+pub record Sets (n : ℕ) (edge : ℕ → ℕ → Bool) (sets : List ℕ) : Type 0 where
+  pub size : 4 * n ≤ length sets
+  pub has : (into : Bool) (v w : ℕ) → v < n → w < 128 → member? sets (2 * endOf into v) w ≡ along into edge v w
 
 -- the edges that the masks have, between two of n vertices
 unfoldable pub sideIn : ℕ → List ℕ → ℕ → ℕ → Bool
 sideIn n sets u v = (ltb u n && ltb v n) && member? sets (2 * endOf false u) v
 
--- a list of so many numbers has f's values below j
-pub record Filled (most : ℕ) (f : ℕ → ℕ) (j : ℕ) (r : List ℕ) : Type 0 where
-  pub size : length r ≡ most
-  pub value : (i : ℕ) → i < j → getD r i 0 ≡ f i
+-- a list has this value below j
+pub record Filled (x j : ℕ) (r : List ℕ) : Type 0 where
+  pub value : (i : ℕ) → i < j → getD r i 0 ≡ x
+
+-- a mask has the first k of 64 bits
+pub record FirstBits (k mask : ℕ) : Type 0 where
+  pub only : (j : ℕ) → j < 64 → bit mask j ≡ 1 → j < k
+  pub all : (j : ℕ) → j < 64 → j < k → bit mask j ≡ 1
 
 -- how many vertices the set of an end has
 abbrev pub loadIn : List ℕ → ℕ → ℕ
 loadIn sets e = sum 128 (member sets (2 * e))
 
--- these numbers at each end
-pub record Loaded (sets load : List ℕ) : Type 0 where
-  pub size : length load ≡ 256
-  pub value : (d : Bool) (v : ℕ) → v < 128 → getD load (endOf d v) 0 ≡ loadIn sets (endOf d v)
+-- these numbers at each end of n vertices
+pub record Loaded (n : ℕ) (sets load : List ℕ) : Type 0 where
+  pub size : 2 * n ≤ length load
+  pub value : (d : Bool) (v : ℕ) → v < n → getD load (endOf d v) 0 ≡ loadIn sets (endOf d v)
 
--- of each channel below 128, two masks have those of the first j vertices that are in it
-pub record Owned (channel : List ℕ) (j : ℕ) (own : List ℕ) : Type 0 where
-  pub size : length own ≡ 256
-  pub only : (c v : ℕ) → c < 128 → v < 128 → member own (2 * c) v ≡ 1 → (v < j) × (getD channel v 0 ≡ c)
-  pub all : (c v : ℕ) → c < 128 → v < j → getD channel v 0 ≡ c → member own (2 * c) v ≡ 1
+-- of each of so many channels, two masks have those of the first j vertices that are in it
+pub record Owned (channels : ℕ) (channel : List ℕ) (j : ℕ) (own : List ℕ) : Type 0 where
+  pub size : 2 * channels ≤ length own
+  pub only : (c v : ℕ) → c < channels → v < 128 → member own (2 * c) v ≡ 1 → (v < j) × (getD channel v 0 ≡ c)
+  pub all : (c v : ℕ) → c < channels → v < j → getD channel v 0 ≡ c → member own (2 * c) v ≡ 1
 
--- the path-transitive edges in the first 128 channels
-unfoldable pub lowSide : ℕ → List ℕ → List ℕ → List ℕ → ℕ → ℕ → Bool
-lowSide n edges channel position u v =
-    tableSide? n edges (λ w. getD channel w 0) (λ w. getD position w 0) u v && ltb (getD channel u 0) 128
+-- the path-transitive edges in so many channels
+unfoldable pub lowSide : ℕ → ℕ → List ℕ → List ℕ → List ℕ → ℕ → ℕ → Bool
+lowSide n channels edges channel position u v =
+    tableSide? n edges (λ w. getD channel w 0) (λ w. getD position w 0) u v && ltb (getD channel u 0) channels
 
 -- of the edges by `side`, those out of the vertices before u, and those from u to a vertex before k
 unfoldable pub upTo : (ℕ → ℕ → Bool) → ℕ → ℕ → ℕ → ℕ → Bool
 upTo side u k a b = side a b && (ltb a u || (eqb a u && ltb b k))
 
 -- these are in the masks, and counted
-pub record Marked (side : ℕ → ℕ → Bool) (u k : ℕ) (sets load : List ℕ) : Type 0 where
-  pub sides : Sets (upTo side u k) sets
-  pub loads : Loaded sets load
+pub record Marked (n : ℕ) (side : ℕ → ℕ → Bool) (u k : ℕ) (sets load : List ℕ) : Type 0 where
+  pub sides : Sets n (upTo side u k) sets
+  pub loads : Loaded n sets load
 
 -- a mask has the vertices from `base` on that edges lead to from u, with some that are next to it; the edges before these are marked
 pub record Marking (mask base u : ℕ) (position sets load : List ℕ) : Type 0 where
+  pub n : ℕ
   pub side : ℕ → ℕ → Bool
   pub low : base ≤ 64
-  pub tail : u < 128
-  pub long : length position ≡ 128
+  pub small : n ≤ 128
+  pub tail : u < n
+  pub long : n ≤ length position
+  pub heads : (j : ℕ) → j < 64 → bit mask j ≡ 1 → base + j < n
   pub edges : (j : ℕ) → j < 64 → side u (base + j) ≡ (eqb (bit mask j) 1 && not
       (adjacent? (getD position u 0) (getD position (base + j) 0)))
-  pub marked : Marked side u base sets load
+  pub marked : Marked n side u base sets load
 
 -- ---- the choice
 
@@ -98,41 +105,50 @@ pub record Part (n : ℕ) (channel : List ℕ) (c mask base : ℕ) : Type 0 wher
 unfoldable pub ownIn : ℕ → List ℕ → ℕ → ℕ → Bool
 ownIn n channel c v = ltb v n && eqb (getD channel v 0) c
 
--- `len` vertices in line, of those below v that pass a test, as v does
-pub record Sinks (len v : ℕ) (position line : List ℕ) : Type 0 where
+-- `len` vertices in order, of those below v that pass a test, as v does
+pub record Sinks (len v : ℕ) (position order : List ℕ) : Type 0 where
   pub own : ℕ → Bool
   pub mine : own v ≡ true
-  pub sorted : Sorted own v len (λ w. getD position w 0) (λ i. getD line i 0)
+  pub sorted : Sorted own v len (λ w. getD position w 0) (λ i. getD order i 0)
 
 -- those of a channel below `base`; the mask has its vertices from there on
-pub record Lines (mask base len : ℕ) (position line : List ℕ) : Type 0 where
+pub record Ordered (mask base len : ℕ) (position order : List ℕ) : Type 0 where
   pub n : ℕ
   pub channel : List ℕ
   pub c : ℕ
+  pub small : n ≤ 128
+  pub long : n ≤ length position
+  pub room : n ≤ length order
+  pub few : len ≤ n
   pub part : Part n channel c mask base
-  pub sorted : Sorted (ownIn n channel c) base len (λ w. getD position w 0) (λ i. getD line i 0)
+  pub sorted : Sorted (ownIn n channel c) base len (λ w. getD position w 0) (λ i. getD order i 0)
 
--- ---- the ends with the most edges, by the first `len` vertices of a line
+-- ---- the ends with the most edges, by the first `len` vertices in order
+
+-- there is a count for each of their ends
+pub record Counted (order : List ℕ) (len : ℕ) (load : List ℕ) : Type 0 where
+  pub fits : len ≤ length order
+  pub ends : (i : ℕ) → i < len → 2 * getD order i 0 + 1 < length load
 
 -- no end has more than r edges, and one has so many, unless r is 0
-pub record Most (line : List ℕ) (len : ℕ) (load : List ℕ) (r : ℕ) : Type 0 where
-  pub bound : (d : Bool) (k : ℕ) → k < len → getD load (endOf d (getD line k 0)) 0 ≤ r
-  pub attained : (r ≡ 0) ⊎ ((d : Bool) × (k : ℕ) × (k < len) × (getD load (endOf d (getD line k 0)) 0 ≡ r))
+pub record Most (order : List ℕ) (len : ℕ) (load : List ℕ) (r : ℕ) : Type 0 where
+  pub bound : (d : Bool) (k : ℕ) → k < len → getD load (endOf d (getD order k 0)) 0 ≤ r
+  pub attained : (r ≡ 0) ⊎ ((d : Bool) × (k : ℕ) × (k < len) × (getD load (endOf d (getD order k 0)) 0 ≡ r))
 
 -- no end has more than `most` edges; fewer has every end in direction `into` of the first i, and, where that is 'out of', every end 'into'
-pub record Level (line : List ℕ) (len most : ℕ) (into : Bool) (i : ℕ) (load : List ℕ) : Type 0 where
+pub record Level (order : List ℕ) (len most : ℕ) (into : Bool) (i : ℕ) (load : List ℕ) : Type 0 where
   pub some : 0 < most
-  pub bound : (d : Bool) (k : ℕ) → k < len → getD load (endOf d (getD line k 0)) 0 ≤ most
-  pub passed : (k : ℕ) → k < i → getD load (endOf into (getD line k 0)) 0 < most
-  pub first : into ≡ false → (k : ℕ) → k < len → getD load (endOf true (getD line k 0)) 0 < most
+  pub bound : (d : Bool) (k : ℕ) → k < len → getD load (endOf d (getD order k 0)) 0 ≤ most
+  pub passed : (k : ℕ) → k < i → getD load (endOf into (getD order k 0)) 0 < most
+  pub first : into ≡ false → (k : ℕ) → k < len → getD load (endOf true (getD order k 0)) 0 < most
 
--- what stays while bundles of channel c are made: the line has its vertices by position
-pub record Levelling (n : ℕ) (sets channel position rows : List ℕ) (c : ℕ) (line : List ℕ) (len : ℕ) : Type 0 where
+-- what stays while bundles of channel c are made: the order has its vertices by position
+pub record Levelling (n : ℕ) (sets channel position rows : List ℕ) (c : ℕ) (order : List ℕ) (len : ℕ) : Type 0 where
   pub small : n ≤ 128
-  pub long : length rows ≡ 128
-  pub masks : Sets (sideIn n sets) sets
-  pub fits : len ≤ length line
-  pub sorted : Sorted (ownIn n channel c) 128 len (λ v. getD position v 0) (λ i. getD line i 0)
+  pub long : n ≤ length rows
+  pub masks : Sets n (sideIn n sets) sets
+  pub fits : len ≤ length order
+  pub sorted : Sorted (ownIn n channel c) 128 len (λ v. getD position v 0) (λ i. getD order i 0)
 
 -- ---- a bundle
 
@@ -143,6 +159,11 @@ openAt sets number into v w = member? sets (2 * endOf into v) w && eqb (getD num
 -- the same for the members of one mask of the end's set
 abbrev pub openIn : ℕ → ℕ → List ℕ → Bool → ℕ → Bool
 openIn mask base number into j = eqb (bit mask j) 1 && eqb (getD number (endOf (not into) (base + j)) 0) noBundle
+
+-- the lists have entries for each member of a mask, vertex base + j for bit j
+pub record Entered (mask base : ℕ) (number rows load : List ℕ) : Type 0 where
+  pub row : (j : ℕ) → j < 64 → bit mask j ≡ 1 → base + j < length rows
+  pub ends : (j : ℕ) → j < 64 → bit mask j ≡ 1 → (2 * (base + j) + 1 < length number) × (2 * (base + j) + 1 < length load)
 
 -- of the vertices below j that pass the test: the rows from the lowest to the highest, with one row more, and one edge less at each
 pub record Gathered (test : ℕ → Bool) (rows : List ℕ) (into : Bool) (row j : ℕ) (was is : List ℕ) (first last : ℕ) : Type 0 where
@@ -179,20 +200,32 @@ state count channel first last number load = record {
   load = load;
 }
 
-pub record Sized (s : State) : Type 0 where
-  pub channel : length (s .channel) ≡ 256
-  pub first : length (s .first) ≡ 256
-  pub last : length (s .last) ≡ 256
-  pub number : length (s .number) ≡ 256
-  pub load : length (s .load) ≡ 256
+-- room for n vertices
+pub record Sized (n : ℕ) (s : State) : Type 0 where
+  pub channel : 2 * n ≤ length (s .channel)
+  pub first : 2 * n ≤ length (s .first)
+  pub last : 2 * n ≤ length (s .last)
+  pub number : 2 * n ≤ length (s .number)
+  pub load : 2 * n ≤ length (s .load)
+
+-- r's lists are as long as those of s
+pub record AsLong (s r : State) : Type 0 where
+  pub channel : length (r .channel) ≡ length (s .channel)
+  pub first : length (r .first) ≡ length (s .first)
+  pub last : length (r .last) ≡ length (s .last)
+  pub number : length (r .number) ≡ length (s .number)
+  pub load : length (r .load) ≡ length (s .load)
 
 -- there is room for a bundle, and each of its edges is counted at its other end
 pub record Room (sets rows : List ℕ) (into : Bool) (v : ℕ) (s : State) : Type 0 where
-  pub sized : Sized s
-  pub count : s .count < 256
-  pub vertex : v < 128
-  pub masks : length sets ≡ 512
-  pub long : length rows ≡ 128
+  pub n : ℕ
+  pub small : n ≤ 128
+  pub sized : Sized n s
+  pub count : s .count < 2 * n
+  pub vertex : v < n
+  pub masks : 4 * n ≤ length sets
+  pub long : n ≤ length rows
+  pub inside : (w : ℕ) → w < 128 → member? sets (2 * endOf into v) w ≡ true → w < n
   pub counted : (w : ℕ) → w < 128 → openAt sets (s .number) into v w ≡ true → 0 < getD (s .load) (endOf (not into) w) 0
 
 -- r is s with the open edges of an end as the next bundle
@@ -214,19 +247,20 @@ pub record Added (sets rows : List ℕ) (c : ℕ) (into : Bool) (v : ℕ) (s r :
 pub record Column (f : Bundle → ℕ) (bs : List Bundle) (values : List ℕ) : Type 0 where
   pub value : (b : ℕ) → getD values b 0 ≡ f (getD bs b empty)
 
--- s has the bundles bs
-pub record Holds (bs : List Bundle) (s : State) : Type 0 where
-  pub sized : Sized s
+-- s has the bundles bs of n vertices
+pub record Holds (n : ℕ) (bs : List Bundle) (s : State) : Type 0 where
+  pub sized : Sized n s
   pub counted : s .count ≡ length bs
   pub channel : Column (λ b. b .channel) bs (s .channel)
   pub first : Column (λ b. b .first) bs (s .first)
   pub last : Column (λ b. b .last) bs (s .last)
-  pub number : (into : Bool) (v : ℕ) → v < 128 → getD (s .number) (endOf into v) 0 ≡ numberFrom 0 bs into v
+  pub number : (into : Bool) (v : ℕ) → v < n → getD (s .number) (endOf into v) 0 ≡ numberFrom 0 bs into v
+  pub past : (e : ℕ) → 2 * n ≤ e → e < length (s .number) → getD (s .number) e 0 ≡ noBundle
 
 -- and counts the edges that wait at each end
 pub record Stands (n : ℕ) (side : ℕ → ℕ → Bool) (bs : List Bundle) (s : State) : Type 0 where
-  pub holds : Holds bs s
-  pub load : (into : Bool) (v : ℕ) → v < 128 → getD (s .load) (endOf into v) 0 ≡ count n (waitsAt side bs into v)
+  pub holds : Holds n bs s
+  pub load : (into : Bool) (v : ℕ) → v < n → getD (s .load) (endOf into v) 0 ≡ count n (waitsAt side bs into v)
 
 -- in channel c, with k rounds done: the rule goes on from the bundles made, and there is room for more
 pub record Going (n : ℕ) (side : ℕ → ℕ → Bool) (channel position row : ℕ → ℕ) (c : ℕ) (s : State) : Type 0 where
@@ -240,3 +274,29 @@ pub record Going (n : ℕ) (side : ℕ → ℕ → Bool) (channel position row :
 abbrev pub Underway : ℕ → List ℕ → List ℕ → List ℕ → List ℕ → ℕ → State → Type 0
 Underway n sets channel position rows c s =
     Going n (sideIn n sets) (λ v. getD channel v 0) (λ v. getD position v 0) (λ v. getD rows v 0) c s
+
+-- before the ends of one direction that have `most` edges are taken, for the n vertices by their channels and positions
+pub record Taking (c : ℕ) (into : Bool) (most : ℕ) (order : List ℕ) (len : ℕ) (sets rows : List ℕ) (s : State) : Type 0 where
+  pub n : ℕ
+  pub channel : List ℕ
+  pub position : List ℕ
+  pub levelling : Levelling n sets channel position rows c order len
+  pub underway : Underway n sets channel position rows c s
+  pub level : Level order len most into 0 (s .load)
+
+-- ---- before the first bundle
+
+-- n vertices in so many channels, with an entry each
+pub record Vertices (n channels : ℕ) (channel position rows : List ℕ) : Type 0 where
+  pub small : n ≤ 128
+  pub low : channels ≤ 128
+  pub long-channel : n ≤ length channel
+  pub long-position : n ≤ length position
+  pub long-rows : n ≤ length rows
+
+-- lists with room for the bundles of n vertices, and none in them
+pub record Blank (n : ℕ) (of firsts lasts numbers : List ℕ) : Type 0 where
+  pub channel : (2 * n ≤ length of) × Filled 0 (length of) of
+  pub first : (2 * n ≤ length firsts) × Filled 0 (length firsts) firsts
+  pub last : (2 * n ≤ length lasts) × Filled 0 (length lasts) lasts
+  pub number : (2 * n ≤ length numbers) × Filled noBundle (length numbers) numbers

@@ -19,7 +19,7 @@ use Rattle.geometry.proofs.Among.{among-enough}
 use Rattle.outline.specs.Chart.{crossing}
 use Rattle.kinds.specs.Prefixes.{Prefixes}
 use Rattle.kinds.specs.Kinds.{kindIn, strictly?, candidate?, kindAmong}
-use Rattle.kinds.proofs.Coding.{across, among-within, among-across}
+use Rattle.kinds.proofs.Coding.{across, within, between-across}
 
 -- n vertices stand by blocks; `below` has the sets of the vertices below each row, and `left` those left of each channel, as `prefixes`
 -- gives them. Between two channels nothing stands: where there are no more, any `left` will do
@@ -93,18 +93,20 @@ module _ (W : Widths) (n top count : ℕ) (channel columns rows below left : Lis
       let s = by .sets-by-key (min (getD channel u 0) (getD channel v 0) + 1) w (omega arith) (omega arith) .0 o .1 in
       omega (arith, c .0))))
 
--- The kind by candidates is the kind.
-pub kind-candidates : (W : Widths) (n top count : ℕ) (channel position into outOf columns rows below left : List ℕ)
+-- The kind by candidates is the kind: c and d are the channels of u and v.
+pub kind-candidates : (W : Widths) (n top count : ℕ) (channel columns rows below left : List ℕ)
     → Ready W n top count channel columns rows below left → (u v : ℕ) → u < n → v < n
-    → kindAmong channel position into outOf columns rows below left u v ≡ kindIn channel position into outOf columns rows u v
-kind-candidates W n top count channel position into outOf columns rows below left R u v hu hv =
-    go (ℕ-discrete (getD channel u 0) (getD channel v 0))
+    → (c d p q into outOf : ℕ) → c ≡ getD channel u 0 → d ≡ getD channel v 0
+    → kindAmong c d p q into outOf columns rows below left u v ≡ kindIn c d p q into outOf columns rows u v
+kind-candidates W n top count channel columns rows below left R u v hu hv c d p q into outOf ec ed =
+    rw (ec, ed) (go (ℕ-discrete (getD channel u 0) (getD channel v 0)))
   where
     go : Dec (getD channel u 0 ≡ getD channel v 0)
-        → kindAmong channel position into outOf columns rows below left u v ≡ kindIn channel position into outOf columns rows u v
-    go (yes e) = among-within channel position into outOf columns rows u v below left e
-    go (no d) =
-        among-across channel position into outOf columns rows u v below left d
+        → kindAmong (getD channel u 0) (getD channel v 0) p q into outOf columns rows below left u v
+        ≡ kindIn (getD channel u 0) (getD channel v 0) p q into outOf columns rows u v
+    go (yes e) = within _ _ _ _ _ _ columns rows below left u v e
+    go (no ne) =
+        between-across _ _ _ _ _ _ columns rows below left u v ne
         ∙ ap crossing (among-enough _ (pointOf columns rows) (vertexCount columns rows) u v
-        (λ w hw h. inside-candidate W n top count channel columns rows below left R u v w hu hv (let e = R .counted in omega arith) d h))
-        ∙ sym (across channel position into outOf columns rows u v d)
+        (λ w hw h. inside-candidate W n top count channel columns rows below left R u v w hu hv (let e = R .counted in omega arith) ne h))
+        ∙ sym (across (getD channel u 0) (getD channel v 0) p q into outOf columns rows below left u v ne)

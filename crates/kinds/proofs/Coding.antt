@@ -1,5 +1,5 @@
 -- Kinds by their numbers, and the cases of a kind by tables. Assumes nothing.
-use mathlib.Core.Path.{_≡_, refl, sym, ap, ap₂, _∙_}
+use mathlib.Core.Path.{_≡_, refl, sym, ap, _∙_}
 use mathlib.Core.Bool.{true, false}
 use mathlib.Core.List.{List}
 use Prim.Native.Nat.{ℕ, _+_, min}
@@ -37,62 +37,44 @@ else-adjacent p q e = rw (ne-eqb (p + 1) q e) refl
 
 -- ---- the three cases
 
-module _ (channel position into outOf columns rows : List ℕ) (u v : ℕ) where
-  pub in-path : getD channel u 0 ≡ getD channel v 0 → adjacent? (getD position u 0) (getD position v 0) ≡ true
-      → kindIn channel position into outOf columns rows u v ≡ Path
-  unfolding kindIn
-  in-path e a = rw (eq-eqb (getD channel u 0) (getD channel v 0) e) (rw a refl)
+-- of the ends' channels and positions, and the numbers of their bundles
+module _ (c d p q into outOf : ℕ) (columns rows below left : List ℕ) (u v : ℕ) where
+  abbrev kind : Kind
+  kind = kindAmong c d p q into outOf columns rows below left u v
 
-  pub in-bundle : getD channel u 0 ≡ getD channel v 0 → adjacent? (getD position u 0) (getD position v 0) ≡ false
-      → kindIn channel position into outOf columns rows u v ≡ PathTransitive (min (getD into v 0) (getD outOf u 0))
-  unfolding kindIn
-  in-bundle e a = rw (eq-eqb (getD channel u 0) (getD channel v 0) e) (rw a refl)
+  abbrev course : Course
+  course = courseAmong (candidate? below left (getD rows u 0) (getD rows v 0) c d) (pointOf columns rows) (vertexCount columns rows) u v
 
-  pub across : (getD channel u 0 ≡ getD channel v 0 → ⊥)
-      → kindIn channel position into outOf columns rows u v ≡ crossing (courseOf (pointOf columns rows) (vertexCount columns rows) u v)
+  between-path : c ≡ d → adjacent? p q ≡ true → kind ≡ Path
+  unfolding kindAmong
+  between-path e a = rw (eq-eqb c d e) (rw a refl)
+
+  between-bundle : c ≡ d → adjacent? p q ≡ false → kind ≡ PathTransitive (min into outOf)
+  unfolding kindAmong
+  between-bundle e a = rw (eq-eqb c d e) (rw a refl)
+
+  pub between-across : (c ≡ d → ⊥) → kind ≡ crossing course
+  unfolding kindAmong
+  between-across e = rw (ne-eqb c d e) refl
+
+  pub code-path : c ≡ d → adjacent? p q ≡ true → record { code = 0; value = 0; row = 0 } ≡ codeOf kind
+  unfolding codeOf
+  code-path e a = ap codeOf (sym (between-path e a))
+
+  pub code-bundle : (r : ℕ) → r ≡ min into outOf → c ≡ d → adjacent? p q ≡ false → record { code = 1; value = r; row = 0 } ≡ codeOf kind
+  unfolding codeOf
+  code-bundle r er e a = ap (λ x. record { code = 1; value = x; row = 0 }) er ∙ ap codeOf (sym (between-bundle e a))
+
+  pub code-across : (x : Course) (r : Code) → r ≡ codeOf (crossing x) → x ≡ course → (c ≡ d → ⊥) → r ≡ codeOf kind
+  code-across x r er ex ne = er ∙ ap (λ y. codeOf (crossing y)) ex ∙ ap codeOf (sym (between-across ne))
+
+  -- ---- and with every vertex in place of the candidates
+
+  pub across : (c ≡ d → ⊥) → kindIn c d p q into outOf columns rows u v ≡ crossing (courseOf (pointOf columns rows) (vertexCount columns rows) u v)
   unfolding kindIn
-  across e = rw (ne-eqb (getD channel u 0) (getD channel v 0) e) refl
+  across e = rw (ne-eqb c d e) refl
 
   -- within a channel candidates make no difference
-  module _ (below left : List ℕ) where
-    -- the course from channel c to channel d
-    abbrev across-from : ℕ → ℕ → Course
-    across-from c d =
-        courseAmong (candidate? below left (getD rows u 0) (getD rows v 0) c d) (pointOf columns rows) (vertexCount columns rows) u v
-
-    pub among-within : getD channel u 0 ≡ getD channel v 0
-        → kindAmong channel position into outOf columns rows below left u v ≡ kindIn channel position into outOf columns rows u v
-    unfolding kindAmong kindIn
-    among-within e = rw (eq-eqb (getD channel u 0) (getD channel v 0) e) refl
-
-    pub among-across : (getD channel u 0 ≡ getD channel v 0 → ⊥)
-        → kindAmong channel position into outOf columns rows below left u v ≡ crossing (across-from (getD channel u 0) (getD channel v 0))
-    unfolding kindAmong
-    among-across e = rw (ne-eqb (getD channel u 0) (getD channel v 0) e) refl
-
-    -- ---- the codes of the three; c, d, p and q are what the code has read of the ends' channels and positions
-
-    module _ (c d : ℕ) (ec : c ≡ getD channel u 0) (ed : d ≡ getD channel v 0) where
-      abbrev Coded : Code → Type 0
-      Coded r = r ≡ codeOf (kindAmong channel position into outOf columns rows below left u v)
-
-      within : c ≡ d → getD channel u 0 ≡ getD channel v 0
-      within e = sym ec ∙ e ∙ ed
-
-      module _ (p q : ℕ) (ep : p ≡ getD position u 0) (eq : q ≡ getD position v 0) where
-        pub code-path : c ≡ d → adjacent? p q ≡ true → Coded (record { code = 0; value = 0; row = 0 })
-        unfolding codeOf
-        code-path e a = ap codeOf (sym (among-within (within e) ∙ in-path (within e) (ap₂ adjacent? (sym ep) (sym eq) ∙ a)))
-
-        pub code-bundle : (r : ℕ) → r ≡ min (getD into v 0) (getD outOf u 0) → c ≡ d → adjacent? p q ≡ false
-            → Coded (record { code = 1; value = r; row = 0 })
-        unfolding codeOf
-        code-bundle r er e a =
-            ap (λ x. record { code = 1; value = x; row = 0 }) er
-            ∙ ap codeOf (sym (among-within (within e) ∙ in-bundle (within e) (ap₂ adjacent? (sym ep) (sym eq) ∙ a)))
-
-      pub code-across : (x : Course) (r : Code) → r ≡ codeOf (crossing x) → x ≡ across-from c d → (c ≡ d → ⊥) → Coded r
-      code-across x r er ex ne =
-          er
-          ∙ ap (λ y. codeOf (crossing y)) (ex ∙ ap₂ across-from ec ed)
-          ∙ ap codeOf (sym (among-across (λ e. ne (ec ∙ e ∙ sym ed))))
+  pub within : c ≡ d → kind ≡ kindIn c d p q into outOf columns rows u v
+  unfolding kindAmong kindIn
+  within e = rw (eq-eqb c d e) refl

@@ -2,7 +2,7 @@
 use mathlib.Core.Path.{_≡_, sym, ap, ap₂, _∙_, subst}
 use mathlib.Core.Logic.{_≢_, _⊎_, inl, inr, ⊎-elim}
 use mathlib.Core.List.{List, [], _∷_}
-use Prim.Native.Nat.{ℕ, _+_, _*_, _/_, _≤_, _<_, max}
+use Prim.Native.Nat.{ℕ, _+_, _-_, _*_, _/_, _≤_, _<_, max}
 use native.Mathlib.Nat.{mul-le-mul-left}
 use native.Mathlib.Decide.{ℕ-discrete}
 use native.Mathlib.Omega.{arith}
@@ -20,7 +20,7 @@ unfolding inserted
 inserted-out s first v l = set-out s (first + v / 64) _ l
 
 module _ (w : ℕ) (key : ℕ → ℕ) (top : ℕ) where
-  pub stage-none : (m : ℕ) → w * top + w ≤ m → Stage w 0 key top 0 (replicate m 0)
+  stage-none : (m : ℕ) → (0 < top → w * top + w ≤ m) → Stage w 0 key top 0 (replicate m 0)
   stage-none m h = record {
     room = rw (length-replicate {A = ℕ} m 0) h;
     here = λ k v l lv lt e. absurd (omega arith);
@@ -44,7 +44,10 @@ module _ (w : ℕ) (key : ℕ → ℕ) (top : ℕ) where
       s′ = inserted s (w * u) n
 
       there : u ≤ top → at w s′ u n ≡ 1
-      there l = put-law w s u n hn (let a = mul-le-mul-left w l in let b = g .room in let q : n / 64 < w = omega arith in omega arith) .here
+      there l =
+          let a = mul-le-mul-left w l in
+          let b = g .room (omega arith) in
+          put-law w s u n hn (let q : n / 64 < w = omega arith in omega arith) .here
 
       same : (k v : ℕ) → v < w * 64 → (k ≡ u → v ≢ n) → at w s′ k v ≡ at w s k v
       same k v lv ne = go (lt-or-le (length s) (w * u + n / 64 + 1))
@@ -140,7 +143,8 @@ stage-pair key top n j i s h e g =
     (twice-length s (i + 2) (i + 3) (getD s i 0) (getD s (i + 1) 0))
     (pair-row s j (getD s i 0) (getD s (i + 1) 0) (ap (λ x. getD s x 0) (omega arith)) (ap (λ x. getD s x 0) (omega arith)))
     (absorbed-law 2 s (j + 1) _ _
-    (pair-united s (2 * (j + 1)) (i + 2) (i + 3) (getD s i 0) (getD s (i + 1) 0) (omega arith) (omega arith) (omega (arith, g .room))))
+    (pair-united s (2 * (j + 1)) (i + 2) (i + 3) (getD s i 0) (getD s (i + 1) 0) (omega arith) (omega arith)
+    (omega (arith, g .room (omega arith)))))
     g
 
 -- the next vertex is put in; the code reads its key into r
@@ -148,8 +152,11 @@ pub put-step : (key : ℕ → ℕ) (top n r : ℕ) (s s′ : List ℕ) → n < 1
     → Stage 2 n key top 0 s → Stage 2 (n + 1) key top 0 s′
 put-step key top n r s s′ h e f g = rw (f, e) (stage-put 2 key top n s h g)
 
--- all are put in and joined; the code counts the vertices into v and the sets into t
-pub stage-joined : (key : ℕ → ℕ) (top t m v : ℕ) (s s′ : List ℕ) → t ≡ top → v ≡ m → Stage 2 v key top 0 s
-    → ((n : ℕ) (k : ℕ → ℕ) → Stage 2 n k t 0 s → Prefixes 2 n k t s′) → Prefixes 2 m key top s′
-stage-joined key top t m v s s′ et ev g f =
-    subst (λ x. Prefixes 2 m key x s′) et (f m key (subst (λ x. Stage 2 m key x 0 s) (sym et) (subst (λ x. Stage 2 x key top 0 s) ev g)))
+-- a cleared list of m masks
+pub stage-start : (key : ℕ → ℕ) (top m : ℕ) (s : List ℕ) → s ≡ replicate m 0 → top ≤ m / 2 - 1 → Stage 2 0 key top 0 s
+stage-start key top m s e l = rw e (stage-none 2 key top m (λ p. omega arith))
+
+-- all are put in and joined; the code counts the vertices into v
+pub stage-joined : (key : ℕ → ℕ) (top m v : ℕ) (s s′ : List ℕ) → v ≡ m → Stage 2 v key top 0 s
+    → ((n : ℕ) (k : ℕ → ℕ) → Stage 2 n k top 0 s → Prefixes 2 n k top s′) → Prefixes 2 m key top s′
+stage-joined key top m v s s′ e g f = subst (λ x. Prefixes 2 x key top s′) e (f v key g)

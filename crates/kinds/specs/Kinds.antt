@@ -1,4 +1,4 @@
--- The kind of an edge by tables of its ends' places and bundles. Assumes nothing.
+-- The kind of an edge by its ends' places and bundles. Assumes nothing.
 use mathlib.Core.Bool.{Bool, not, _&&_}
 use mathlib.Core.List.{List}
 use Prim.Native.Nat.{ℕ, _+_, _-_, _^_, min, max}
@@ -14,11 +14,12 @@ use Rattle.outline.specs.Chart.{crossing}
 use Rattle.outline.specs.declared.Kind.{Kind}
 use Rattle.outline.specs.declared.Kind.the-variants.{Path, PathTransitive}
 
--- the kind of an edge by tables of its ends' places and bundles
-unfoldable pub kindIn : List ℕ → List ℕ → List ℕ → List ℕ → List ℕ → List ℕ → ℕ → ℕ → Kind
-kindIn channel position into outOf columns rows u v =
-    choose (eqb (getD channel u 0) (getD channel v 0))
-    (λ _. choose (adjacent? (getD position u 0) (getD position v 0)) (λ _. Path) (λ _. PathTransitive (min (getD into v 0) (getD outOf u 0))))
+-- the kind of the edge from u, in channel c at position p, to v, in channel d at position q; `into` is the bundle of the edges into v, and
+-- `outOf` that of those out of u
+unfoldable pub kindIn : ℕ → ℕ → ℕ → ℕ → ℕ → ℕ → List ℕ → List ℕ → ℕ → ℕ → Kind
+kindIn c d p q into outOf columns rows u v =
+    choose (eqb c d)
+    (λ _. choose (adjacent? p q) (λ _. Path) (λ _. PathTransitive (min into outOf)))
     (λ _. crossing (courseOf (pointOf columns rows) (vertexCount columns rows) u v))
 
 -- ---- the same by candidates
@@ -32,11 +33,11 @@ strictly? sets a b w = eqb (at 2 sets b w) 1 && not (eqb (at 2 sets (a + 1) w) 1
 unfoldable pub candidate? : List ℕ → List ℕ → ℕ → ℕ → ℕ → ℕ → ℕ → Bool
 candidate? below left a b c d w = ltb w 128 && (strictly? below a b w && strictly? left (min c d) (max c d) w)
 
-unfoldable pub kindAmong : List ℕ → List ℕ → List ℕ → List ℕ → List ℕ → List ℕ → List ℕ → List ℕ → ℕ → ℕ → Kind
-kindAmong channel position into outOf columns rows below left u v =
-    choose (eqb (getD channel u 0) (getD channel v 0))
-    (λ _. choose (adjacent? (getD position u 0) (getD position v 0)) (λ _. Path) (λ _. PathTransitive (min (getD into v 0) (getD outOf u 0))))
-    (λ _. crossing (courseAmong (candidate? below left (getD rows u 0) (getD rows v 0) (getD channel u 0) (getD channel v 0))
+unfoldable pub kindAmong : ℕ → ℕ → ℕ → ℕ → ℕ → ℕ → List ℕ → List ℕ → List ℕ → List ℕ → ℕ → ℕ → Kind
+kindAmong c d p q into outOf columns rows below left u v =
+    choose (eqb c d)
+    (λ _. choose (adjacent? p q) (λ _. Path) (λ _. PathTransitive (min into outOf)))
+    (λ _. crossing (courseAmong (candidate? below left (getD rows u 0) (getD rows v 0) c d)
     (pointOf columns rows) (vertexCount columns rows) u v))
 
 -- the vertices of one mask that two sets have and two others lack

@@ -1,14 +1,14 @@
 // The kind of an edge from tables of its ends' places and bundles. What can be in the way of a cross edge is looked for among the
 // few vertices whose row and channel are strictly between those of its ends. An entry that a list lacks counts as 0.
 ghost use mathlib.Core.Path.{_≡_};
-ghost use Prim.Native.Nat.{ℕ, _+_, _*_, _≤_, _<_, min, max};
-ghost use lib.ListN.{length, getD};
+ghost use Prim.Native.Nat.{ℕ, _≤_, _<_, min, max};
+ghost use lib.ListN.{length, getD, replicate};
 ghost use Rattle.geometry.specs.Segment.{pointOf, vertexCount};
 ghost use Rattle.geometry.specs.Courses.{courseAmong};
 ghost use Rattle.bundles.specs.Sides.{adjacent?};
 ghost use Rattle.outline.specs.Chart.{crossing};
 ghost use Rattle.kinds.specs.Codes.{codeOf};
-ghost use Rattle.kinds.specs.Prefixes.{Prefixes, Stage};
+ghost use Rattle.kinds.specs.Prefixes.{lastSet, Prefixes, Stage};
 ghost use Rattle.kinds.specs.Kinds.{between, candidate?, kindAmong};
 use geometry::Course;
 
@@ -44,9 +44,29 @@ fn largest(a: usize, b: usize) -> usize
     a
 }
 
+// Sets every mask to 0.
+fn clear(sets: &mut [u64])
+    ensures { λ _. ⌜ now (sets .exit) ≡ replicate (length (now (sets .entry))) 0 ⌝ }
+{
+    for i in 0..sets.len() {
+        sets[i] = 0;
+    }
+}
+
+// The last set that is filled, of sets 0 to `top`, at most 128, in so many masks.
+fn last_set(top: usize, masks: usize) -> usize
+    ensures { λ r. ⌜ r ≡ lastSet top masks ⌝ }
+{
+    let room = masks / 2;
+    if room == 0 {
+        return 0;
+    }
+    least(least(top, 128), room - 1)
+}
+
 // Puts each set of two masks into the next, from set 0 to set `top`.
 fn join(sets: &mut [u64], top: usize)
-    requires { ⌜ (2 * top + 2 ≤ length (now sets)) × (top ≤ 128) ⌝ }
+    requires { ⌜ top ≤ lastSet 128 (length (now sets)) ⌝ }
     ensures { λ _. ⌜ ((n : ℕ) (key : ℕ → ℕ) → Stage 2 n key top 0 (now (sets .entry)) → Prefixes 2 n key top (now (sets .exit))) ⌝ }
 {
     for k in 0..top {
@@ -58,31 +78,23 @@ fn join(sets: &mut [u64], top: usize)
     }
 }
 
-// Sets of vertices by their keys, two masks a set: set k has the vertices whose key is below k, for k up to `top`, at most 128. The
-// vertices are the first n entries of the list, and at most 128.
-pub fn prefixes(keys: &[u8], n: usize, top: usize) -> [u64; 258]
-    ensures { λ r. ⌜ Prefixes 2 (min (min n 128) (length (now (keys .entry)))) (λ v. getD (now (keys .entry)) v 0) (min top 128) r ⌝ }
+// Fills a list with sets of vertices by their keys, two masks a set: set k has the vertices whose key is below k, for k up to `top`, at
+// most 128 and no more than the list has room for; gives the last. The vertices are the first n entries of the keys, and at most 128.
+pub fn prefixes(keys: &[u8], n: usize, top: usize, sets: &mut [u64]) -> usize
+    ensures { λ r. ⌜ (r ≡ lastSet top (length (now (sets .entry)))) × Prefixes 2 (min (min n 128) (length (now (keys .entry)))) (λ v. getD (now (keys .entry)) v 0) r (now (sets .exit)) × (length (now (sets .exit)) ≡ length (now (sets .entry))) ⌝ }
 {
     let m = least(least(n, 128), keys.len());
-    let mut sets = [0; 258];
+    let last = last_set(top, sets.len());
+    clear(sets);
     for v in 0..m {
-        masks::insert(&mut sets, 2 * (wide(keys[v]) + 1), v);
+        masks::insert(sets, 2 * (wide(keys[v]) + 1), v);
     }
-    join(&mut sets, least(top, 128));
-    sets
+    join(sets, last);
+    last
 }
 
 // Entry i of a list, 0 past its end.
 fn byte_at(list: &[u8], i: usize) -> u8
-    ensures { λ r. ⌜ r ≡ getD (now (list .entry)) i 0 ⌝ }
-{
-    if i < list.len() {
-        return list[i];
-    }
-    0
-}
-
-fn number_at(list: &[u16], i: usize) -> u16
     ensures { λ r. ⌜ r ≡ getD (now (list .entry)) i 0 ⌝ }
 {
     if i < list.len() {
@@ -181,13 +193,15 @@ fn crossed(c: Course) -> Code
     }
 }
 
-// The code of the edge u -> v, by the channels, positions, bundles, columns and rows of its ends, and the sets of the vertices below
-// each row and left of each channel.
+// The code of the edge u -> v from channel c and position p to channel d and position q, by the numbers of the bundles of the edges
+// into v and out of u, by columns and rows, and by the sets of the vertices below each row and left of each channel.
 pub fn kind_of<'a>(
-    channel: &'a [u8],
-    position: &'a [u8],
-    into: &'a [u16],
-    out_of: &'a [u16],
+    c: u8,
+    d: u8,
+    p: u8,
+    q: u8,
+    into: u16,
+    out_of: u16,
     columns: &'a [u16],
     rows: &'a [u8],
     below: &'a [u64],
@@ -195,12 +209,10 @@ pub fn kind_of<'a>(
     u: usize,
     v: usize,
 ) -> Code
-    ensures { λ r. ⌜ r ≡ codeOf (kindAmong (now (channel .entry)) (now (position .entry)) (now (into .entry)) (now («out_of» .entry)) (now (columns .entry)) (now (rows .entry)) (now (below .entry)) (now (left .entry)) u v) ⌝ }
+    ensures { λ r. ⌜ r ≡ codeOf (kindAmong c d p q into «out_of» (now (columns .entry)) (now (rows .entry)) (now (below .entry)) (now (left .entry)) u v) ⌝ }
 {
-    let c = byte_at(channel, u);
-    let d = byte_at(channel, v);
     if c == d {
-        if adjacent(byte_at(position, u), byte_at(position, v)) {
+        if adjacent(p, q) {
             return Code {
                 code: 0,
                 value: 0,
@@ -209,7 +221,7 @@ pub fn kind_of<'a>(
         }
         return Code {
             code: 1,
-            value: lesser(number_at(into, v), number_at(out_of, u)),
+            value: lesser(into, out_of),
             row: 0,
         };
     }

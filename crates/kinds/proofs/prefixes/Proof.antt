@@ -1,20 +1,20 @@
 -- `kinds::prefixes` meets its contract: the vertices passed stand in the sets after their keys. Assumes nothing.
 use mathlib.Core.Path.{_≡_, refl, _∙_}
-use Prim.Native.Nat.{_-_, _≤_, min}
+use Prim.Native.Nat.{_-_, _≤_, min, zero-le}
 use native.Mathlib.Omega.{arith}
 use lib.ListN.{length, getD}
 use Rattle.kinds.specs.Prefixes.{Stage}
-use Rattle.kinds.proofs.Stages.{stage-none, put-step, stage-joined}
+use Rattle.kinds.proofs.Stages.{stage-start, put-step, stage-joined}
 use borrow.Author.Needs.{needs}
 use Rattle.kinds.proofs.prefixes.Statement.{statement}
 use Rattle.kinds.proofs.prefixes.Tie as tie
 
 abbrev Inv-loop : tie.InvT-loop
-Inv-loop keys n top m sets₀ v₀ sets v =
-    (v ≤ m) × (length sets ≡ 258) × Stage 2 v (λ w. getD keys w 0) (min top 128) 0 sets
+Inv-loop keys n top sets₀ m last v₀ sets v =
+    (v ≤ m) × (length sets ≡ length sets₀) × Stage 2 v (λ w. getD keys w 0) last 0 sets
 
 abbrev μ-loop : tie.MeasureT-loop
-μ-loop keys n top m sets₀ v₀ sets v = m - v
+μ-loop keys n top sets₀ m last v₀ sets v = m - v
 
 least-requires : tie.Need-least-requires Inv-loop μ-loop
 least-requires c κs = search needs
@@ -22,11 +22,17 @@ least-requires c κs = search needs
 least-requires-2 : tie.Need-least-requires-2 Inv-loop μ-loop
 least-requires-2 c κs = search needs
 
-loop-holds : tie.Need-loop-holds Inv-loop μ-loop
-loop-holds c = (omega arith, refl, stage-none 2 _ _ 258 (omega arith))
+last-set-requires : tie.Need-last-set-requires Inv-loop μ-loop
+last-set-requires c κs = search needs
 
-slice-aggregate-insert : tie.Need-slice-aggregate-insert Inv-loop μ-loop
-slice-aggregate-insert c = search needs
+clear-requires : tie.Need-clear-requires Inv-loop μ-loop
+clear-requires c κs = search needs
+
+loop-holds : tie.Need-loop-holds Inv-loop μ-loop
+loop-holds c =
+    let m = length (c .before .before .before .before .before .before .before .before .before .args .sets .now) in
+    let e = c .before .before .before .before .last-set .ensures in
+    (zero-le, refl, stage-start _ _ m _ (c .before .before .clear .ensures) (omega arith))
 
 shared-slice-read-wide : tie.Need-shared-slice-read-wide Inv-loop μ-loop
 shared-slice-read-wide c = search needs
@@ -51,29 +57,28 @@ loop-less c = search needs
 
 loop-again : tie.Need-loop-again Inv-loop μ-loop
 loop-again c =
-    let call = c .before .insert in
-    let w = c .before .before .wide in
-    let l = c .before .before .before .before .before .before .loop in
-    (omega arith, call .kept .0 ∙ l .inv .1, put-step _ _ _ _ _ _ (omega arith) (w .ensures .0) (call .ensures .1) (l .inv .2))
-
-slice-aggregate-join : tie.Need-slice-aggregate-join Inv-loop μ-loop
-slice-aggregate-join c = search needs
-
-least-requires-3 : tie.Need-least-requires-3 Inv-loop μ-loop
-least-requires-3 c κs = search needs
+    let call = c .before .before .insert in
+    let l = c .before .before .before .before .before .before .before .loop in
+    let put = put-step _ _ _ _ _ _ (omega arith) (c .before .before .before .wide .ensures .0) (call .ensures .1) (l .inv .2) in
+    (omega arith, call .kept .0 ∙ l .inv .1, put)
 
 join-requires : tie.Need-join-requires Inv-loop μ-loop
 join-requires c κs =
-    let l = c .before .before .before .loop in
-    let e = c .least3 .ensures in
-    (omega arith, omega arith)
+    let e = c .before .before .before .before .before .before .before .last-set .ensures in
+    omega (arith, c .before .before .loop .inv .1, c .before .before .before .before .before .clear .kept .0)
+
+same-length : tie.Need-same-length Inv-loop μ-loop
+same-length c =
+    let l = c .before .before .before .before .before in
+    c .before .before .join .kept .0 ∙ l .loop .inv .1 ∙ l .before .before .before .clear .kept .0
 
 returns : tie.Need-returns Inv-loop μ-loop
 returns c =
-    let l = c .before .before .before .before .before .loop in
-    let a = c .before .before .before .before .before .before .before .before .before .args in
+    let i = c .before .before .before .before .before in
+    let l = i .loop in
+    let a = i .before .before .before .before .before .before .before .before .before .before .args in
     let full : l .v ≡ min (min (a .n) 128) (length (a .keys .now)) = omega arith in
-    stage-joined _ _ _ _ _ _ _ (c .before .before .least3 .ensures) full (l .inv .2) (c .before .join .ensures)
+    (i .before .before .before .before .before .last-set .ensures, stage-joined _ _ _ _ _ _ full (l .inv .2) (c .before .before .join .ensures), same-length c)
 
 pub prefixes-spec : {M : Type 1} → statement M
 prefixes-spec =
@@ -83,8 +88,9 @@ prefixes-spec =
     μ-loop
     least-requires
     least-requires-2
+    last-set-requires
+    clear-requires
     loop-holds
-    slice-aggregate-insert
     shared-slice-read-wide
     wide-requires
     add-insert
@@ -93,7 +99,6 @@ prefixes-spec =
     add-v
     loop-less
     loop-again
-    slice-aggregate-join
-    least-requires-3
     join-requires
+    same-length
     returns)
