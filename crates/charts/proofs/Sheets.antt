@@ -4,11 +4,11 @@ use mathlib.Core.Bool.{Bool, true}
 use mathlib.Core.List.{List}
 use Prim.Native.Nat.{ℕ, _+_, _-_, _*_, _/_, _<_, _≤_, min}
 use native.Mathlib.Omega.{arith}
-use lib.ListN.{length, getD, take, drop}
+use lib.ListN.{length, getD, take, drop, replicate}
 use Rattle.counting.proofs.Zeros.{zeros}
 use Rattle.masks.specs.Sets.{member?}
 use Rattle.reach.proofs.Ends.{tail-at, head-at}
-use Rattle.record.specs.Checks.{Content, edgesOf}
+use Rattle.record.specs.Checks.{Content, edgesOf, refusalOf}
 use Rattle.record.specs.Layout.{layoutOf}
 use Rattle.record.specs.Reading.{nothing}
 use Rattle.record.specs.declared.layout.Fields.{Fields}
@@ -16,20 +16,19 @@ use Rattle.record.specs.declared.layout.Layout.the-variants.{Good, Bad}
 use Rattle.outline.specs.Chart.{planOf, tailOf, headOf, kindBetween, transitiveEdge?, vertexEntry, edgeEntry, bundleEntry}
 use Rattle.outline.specs.declared.Kind.{Kind}
 use Rattle.kinds.specs.Codes.{codeOf, kindOf}
-use Rattle.kinds.specs.Prefixes.{Prefixes}
-use Rattle.kinds.specs.Kinds.{kindAmong}
+use Rattle.kinds.specs.Prefixes.{lastSet, Prefixes}
 use Rattle.kinds.specs.declared.Code.{Code}
 use Rattle.kinds.proofs.Coding.{kind-coded}
 use Rattle.drawing.specs.Drawn.{Drawn, graphContent, graphDrawn, short?, lent, refusedBy}
-use Rattle.drawing.specs.Laid.{Laid}
+use Rattle.drawing.specs.Laid.{Lists, lists, Roomy, Laid, Plans}
 use Rattle.drawing.specs.declared.Plan.{Plan}
 use Rattle.drawing.proofs.Entries.{edges-counted, small, edges-few, bundles-few, vertex-drawn, bundle-drawn, kind-among, mark-drawn}
-use Rattle.drawing.proofs.Judging.{record-good}
+use Rattle.drawing.proofs.Judging.{graph-refused, graph-whole, record-good}
 use Rattle.drawing.proofs.Nothing.{empty}
-use Rattle.drawing.proofs.Shortage.{enough, lent-short, lent-whole}
+use Rattle.drawing.proofs.Shortage.{short-vertices, short-edges, short-bundles, enough, lent-short, lent-whole}
 use Rattle.charts.specs.declared.Sheet.{Sheet}
-use Rattle.charts.specs.Entries.{vertexAt, kindAt, transitive?, edgeAt, bundleAt}
-use Rattle.charts.specs.Steps.{blankOf, sheetOf, Tables, Room, SheetOf, RecordSheet, endsIn, endsOf}
+use Rattle.charts.specs.Entries.{vertexAt, kindBy, kindAt, transitive?, edgeAt, bundleAt}
+use Rattle.charts.specs.Steps.{blankOf, sheetOf, Drafted, Tables, Room, SheetOf, GraphSheet, RecordSheet, endsIn, endsOf}
 
 -- ---- an edge's entry
 
@@ -82,13 +81,13 @@ module _ (x : Drawn) (ends : List ℕ) (v e b : ℕ) (d : Sheet) where
       blank-sheet k (ap (lent v e b) r ∙ lent-whole v e b (refusedBy k)
       (enough v e b (refusedBy k) (omega arith) (omega (arith, empty .edges)) (omega (arith, empty .bundles)))) h
 
-  pub short-sheet : short? v e b x ≡ true → d ≡ blankOf 8 → SheetOf x ends v e b d
+  short-sheet : short? v e b x ≡ true → d ≡ blankOf 8 → SheetOf x ends v e b d
   short-sheet s h = blank-sheet 8 (lent-short v e b x s) h
 
 -- ---- a chart
 
-module _ (n : ℕ) (ends : List ℕ) (given : Bool) (field : List ℕ) (p : Plan) (below longer : List ℕ)
-    (l : Laid (graphContent n ends given field) p below longer) where
+module _ (n : ℕ) (ends : List ℕ) (given : Bool) (field : List ℕ) (p : Plan) (t : Lists)
+    (l : Laid (graphContent n ends given field) p t) where
   abbrev c : Content
   c = graphContent n ends given field
 
@@ -105,28 +104,32 @@ module _ (n : ℕ) (ends : List ℕ) (given : Bool) (field : List ℕ) (p : Plan
   counted = edges-counted n ends given field
 
   -- the counts that are compared are the chart's
-  pub sizes : drawn ≡ whole
-      → (drawn .graph .vertices ≡ n) × (edgesOf (drawn .graph) ≡ m) × (length (planOf (drawn .graph) .bundles) ≡ p .bundles .count)
+  sizes : drawn ≡ whole
+      → (drawn .graph .vertices ≡ n) × (edgesOf (drawn .graph) ≡ m) × (length (planOf (drawn .graph) .bundles) ≡ p .bundles)
   unfolding graphContent
   sizes e = rw e (refl, edges-counted n ends given field, sym (l .bundles .counted))
 
   few : n ≤ 128
   unfolding graphContent
-  few = small c p below longer l
+  few = small c p t l
+
+  bundles-low : p .bundles ≤ 256
+  unfolding graphContent
+  bundles-low = let f = few in omega (arith, bundles-few c p t l)
 
   -- `left` is made of the channels by `kinds::prefixes`
-  module _ (left : List ℕ) (lefts : Prefixes 2 (min (min n 128) (length (p .channels .channel))) (λ v. getD (p .channels .channel) v 0)
-      (min (p .channels .count) 128) left) where
+  module _ (left : List ℕ) (lefts : Prefixes 2 (min (min n 128) (length (p .channel))) (λ v. getD (p .channel) v 0)
+      (lastSet (p .channels) 258) left) (long : length (t .used) ≡ 128) where
     abbrev sheet : Sheet
-    sheet = sheetOf n m p below longer left
+    sheet = sheetOf n m p t left
 
     vertex-same : (v : ℕ) → v < n → vertexAt sheet v ≡ vertexEntry c (planOf c) v
     unfolding vertexAt graphContent
-    vertex-same v h = vertex-drawn c p below longer l v h
+    vertex-same v h = vertex-drawn c p t l v h
 
     bundle-same : (b : ℕ) → bundleAt sheet b ≡ bundleEntry (planOf c) b
     unfolding bundleAt
-    bundle-same b = bundle-drawn c p below longer l b
+    bundle-same b = bundle-drawn c p t l b
 
     module _ (e : ℕ) (h : e < edgesOf c) where
       -- the ends are bytes of the list
@@ -139,8 +142,7 @@ module _ (n : ℕ) (ends : List ℕ) (given : Bool) (field : List ℕ) (p : Plan
       head-same = sym (head-at ends e)
 
       abbrev among : ℕ → ℕ → ℕ → Kind
-      among k = kindAmong (p .channels .channel) (p .channels .position) (p .bundles .into) (p .bundles .«out_of») (take k (p .column))
-          (take k (p .row)) below left
+      among k = kindBy (p .channel) (p .position) (t .number) (take k (t .column)) (take k (p .row)) (t .below) left
 
       kind-same : kindAt sheet (getD ends (2 * e) 0) (getD ends (2 * e + 1) 0) ≡ kindBetween c (planOf c) (tailOf c e) (headOf c e)
       unfolding kindAt graphContent
@@ -148,11 +150,11 @@ module _ (n : ℕ) (ends : List ℕ) (given : Bool) (field : List ℕ) (p : Plan
           let all : min n 128 ≡ n = let f = few in omega arith in
           ap (λ k. among k (getD ends (2 * e) 0) (getD ends (2 * e + 1) 0)) all
           ∙ ap₂ (among n) tail-same head-same
-          ∙ kind-among c p below longer l e h left (λ _. lefts)
+          ∙ kind-among c p t l e h 258 left (let f = few in omega arith) (λ _. lefts)
 
       mark-same : transitive? sheet (getD ends (2 * e) 0) (getD ends (2 * e + 1) 0) ≡ transitiveEdge? c e
       unfolding transitive?
-      mark-same = ap₂ (λ (x y : ℕ). member? longer (2 * x) y) tail-same head-same ∙ mark-drawn c p below longer l e h
+      mark-same = ap₂ (λ (x y : ℕ). member? (t .longer) (2 * x) y) tail-same head-same ∙ mark-drawn c p t l e h
 
       edge-same : edgeAt sheet ends e ≡ edgeEntry c (planOf c) e
       unfolding edgeAt edgeEntry
@@ -165,16 +167,16 @@ module _ (n : ℕ) (ends : List ℕ) (given : Bool) (field : List ℕ) (p : Plan
       edges = sym counted;
       bundles = l .bundles .counted;
       rows = l .row-count;
-      channels = l .channels .counted;
+      channels = l .channel-count;
       width = l .width;
       tracks = l .used;
-      long = l .tabled .4;
+      long = long;
       vertex = vertex-same;
       edge = edge-same;
       bundle = λ b h. bundle-same b;
     }
 
-    pub whole-sheet : (v e b : ℕ) (d : Sheet) → drawn ≡ whole → n ≤ v → m ≤ e → p .bundles .count ≤ b → d ≡ sheet
+    whole-sheet : (v e b : ℕ) (d : Sheet) → drawn ≡ whole → n ≤ v → m ≤ e → p .bundles ≤ b → d ≡ sheet
         → SheetOf drawn ends v e b d
     whole-sheet v e b d q hv he hb is =
         let z = sizes q in
@@ -185,14 +187,74 @@ module _ (n : ℕ) (ends : List ℕ) (given : Bool) (field : List ℕ) (p : Plan
           room = record {
             bounded = record {
               vertices = few;
-              edges = omega (arith, edges-few c p below longer l, counted);
-              bundles = bundles-few c p below longer l;
+              edges = omega (arith, edges-few c p t l, counted);
+              bundles = bundles-low;
             };
             vertices = hv;
             edges = he;
             bundles = hb;
           };
         })
+
+-- ---- what is made of a plan, by what is compared
+
+-- the lists that are lent to the planner
+abbrev cleared : Lists
+cleared = lists (replicate 256 0) (replicate 258 0) (replicate 256 0) (replicate 256 0) (replicate 256 0) (replicate 256 0)
+    (replicate 256 0) (replicate 256 0) (replicate 256 0) (replicate 128 0) (replicate 128 0)
+
+-- .. have room for every graph
+roomy : (n : ℕ) → Roomy n cleared
+roomy n =
+    let one : min n 128 ≤ 128 = omega arith in
+    let two : 2 * min n 128 ≤ 256 = omega arith in
+    let more : 2 * min n 128 + 2 ≤ 258 = omega arith in
+    let all : 128 ≤ 128 = omega arith in
+    record {
+      masks = record { edges = two; below = more; table = two; longer = two };
+      of = two;
+      first = two;
+      last = two;
+      number = two;
+      track = two;
+      used = all;
+      column = one;
+    }
+
+module _ (n : ℕ) (ends : List ℕ) (given : Bool) (field : List ℕ) (p : Plan) (s : Lists) (q : Plans n ends given field cleared p s)
+    (v e b : ℕ) (d : Sheet) where
+  answer : p .refusal ≡ refusalOf (graphContent n ends given field)
+  answer = q .answer (roomy n)
+
+  pub graph-unplanned : (p .refusal ≡ 0 → ⊥) → d ≡ blankOf (p .refusal) → GraphSheet n ends given field v e b d
+  graph-unplanned ne h = refused-sheet _ _ _ _ _ _ _ (graph-refused n ends given field _ answer ne) h
+
+  module _ (ok : p .refusal ≡ 0) where
+    abbrev laid : Laid (graphContent n ends given field) p s
+    laid = q .laid ok
+
+    drawn-whole : graphDrawn n ends given field ≡ record { refusal = 0; graph = graphContent n ends given field }
+    drawn-whole = graph-whole n ends given field (sym ok ∙ answer)
+
+    pub vertices-short : v < n → d ≡ blankOf 8 → GraphSheet n ends given field v e b d
+    vertices-short h is =
+        let z = sizes n ends given field p s laid drawn-whole in
+        short-sheet _ _ _ _ _ _ (short-vertices _ _ _ _ (omega (arith, z))) is
+
+    pub edges-short : e < length ends / 2 → d ≡ blankOf 8 → GraphSheet n ends given field v e b d
+    edges-short h is =
+        let z = sizes n ends given field p s laid drawn-whole in
+        short-sheet _ _ _ _ _ _ (short-edges _ _ _ _ (omega (arith, z))) is
+
+    pub bundles-short : b < p .bundles → d ≡ blankOf 8 → GraphSheet n ends given field v e b d
+    bundles-short h is =
+        let z = sizes n ends given field p s laid drawn-whole in
+        short-sheet _ _ _ _ _ _ (short-bundles _ _ _ _ (omega (arith, z))) is
+
+    pub graph-drafted : n ≤ v → length ends / 2 ≤ e → p .bundles ≤ b → Drafted n (length ends / 2) p s d
+        → GraphSheet n ends given field v e b d
+    graph-drafted hv he hb h =
+        whole-sheet n ends given field p s laid _ (h .lefts) (q .long .used) v e b d drawn-whole hv he hb (h .tables)
 
 -- ---- a record is read part by part
 

@@ -20,11 +20,17 @@ vertexAt d v = record {
   descendants = getD (d .descendants) v 0;
 }
 
--- of the edge from u to v; a table has 128 vertices
+-- of the edge from u to v, by tables of the vertices; the bundle of the edges into v is at 2 v, that of the edges out of u at 2 u + 1
+abbrev pub kindBy : List ℕ → List ℕ → List ℕ → List ℕ → List ℕ → List ℕ → List ℕ → ℕ → ℕ → Kind
+kindBy channel position number columns rows below left u v =
+    kindAmong (getD channel u 0) (getD channel v 0) (getD position u 0) (getD position v 0)
+    (getD number (2 * v) 0) (getD number (2 * u + 1) 0) columns rows below left u v
+
+-- .. by a sheet, whose tables have 128 vertices
 unfoldable pub kindAt : Sheet → ℕ → ℕ → Kind
 kindAt d u v =
-    kindAmong (d .channel) (d .position) (d .into) (d .«out_of») (take (min (d .vertices) 128) (d .column))
-    (take (min (d .vertices) 128) (d .row)) (d .below) (d .left) u v
+    kindBy (d .channel) (d .position) (d .number) (take (min (d .vertices) 128) (d .column)) (take (min (d .vertices) 128) (d .row))
+    (d .below) (d .left) u v
 
 unfoldable pub transitive? : Sheet → ℕ → ℕ → Bool
 transitive? d u v = member? (d .longer) (2 * u) v

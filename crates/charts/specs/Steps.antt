@@ -15,8 +15,9 @@ use Rattle.outline.specs.Chart.{planOf, rowCount, widthOf, tracksIn, vertexEntr
 use Rattle.outline.specs.declared.VertexEntry.{VertexEntry}
 use Rattle.outline.specs.declared.EdgeEntry.{EdgeEntry}
 use Rattle.outline.specs.declared.BundleEntry.{BundleEntry}
-use Rattle.kinds.specs.Prefixes.{Prefixes}
+use Rattle.kinds.specs.Prefixes.{lastSet, Prefixes}
 use Rattle.drawing.specs.Drawn.{Drawn, graphDrawn, recordDrawn, lent}
+use Rattle.drawing.specs.Laid.{Lists}
 use Rattle.drawing.specs.declared.Plan.{Plan}
 use Rattle.charts.specs.declared.Sheet.{Sheet}
 use Rattle.charts.specs.declared.Chart.{Chart}
@@ -43,8 +44,7 @@ blankOf k = record {
   longer = replicate 256 0;
   below = replicate 258 0;
   left = replicate 258 0;
-  into = replicate 128 0;
-  «out_of» = replicate 128 0;
+  number = replicate 256 0;
   of = replicate 256 0;
   first = replicate 256 0;
   last = replicate 256 0;
@@ -52,37 +52,35 @@ blankOf k = record {
 }
 
 -- the tables of a plan of n vertices and m edges
-abbrev pub sheetOf : ℕ → ℕ → Plan → List ℕ → List ℕ → List ℕ → Sheet
-sheetOf n m p below longer left = record {
+abbrev pub sheetOf : ℕ → ℕ → Plan → Lists → List ℕ → Sheet
+sheetOf n m p t left = record {
   refusal = 0;
   vertices = n;
   edges = m;
-  bundles = p .bundles .count;
-  rows = p .used;
-  channels = p .channels .count;
+  bundles = p .bundles;
+  rows = p .rows;
+  channels = p .channels;
   width = p .width;
-  tracks = p .tracks .used;
-  channel = p .channels .channel;
-  position = p .channels .position;
-  column = p .column;
+  tracks = t .used;
+  channel = p .channel;
+  position = p .position;
+  column = t .column;
   row = p .row;
   descendants = p .descendants;
-  longer = longer;
-  below = below;
+  longer = t .longer;
+  below = t .below;
   left = left;
-  into = p .bundles .into;
-  «out_of» = p .bundles .«out_of»;
-  of = p .bundles .channel;
-  first = p .bundles .first;
-  last = p .bundles .last;
-  track = p .tracks .track;
+  number = t .number;
+  of = t .of;
+  first = t .first;
+  last = t .last;
+  track = t .track;
 }
 
 -- .. and the sets of the vertices left of each channel
-pub record Drafted (n m : ℕ) (p : Plan) (below longer : List ℕ) (d : Sheet) : Type 0 where
-  pub tables : d ≡ sheetOf n m p below longer (d .left)
-  pub lefts : Prefixes 2 (min (min n 128) (length (p .channels .channel))) (λ v. getD (p .channels .channel) v 0)
-      (min (p .channels .count) 128) (d .left)
+pub record Drafted (n m : ℕ) (p : Plan) (t : Lists) (d : Sheet) : Type 0 where
+  pub tables : d ≡ sheetOf n m p t (d .left)
+  pub lefts : Prefixes 2 (min (min n 128) (length (p .channel))) (λ v. getD (p .channel) v 0) (lastSet (p .channels) 258) (d .left)
 
 -- the counts are within the tables
 pub record Bounded (d : Sheet) : Type 0 where

@@ -1,15 +1,18 @@
 // Charts handed over into lists that the caller lends (document 01, 'What the chart hands over').
 ghost use mathlib.Core.Path.{_≡_};
-ghost use Prim.Native.Nat.{_+_, _<_, _≤_, min};
+ghost use mathlib.Core.List.{List};
+ghost use Prim.Native.Nat.{ℕ, _+_, _<_, _≤_, min};
 ghost use lib.ListN.{length, getD};
 ghost use Rattle.counting.specs.Count.{indicator, count};
 ghost use Rattle.lists.specs.Filled.{Filled};
-ghost use Rattle.kinds.specs.Codes.{kindOf};
+ghost use Rattle.kinds.specs.Codes.{codeOf, kindOf};
 ghost use Rattle.drawing.specs.Drawn.{recordDrawn, graphDrawn};
+ghost use Rattle.drawing.specs.Laid.{lists};
 ghost use Rattle.charts.specs.Promise.{HandedOver};
-ghost use Rattle.charts.specs.Entries.{vertexAt, kindAt, transitive?, edgeAt, bundleAt, reduced?};
+ghost use Rattle.charts.specs.Entries.{vertexAt, kindBy, kindAt, transitive?, edgeAt, bundleAt, reduced?};
 ghost use Rattle.charts.specs.Steps.{blankOf, Drafted, Room, GraphSheet, RecordSheet, endsOf, summaryOf, Leaves};
 use drawing::Plan;
+use kinds::Code;
 use outline::Bend;
 use outline::BundleEntry;
 use outline::EdgeEntry;
@@ -31,8 +34,9 @@ pub struct Chart {
     pub tracks: [u16; 128],
 }
 
-// What a chart's counts and entries are made of, but for the ends of the edges: the places and bundles of the vertices, the pairs with a
-// vertex between, the sets of the vertices below each row and left of each channel, and the channel, rows and track of each bundle.
+// What a chart's counts and entries are made of, but for the ends of the edges: the places of the vertices, the pairs with a vertex
+// between, the sets of the vertices below each row and left of each channel, the bundle of the edges into each vertex and of those out of
+// it, in turn, and the channel, rows and track of each bundle.
 pub struct Sheet {
     pub refusal: u8,
     pub vertices: usize,
@@ -50,8 +54,7 @@ pub struct Sheet {
     pub longer: [u64; 256],
     pub below: [u64; 258],
     pub left: [u64; 258],
-    pub into: [u16; 128],
-    pub out_of: [u16; 128],
+    pub number: [u16; 256],
     pub of: [u8; 256],
     pub first: [u8; 256],
     pub last: [u8; 256],
@@ -80,6 +83,16 @@ fn byte_at(bytes: &[u8], i: usize) -> u8
 {
     if i < bytes.len() {
         return bytes[i];
+    }
+    0
+}
+
+// Number i of a list, 0 past its end.
+fn number_at(list: &[u16], i: usize) -> u16
+    ensures { λ r. ⌜ r ≡ getD (now (list .entry)) i 0 ⌝ }
+{
+    if i < list.len() {
+        return list[i];
     }
     0
 }
@@ -114,8 +127,33 @@ fn kind_of(code: u8, value: u16, row: u8) -> Kind
     Kind::Bent(Bend { column: value, row })
 }
 
+// The code of the kind of the edge u -> v.
+fn code_at<'a>(
+    channel: &'a [u8],
+    position: &'a [u8],
+    number: &'a [u16],
+    columns: &'a [u16],
+    rows: &'a [u8],
+    below: &'a [u64],
+    left: &'a [u64],
+    u: usize,
+    v: usize,
+) -> Code
+    requires { ⌜ (u < 256) × (v < 256) ⌝ }
+    ensures { λ r. ⌜ r ≡ codeOf (kindBy (now (channel .entry)) (now (position .entry)) (now (number .entry)) (now (columns .entry)) (now (rows .entry)) (now (below .entry)) (now (left .entry)) u v) ⌝ }
+{
+    let c = byte_at(channel, u);
+    let d = byte_at(channel, v);
+    let p = byte_at(position, u);
+    let q = byte_at(position, v);
+    let into = number_at(number, 2 * v);
+    let out_of = number_at(number, 2 * u + 1);
+    kinds::kind_of(c, d, p, q, into, out_of, columns, rows, below, left, u, v)
+}
+
 // The kind of the edge u -> v.
 fn kind_at(d: Sheet, u: usize, v: usize) -> Kind
+    requires { ⌜ (u < 256) × (v < 256) ⌝ }
     ensures { λ r. ⌜ r ≡ kindAt d u v ⌝ }
 {
     let n = least(d.vertices, 128);
@@ -123,11 +161,10 @@ fn kind_at(d: Sheet, u: usize, v: usize) -> Kind
     let row = d.row;
     let columns = &column[..];
     let rows = &row[..];
-    let k = kinds::kind_of(
+    let k = code_at(
         &d.channel,
         &d.position,
-        &d.into,
-        &d.out_of,
+        &d.number,
         &columns[..n],
         &rows[..n],
         &d.below,
@@ -196,8 +233,7 @@ fn blank(refusal: u8) -> Sheet
         longer: [0; 256],
         below: [0; 258],
         left: [0; 258],
-        into: [0; 128],
-        out_of: [0; 128],
+        number: [0; 256],
         of: [0; 256],
         first: [0; 256],
         last: [0; 256],
@@ -205,35 +241,39 @@ fn blank(refusal: u8) -> Sheet
     }
 }
 
-// The sheet of what is planned of n vertices and m edges.
-fn drafted(n: usize, m: usize, p: Plan, below: [u64; 258], longer: [u64; 256]) -> Sheet
-    ensures { λ r. ⌜ Drafted n m p below longer r ⌝ }
+// The sheet of what is planned of n vertices and m edges. Of the lists that are lent to the planner it has all but the edges and the table
+// of what reaches what.
+fn drafted(
+    n: usize,
+    m: usize,
+    p: Plan,
+    below: [u64; 258],
+    longer: [u64; 256],
+    of: [u8; 256],
+    first: [u8; 256],
+    last: [u8; 256],
+    number: [u16; 256],
+    track: [u8; 256],
+    tracks: [u16; 128],
+    column: [u16; 128],
+) -> Sheet
+    ensures { λ r. ⌜ ((edges table : List ℕ) → Drafted n m p (lists edges below table longer of first last number track tracks column) r) ⌝ }
 {
-    let lines = p.channels;
-    let gathered = p.bundles;
-    let tracks = p.tracks;
-    let used = tracks.used;
-    let channel = lines.channel;
-    let position = lines.position;
-    let column = p.column;
+    let channel = p.channel;
+    let position = p.position;
     let row = p.row;
     let descendants = p.descendants;
-    let left = kinds::prefixes(&channel, n, wide(lines.count));
-    let into = gathered.into;
-    let out_of = gathered.out_of;
-    let of = gathered.channel;
-    let first = gathered.first;
-    let last = gathered.last;
-    let track = tracks.track;
+    let mut left = [0; 258];
+    kinds::prefixes(&channel, n, wide(p.channels), &mut left);
     Sheet {
         refusal: 0,
         vertices: n,
         edges: m,
-        bundles: gathered.count as usize,
-        rows: p.used,
-        channels: lines.count,
+        bundles: p.bundles,
+        rows: p.rows,
+        channels: p.channels,
         width: p.width,
-        tracks: used,
+        tracks,
         channel,
         position,
         column,
@@ -242,8 +282,7 @@ fn drafted(n: usize, m: usize, p: Plan, below: [u64; 258], longer: [u64; 256]) -
         longer,
         below,
         left,
-        into,
-        out_of,
+        number,
         of,
         first,
         last,
@@ -263,24 +302,61 @@ fn sheet_of_graph<'a>(
 ) -> Sheet
     ensures { λ r. ⌜ GraphSheet n (now (ends .entry)) given (now (field .entry)) vertices edges bundles r ⌝ }
 {
+    let mut edge_table = [0; 256];
     let mut below = [0; 258];
+    let mut table = [0; 256];
     let mut longer = [0; 256];
-    let p = drawing::planned(n, ends, given, field, &mut below, &mut longer);
+    let mut of = [0; 256];
+    let mut first = [0; 256];
+    let mut last = [0; 256];
+    let mut number = [0; 256];
+    let mut track = [0; 256];
+    let mut used = [0; 128];
+    let mut column = [0; 128];
+    let p = drawing::planned(
+        n,
+        ends,
+        given,
+        field,
+        &mut edge_table,
+        &mut below,
+        &mut table,
+        &mut longer,
+        &mut of,
+        &mut first,
+        &mut last,
+        &mut number,
+        &mut track,
+        &mut used,
+        &mut column,
+    );
     if p.refusal != 0 {
         return blank(p.refusal);
     }
     let m = ends.len() / 2;
-    let gathered = p.bundles;
     if vertices < n {
         return blank(8);
     }
     if edges < m {
         return blank(8);
     }
-    if bundles < gathered.count as usize {
+    if bundles < p.bundles {
         return blank(8);
     }
-    drafted(n, m, p, below, longer)
+    drafted(
+        n,
+        m,
+        p,
+        below,
+        longer,
+        of,
+        first,
+        last,
+        number,
+        track,
+        used,
+        column,
+    )
 }
 
 // Of a record.

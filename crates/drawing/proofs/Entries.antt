@@ -1,9 +1,9 @@
 -- What the tables of a plan are, entry by entry: the chart's entries. Cites the chart's laws. Assumes nothing.
-use mathlib.Core.Path.{_≡_, refl, sym, ap, ap₂, _∙_}
+use mathlib.Core.Path.{_≡_, refl, sym, ap, ap₂, _∙_, subst}
 use mathlib.Core.Logic.{_↔_}
 use mathlib.Core.Bool.{Bool, true, false}
 use mathlib.Core.List.{List}
-use Prim.Native.Nat.{ℕ, _*_, _/_, _≤_, _<_, min}
+use Prim.Native.Nat.{ℕ, _+_, _*_, _/_, _≤_, _<_, min}
 use native.Mathlib.Omega.{arith}
 use lib.Dec.{eqb}
 use lib.ListN.{length, getD, take}
@@ -32,11 +32,11 @@ use Rattle.outline.proofs.Leading.{edge-there}
 use Rattle.outline.proofs.Channels.{channels-few, channel-below}
 use Rattle.outline.proofs.Rows.{row-counted}
 use Rattle.outline.proofs.Bundling.{side-edge, side-number}
-use Rattle.kinds.specs.Prefixes.{Prefixes}
+use Rattle.kinds.specs.Prefixes.{lastSet, Prefixes}
 use Rattle.kinds.specs.Kinds.{kindIn, kindAmong}
 use Rattle.kinds.proofs.Candidates.{Ready, kind-candidates}
 use Rattle.drawing.specs.Drawn.{graphContent}
-use Rattle.drawing.specs.Laid.{Laid}
+use Rattle.drawing.specs.Laid.{Lists, Laid}
 use Rattle.drawing.specs.declared.Plan.{Plan}
 
 -- ---- of the graph alone
@@ -65,7 +65,11 @@ kind-picked true true b d x y side cross = refl
 kind-picked true false b d x y side cross = ap PathTransitive (side refl refl)
 kind-picked false next b d x y side cross = cross refl
 
-module _ (c : Content) (p : Plan) (below longer : List ℕ) (l : Laid c p below longer) where
+-- a list with room has a set for every channel
+last-all : (count size : ℕ) → count ≤ 128 → 2 * count + 2 ≤ size → lastSet count size ≡ min count 128
+last-all count size small room = omega arith
+
+module _ (c : Content) (p : Plan) (t : Lists) (l : Laid c p t) where
   abbrev n : ℕ
   n = c .vertices
 
@@ -83,8 +87,8 @@ module _ (c : Content) (p : Plan) (below longer : List ℕ) (l : Laid c p below 
   pub edges-few : edgesOf c ≤ 4096
   edges-few = l .sound .size .2
 
-  pub bundles-few : p .bundles .count ≤ 256
-  bundles-few = let k = small in omega (arith, l .bundles .counted, l .bundles .few)
+  pub bundles-few : p .bundles ≤ 2 * n
+  bundles-few = omega (arith, l .bundles .counted, l .bundles .few)
 
   pub ends-known : (e : ℕ) → e < edgesOf c → (tailOf c e < n) × (headOf c e < n)
   ends-known e h = l .sound .ends e h
@@ -93,82 +97,83 @@ module _ (c : Content) (p : Plan) (below longer : List ℕ) (l : Laid c p below 
 
   pub vertex-drawn : (v : ℕ) → v < n → _≡_ {A = VertexEntry}
       (record {
-        channel = getD (p .channels .channel) v 0;
-        position = getD (p .channels .position) v 0;
-        column = getD (p .column) v 0;
+        channel = getD (p .channel) v 0;
+        position = getD (p .position) v 0;
+        column = getD (t .column) v 0;
         row = getD (p .row) v 0;
         descendants = getD (p .descendants) v 0;
       })
       (vertexEntry c planned v)
   unfolding vertexEntry
-  vertex-drawn v h = rw (l .channels .channel v, l .channels .position v, l .column v h, l .rows v h, l .descendants v (omega (arith, small))) refl
+  vertex-drawn v h = rw (l .channels v, l .positions v, l .column v h, l .rows v h, l .descendants v (omega (arith, small))) refl
 
   pub bundle-drawn : (b : ℕ) → _≡_ {A = BundleEntry}
       (record {
-        channel = getD (p .bundles .channel) b 0;
-        «first_row» = getD (p .bundles .first) b 0;
-        «last_row» = getD (p .bundles .last) b 0;
-        track = getD (p .tracks .track) b 0;
+        channel = getD (t .of) b 0;
+        «first_row» = getD (t .first) b 0;
+        «last_row» = getD (t .last) b 0;
+        track = getD (t .track) b 0;
       })
       (bundleEntry planned b)
   unfolding bundleEntry
-  bundle-drawn b = rw (l .bundles .channel b, l .bundles .first b, l .bundles .last b, l .track) refl
+  bundle-drawn b = rw (l .bundles .channel b, l .bundles .first b, l .bundles .last b, l .track b) refl
 
   -- ---- edges
 
   abbrev columns : List ℕ
-  columns = take n (p .column)
+  columns = take n (t .column)
 
   abbrev rows : List ℕ
   rows = take n (p .row)
 
   places-same : (v : ℕ) → v < n → pointOf columns rows v ≡ placeOf c planned v
-  places-same v h = ap₂ point (getD-take n (p .column) v 0 h ∙ l .column v h) (getD-take n (p .row) v 0 h ∙ l .rows v h)
+  places-same v h = ap₂ point (getD-take n (t .column) v 0 h ∙ l .column v h) (getD-take n (p .row) v 0 h ∙ l .rows v h)
 
   vertices-same : vertexCount columns rows ≡ n
   vertices-same =
       let k = small in
-      omega (arith, length-take-le n (p .column) (omega (arith, l .tabled .2)), length-take-le n (p .row) (omega (arith, l .tabled .0)))
+      omega (arith, length-take-le n (t .column) (omega (arith, l .room .column)), length-take-le n (p .row) (omega (arith, l .tabled .0)))
 
   -- ---- what candidates ask for
 
-  pub channels-small : p .channels .count ≤ 128
+  pub channels-small : p .channels ≤ n
   unfolding planOf chart.bundled chart.tracked
-  channels-small = omega (arith, l .channels .counted, channels-few c (l .sound), small)
+  channels-small = omega (arith, l .channel-count, channels-few c (l .sound))
 
   row-same : (v : ℕ) → v < n → getD rows v 0 ≡ rowOf c v
   row-same v h = getD-take n (p .row) v 0 h ∙ l .rows v h
 
-  below-same : (k v : ℕ) → k ≤ rowCount c → v < 128 → at 2 below k v ≡ 1 ↔ ((v < n) × (getD rows v 0 < k))
+  below-same : (k v : ℕ) → k ≤ rowCount c → v < 128 → at 2 (t .below) k v ≡ 1 ↔ ((v < n) × (getD rows v 0 < k))
   below-same k v a b = (
     (λ h. let r = l .below-rows k v a b .0 h in (r .0, omega (arith, r .1, row-same v (r .0)))),
     (λ h. l .below-rows k v a b .1 (h .0, omega (arith, h .1, row-same v (h .0)))),
   )
 
-  channel-known : (v : ℕ) → v < n → getD (p .channels .channel) v 0 < p .channels .count
+  channel-known : (v : ℕ) → v < n → getD (p .channel) v 0 < p .channels
   unfolding planOf chart.bundled chart.tracked
-  channel-known v h = omega (arith, l .channels .channel v, l .channels .counted, channel-below c (l .sound) v h)
+  channel-known v h = omega (arith, l .channels v, l .channel-count, channel-below c (l .sound) v h)
 
-  column-own : (v : ℕ) → v < n → getD columns v 0 ≡ ownColumn (widths planned) (getD (p .channels .channel) v 0)
+  column-own : (v : ℕ) → v < n → getD columns v 0 ≡ ownColumn (widths planned) (getD (p .channel) v 0)
   unfolding columnIn
-  column-own v h = getD-take n (p .column) v 0 h ∙ l .column v h ∙ ap (ownColumn (widths planned)) (sym (l .channels .channel v))
+  column-own v h = getD-take n (t .column) v 0 h ∙ l .column v h ∙ ap (ownColumn (widths planned)) (sym (l .channels v))
 
-  -- `left` is what `kinds::prefixes` makes of the channels, where there are more than two
-  abbrev pub LeftOf : List ℕ → Type 0
-  LeftOf left =
-      2 < p .channels .count → Prefixes 2 (min (min n 128) (length (p .channels .channel))) (λ v. getD (p .channels .channel) v 0) (min (p .channels .count) 128) left
+  -- `left` is what `kinds::prefixes` makes of the channels in a list of so many masks, where there are more than two
+  abbrev pub LeftOf : ℕ → List ℕ → Type 0
+  LeftOf size left =
+      2 < p .channels → Prefixes 2 (min (min n 128) (length (p .channel))) (λ v. getD (p .channel) v 0) (lastSet (p .channels) size) left
 
-  candidates : (left : List ℕ) → LeftOf left
-      → Ready (widths planned) n (rowCount c) (p .channels .count) (p .channels .channel) columns rows below left
-  candidates left q = record {
+  candidates : (size : ℕ) (left : List ℕ) → 2 * n + 2 ≤ size → LeftOf size left
+      → Ready (widths planned) n (rowCount c) (p .channels) (p .channel) columns rows (t .below) left
+  candidates size left room q = record {
     counted = vertices-same;
     few = small;
-    long = omega (arith, l .channels .sizes .2, small);
-    few-channels = channels-small;
+    long = omega (arith, l .tabled .2, small);
+    few-channels = omega (arith, channels-small, small);
     row-low = λ v h. omega (arith, row-same v h, row-counted c (l .sound) v h);
     by-row = below-same;
     channel-low = channel-known;
-    by-channel = q;
+    by-channel = λ h. subst (λ (k : ℕ). Prefixes 2 (min (min n 128) (length (p .channel))) (λ v. getD (p .channel) v 0) k left)
+        (last-all (p .channels) size (omega (arith, channels-small, small)) (omega (arith, channels-small))) (q h);
     on-own = column-own;
   }
 
@@ -179,37 +184,44 @@ module _ (c : Content) (p : Plan) (below longer : List ℕ) (l : Laid c p below 
     abbrev v : ℕ
     v = headOf c e
 
+    -- the bundles of the edges into v, and out of u
+    abbrev into : ℕ
+    into = getD (t .number) (2 * v) 0
+
+    abbrev outOf : ℕ
+    outOf = getD (t .number) (2 * u + 1) 0
+
     side-same : eqb (channelOf ls u) (channelOf ls v) ≡ true → adjacent? (positionOf ls u) (positionOf ls v) ≡ false
-        → min (getD (p .bundles .into) v 0) (getD (p .bundles .«out_of») u 0) ≡ bundleOf (planned .bundles) u v
+        → min into outOf ≡ bundleOf (planned .bundles) u v
     unfolding planOf chart.bundled chart.tracked
-    side-same t a =
+    side-same s a =
         let k = ends-known e h in
-        let few = small in
-        ap₂ min (l .bundles .into v (omega arith)) (l .bundles .out-of u (omega arith))
-        ∙ side-number c (l .sound) u v (side-edge c (l .sound) u v (edge-there c (l .sound) e h) (k .0) (k .1) (eqb-true _ _ t) a)
+        ap₂ min (l .bundles .into v (k .1)) (l .bundles .out-of u (k .0))
+        ∙ side-number c (l .sound) u v (side-edge c (l .sound) u v (edge-there c (l .sound) e h) (k .0) (k .1) (eqb-true _ _ s) a)
 
     course-drawn : courseOf (pointOf columns rows) (vertexCount columns rows) u v ≡ courseOf (placeOf c planned) n u v
     course-drawn =
         ap (λ k. courseOf (pointOf columns rows) k u v) vertices-same
         ∙ course-same (pointOf columns rows) (placeOf c planned) n u v (ends-known e h .0) (ends-known e h .1) places-same
 
-    pub kind-drawn : kindIn (p .channels .channel) (p .channels .position) (p .bundles .into) (p .bundles .«out_of») columns rows u v
+    kind-drawn :
+        kindIn (getD (p .channel) u 0) (getD (p .channel) v 0) (getD (p .position) u 0) (getD (p .position) v 0) into outOf columns rows u v
         ≡ kindBetween c planned u v
     unfolding kindIn kindBetween
     kind-drawn =
-        rw (l .channels .channel u, l .channels .channel v, l .channels .position u, l .channels .position v)
+        rw (l .channels u, l .channels v, l .positions u, l .positions v)
         (kind-picked (eqb (channelOf ls u) (channelOf ls v)) (adjacent? (positionOf ls u) (positionOf ls v)) _ _ _ _ side-same
         (λ f. ap crossing course-drawn))
 
-    pub mark-drawn : member? longer (2 * u) v ≡ transitiveEdge? c e
+    pub mark-drawn : member? (t .longer) (2 * u) v ≡ transitiveEdge? c e
     unfolding transitiveEdge?
     mark-drawn = l .longer-pairs u v (ends-known e h .0) (ends-known e h .1)
 
-    -- the same by candidates
-    pub kind-among : (left : List ℕ) → LeftOf left
-        → kindAmong (p .channels .channel) (p .channels .position) (p .bundles .into) (p .bundles .«out_of») columns rows below left u v
+    -- the kind by candidates is the chart's
+    pub kind-among : (size : ℕ) (left : List ℕ) → 2 * n + 2 ≤ size → LeftOf size left
+        → kindAmong (getD (p .channel) u 0) (getD (p .channel) v 0) (getD (p .position) u 0) (getD (p .position) v 0) into outOf columns rows
+        (t .below) left u v
         ≡ kindBetween c planned u v
-    kind-among left q =
-        kind-candidates _ _ _ _ _ (p .channels .position) (p .bundles .into) (p .bundles .«out_of») _ _ _ _ (candidates left q) u v
-        (ends-known e h .0) (ends-known e h .1)
+    kind-among size left room q =
+        kind-candidates _ _ _ _ _ _ _ _ _ (candidates size left room q) u v (ends-known e h .0) (ends-known e h .1) _ _ _ _ _ _ refl refl
         ∙ kind-drawn

@@ -1,20 +1,19 @@
 -- What the lower layers promise of a graph that passes the checks is what its chart is drawn from. Cites their promises alone. Assumes
 -- nothing.
-use mathlib.Core.Path.{_≡_, refl, sym, ap, ap₂, _∙_, subst}
+use mathlib.Core.Path.{_≡_, refl, sym, ap, _∙_, subst}
 use mathlib.Core.Logic.{_↔_}
-use mathlib.Core.Bool.{Bool, true, false, _&&_}
+use mathlib.Core.Bool.{Bool, _&&_}
 use mathlib.Core.List.{List}
-use Prim.Native.Nat.{ℕ, _*_, _≤_, _<_, min, max}
+use Prim.Native.Nat.{ℕ, _*_, _≤_, _<_, min}
 use native.Mathlib.Omega.{arith}
 use lib.Dec.{eqb}
 use lib.ListN.{length, getD}
 use borrow.Author.Tests.{eq-eqb, eqb-true}
-use Rattle.counting.specs.Count.{choose, count, some}
+use Rattle.counting.specs.Count.{choose, count}
 use Rattle.counting.proofs.Truth.{same-truth, and-intro, and-elim}
 use Rattle.counting.proofs.Somes.{some-found, some-which}
 use Rattle.masks.specs.Sets.{member?, at}
 use Rattle.matching.specs.Lists.{channelOf, positionOf}
-use Rattle.matching.specs.Chains.{planned}
 use Rattle.matching.proofs.Same.{planned-same}
 use Rattle.reach.specs.Graph.{edge?}
 use Rattle.reach.specs.Ends.{tailsOf, headsOf}
@@ -31,12 +30,11 @@ use Rattle.record.proofs.Soundness.{accepted-sound}
 use Rattle.reduction.specs.Reduction.{transitive?}
 use Rattle.bundles.specs.Bundles.{Bundle}
 use Rattle.bundles.specs.Sides.{side?, tableSide?, apart?}
-use Rattle.bundles.specs.Promise.{Bundled, Listed, bundlesOf, bundlesIn, empty}
-use Rattle.bundles.specs.declared.Bundles.{Bundles}
+use Rattle.bundles.specs.Promise.{vertices, Bundled, Listed, bundlesOf, bundlesIn, empty}
 use Rattle.bundles.proofs.Extension.{bundles-ext}
+use Rattle.bundles.proofs.Theorems.{fitting-all}
 use Rattle.tracks.specs.Promise.{Tracked, Assigned}
 use Rattle.tracks.specs.Tracks.{tracks, topIn}
-use Rattle.tracks.specs.declared.Tracks.{Tracks}
 use Rattle.tracks.proofs.Extension.{tracks-ext}
 use Rattle.tracks.proofs.Different.{top-ext}
 use Rattle.tracks.proofs.Theorems.{tracked-rising}
@@ -48,10 +46,12 @@ use Rattle.outline.proofs.Channels.{channels-few, channel-below, vertices-small
 use Rattle.outline.proofs.Bundling.{bundle-intervals}
 use Rattle.outline.proofs.Columns.{width-on-page}
 use Rattle.drawing.specs.Drawn.{graphContent}
-use Rattle.drawing.specs.Laid.{Laid}
+use Rattle.drawing.specs.Laid.{Lists, lists, Laid, Roomy}
 use Rattle.drawing.specs.Parts.{Spaceable, Spaced}
-use Rattle.drawing.specs.declared.Plan.{Plan}
 use Rattle.drawing.proofs.Spacing.{start-same, own-same}
+
+le-min : (a b c : ℕ) → a ≤ b → a ≤ c → a ≤ min b c
+le-min a b c l r = omega arith
 
 module _ (n : ℕ) (ends : List ℕ) (given : Bool) (field : List ℕ) (accepted : refusalOf (graphContent n ends given field) ≡ 0)
     (k : Checked) (e b t l : List ℕ) (p : Passes n ends given field k e b t l) where
@@ -137,104 +137,148 @@ module _ (n : ℕ) (ends : List ℕ) (given : Bool) (field : List ℕ) (accepted
 
   -- ---- bundles and tracks
 
-  module _ (bs : Bundles) (made : Bundled n e (k .channels .count) (k .channels .channel) (k .channels .position) (k .rows) bs) where
+  module _ (r : Lists) (room : Roomy n r) (bs : ℕ) (of′ first′ last′ number′ : List ℕ)
+      (made : Bundled n e (k .channels .count) (k .channels .channel) (k .channels .position) (k .rows) (r .of) (r .first) (r .last) (r .number)
+      bs of′ first′ last′ number′) where
     sides-same : (u v : ℕ) → u < n → v < n
-        → tableSide? n e (λ x. getD (k .channels .channel) x 0) (λ x. getD (k .channels .position) x 0) u v ≡ side? n (tailsOf ends) (headsOf ends) (channelOf ls) (positionOf ls) u v
+        → tableSide? n e (λ x. getD (k .channels .channel) x 0) (λ x. getD (k .channels .position) x 0) u v
+        ≡ side? n (tailsOf ends) (headsOf ends) (channelOf ls) (positionOf ls) u v
     unfolding side? tableSide? apart?
     sides-same u v hu hv = rw (edges-same u v hu hv, arranged .channel u, arranged .channel v, arranged .position u, arranged .position v) refl
 
-    all-of : min n 128 ≡ n
-    all-of = omega (arith, small)
+    abbrev counted : ℕ
+    counted = vertices n (k .channels .channel) (k .channels .position) (k .rows) (r .of) (r .first) (r .last) (r .number)
+
+    all-of : counted ≡ n
+    all-of =
+        let a = arranged .sizes in
+        let b = room in
+        fitting-all n _ _ _ _ _ _ _ small (omega (arith, a .0, small)) (omega (arith, a .1, small)) (omega (arith, p .descended .sizes .0, small))
+        (omega (arith, b .of, small)) (omega (arith, b .first, small)) (omega (arith, b .last, small)) (omega (arith, b .number, small))
 
     all-channels : min (k .channels .count) 128 ≡ length ls
     all-channels = omega (arith, arranged .counted, channels-small)
 
-    bundles-same : bundlesIn (min n 128) e (min (k .channels .count) 128) (λ v. getD (k .channels .channel) v 0) (λ v. getD (k .channels .position) v 0) (λ v. getD (k .rows) v 0) ≡ planOf c .bundles
+    bundles-same :
+        bundlesIn counted e (min (k .channels .count) 128) (λ v. getD (k .channels .channel) v 0) (λ v. getD (k .channels .position) v 0)
+        (λ v. getD (k .rows) v 0) ≡ planOf c .bundles
     unfolding planOf chart.bundled chart.tracked bundlesOf bundlesIn graphContent
     bundles-same =
         rw (all-of, all-channels)
-        (bundles-ext n (tableSide? n e (λ x. getD (k .channels .channel) x 0) (λ x. getD (k .channels .position) x 0)) (side? n (tailsOf ends) (headsOf ends) (channelOf ls) (positionOf ls))
-        (λ v. getD (k .channels .channel) v 0) (channelOf ls) (λ v. getD (k .channels .position) v 0) (positionOf ls) (λ v. getD (k .rows) v 0) (rowOf c)
-        sides-same (λ v h. arranged .channel v) (λ v h. arranged .position v) rows-laid (length ls))
+        (bundles-ext n (tableSide? n e (λ x. getD (k .channels .channel) x 0) (λ x. getD (k .channels .position) x 0))
+        (side? n (tailsOf ends) (headsOf ends) (channelOf ls) (positionOf ls)) (λ v. getD (k .channels .channel) v 0) (channelOf ls)
+        (λ v. getD (k .channels .position) v 0) (positionOf ls) (λ v. getD (k .rows) v 0) (rowOf c) sides-same (λ v h. arranged .channel v)
+        (λ v h. arranged .position v) rows-laid (length ls))
 
-    bundles-laid : Listed n (planOf c .bundles) bs
-    bundles-laid = subst (λ (m : ℕ). Listed m (planOf c .bundles) bs) all-of (subst (λ (x : List Bundle). Listed (min n 128) x bs) bundles-same made)
+    bundles-laid : Listed n (planOf c .bundles) bs of′ first′ last′ number′
+    bundles-laid =
+        subst (λ (m : ℕ). Listed m (planOf c .bundles) bs of′ first′ last′ number′) all-of
+        (subst (λ (x : List Bundle). Listed counted x bs of′ first′ last′ number′) bundles-same (made .listed))
 
-    abbrev total : ℕ
-    total = min (bs .count) 256
+    module _ (q : ℕ) (track′ used′ : List ℕ) (tracked : Tracked bs of′ first′ last′ (r .track) (r .used) q track′ used′) where
+      total-same : q ≡ length (planOf c .bundles)
+      total-same =
+          let few : bs ≤ 2 * n = omega (arith, bundles-laid .counted, bundles-laid .few) in
+          tracked .counted
+          ∙ least bs _ (omega (arith, few, small)) (le-min _ _ _ (omega (arith, few, small, made .long .0, room .of))
+          (le-min _ _ _ (omega (arith, few, small, made .long .1, room .first))
+          (le-min _ _ _ (omega (arith, few, small, made .long .2, room .last)) (omega (arith, few, small, room .track)))))
+          ∙ bundles-laid .counted
+        where
+          least : (m x : ℕ) → m ≤ 256 → m ≤ x → min m (min 256 x) ≡ m
+          least m x k l = omega arith
 
-    total-same : total ≡ length (planOf c .bundles)
-    total-same = omega (arith, bundles-laid .counted, bundles-laid .few, small)
-
-    module _ (ts : Tracks) (tracked : Tracked (bs .count) (bs .channel) (bs .first) (bs .last) ts) where
-      rising : Assigned total (λ i. getD (bs .channel) i 0) (λ i. getD (bs .first) i 0) (λ i. getD (bs .last) i 0) ts
+      rising : Assigned q (λ i. getD of′ i 0) (λ i. getD first′ i 0) (λ i. getD last′ i 0) track′ used′
       rising =
-          tracked-rising (bs .count) (bs .channel) (bs .first) (bs .last) ts
-          (λ i h. let o = bundle-intervals c s .ordered i (let q = total-same in omega arith) in omega (arith, bundles-laid .first i, bundles-laid .last i)) tracked
+          tracked-rising bs of′ first′ last′ (r .track) (r .used) q track′ used′ tracked
+          (λ i h.
+          let o = bundle-intervals c s .ordered i (let t = total-same in omega arith) in
+          omega (arith, bundles-laid .first i, bundles-laid .last i))
 
-      tracks-same : tracks total (λ i. getD (bs .channel) i 0) (λ i. getD (bs .first) i 0) (λ i. getD (bs .last) i 0) ≡ planOf c .tracks
+      tracks-same : tracks q (λ i. getD of′ i 0) (λ i. getD first′ i 0) (λ i. getD last′ i 0) ≡ planOf c .tracks
       unfolding planOf chart.bundled chart.tracked
       tracks-same =
-          tracks-ext total _ _ _ _ _ _ (λ i h. bundles-laid .channel i) (λ i h. bundles-laid .first i) (λ i h. bundles-laid .last i)
-          ∙ ap (λ m. tracks m (λ i. getD (planOf c .bundles) i empty .channel) (λ i. getD (planOf c .bundles) i empty .first) (λ i. getD (planOf c .bundles) i empty .last)) total-same
+          tracks-ext q _ _ _ _ _ _ (λ i h. bundles-laid .channel i) (λ i h. bundles-laid .first i) (λ i h. bundles-laid .last i)
+          ∙ ap (λ m. tracks m (λ i. getD (planOf c .bundles) i empty .channel) (λ i. getD (planOf c .bundles) i empty .first)
+          (λ i. getD (planOf c .bundles) i empty .last)) total-same
 
-      used-laid : (i : ℕ) → i < 128 → getD (ts .used) i 0 ≡ tracksIn (planOf c) i
+      track-laid : (i : ℕ) → getD track′ i 0 ≡ getD (planOf c .tracks) i 0
+      track-laid i = rising .track i ∙ ap (λ (x : List ℕ). getD x i 0) tracks-same
+
+      used-laid : (i : ℕ) → i < 128 → getD used′ i 0 ≡ tracksIn (planOf c) i
       unfolding tracksIn
       used-laid i h =
-          rising .used i h
-          ∙ top-ext total _ (λ j. eqb (getD (planOf c .bundles) j empty .channel) i) _ (λ j. getD (planOf c .tracks) j 0)
-          (λ j q. ap (λ (x : ℕ). eqb x i) (bundles-laid .channel j)) (λ j q. ap (λ (x : List ℕ). getD x j 0) tracks-same)
+          rising .used i (omega (arith, tracked .long .1, room .used))
+          ∙ top-ext q _ (λ j. eqb (getD (planOf c .bundles) j empty .channel) i) _ (λ j. getD (planOf c .tracks) j 0)
+          (λ j w. ap (λ (x : ℕ). eqb x i) (bundles-laid .channel j)) (λ j w. ap (λ (x : List ℕ). getD x j 0) tracks-same)
           ∙ ap (λ (m : ℕ). topIn m (λ j. eqb (getD (planOf c .bundles) j empty .channel) i) (λ j. getD (planOf c .tracks) j 0)) total-same
 
       -- ---- columns
 
       abbrev used : ℕ → ℕ
-      used i = getD (ts .used) i 0
+      used i = getD used′ i 0
 
       used-same : (i : ℕ) → i < k .channels .count → used i ≡ tracksIn (planOf c) i
       used-same i h = used-laid i (omega (arith, channels-small))
 
       width-same : blockStart (evenGaps used) (k .channels .count) ≡ widthOf (planOf c)
       unfolding widthOf planOf chart.bundled chart.tracked
-      width-same = start-same used (tracksIn (planOf c)) (k .channels .count) used-same ∙ ap (blockStart (evenGaps (tracksIn (planOf c)))) (arranged .counted)
+      width-same =
+          start-same used (tracksIn (planOf c)) (k .channels .count) used-same
+          ∙ ap (blockStart (evenGaps (tracksIn (planOf c)))) (arranged .counted)
 
-      pub spaceable : Spaceable n (k .channels) ts
+      pub spaceable : Spaceable n (k .channels .count) (k .channels .channel) used′ (r .column)
       spaceable = record {
         few = small;
-        channels = channels-small;
+        few-channels = channels-small;
         known = channel-known;
         page = omega (arith, width-same, width-on-page c s);
-        sizes = (arranged .sizes .2, rising .sizes .1);
+        sizes = (omega (arith, small, arranged .sizes .0), omega (arith, tracked .long .1, room .used), omega (arith, small, room .column));
       }
 
-      module _ (column : List ℕ) (width : ℕ) (d : Spaced n (k .channels) ts column width) where
-        column-laid : (v : ℕ) → v < n → getD column v 0 ≡ columnIn (planOf c) v
-        unfolding columnIn planOf chart.bundled chart.tracked
-        column-laid v h =
-            d .standing .made v h
-            ∙ d .owns .columns .made (getD (k .channels .channel) v 0) (channel-known v h)
-            ∙ own-same used (tracksIn (planOf c)) (k .channels .count) (getD (k .channels .channel) v 0) (channel-known v h) used-same
-            ∙ ap (ownColumn (widths (planOf c))) (arranged .channel v)
+      module _ (column′ : List ℕ) (width : ℕ) (d : Spaced n (k .channels .count) (k .channels .channel) used′ (length (r .column)) column′ width)
+        where
+          column-laid : (v : ℕ) → v < n → getD column′ v 0 ≡ columnIn (planOf c) v
+          unfolding columnIn planOf chart.bundled chart.tracked
+          column-laid v h =
+              d .standing .made v h
+              ∙ d .owns .columns .made (getD (k .channels .channel) v 0) (channel-known v h)
+              ∙ own-same used (tracksIn (planOf c)) (k .channels .count) (getD (k .channels .channel) v 0) (channel-known v h) used-same
+              ∙ ap (ownColumn (widths (planOf c))) (arranged .channel v)
 
-        -- THE PLAN: what the lower layers made is what the chart is drawn from
-        pub laid : length b ≡ 258 → Laid c (record { refusal = 0; used = k .used; row = k .rows; descendants = k .counts; channels = k .channels; bundles = bs; tracks = ts; column = column; width = width }) b l
-        unfolding planOf chart.bundled chart.tracked graphContent
-        laid long = record {
-          sound = s;
-          row-count = rows-counted;
-          rows = rows-laid;
-          rows-past = p .descended .past;
-          descendants = descendants-laid;
-          channels = arranged;
-          accepted = p .accepted;
-          bundles = bundles-laid;
-          track = rising .track ∙ tracks-same;
-          used = used-laid;
-          column = column-laid;
-          column-past = d .standing .past;
-          width = d .owns .end ∙ width-same;
-          longer-pairs = longer-laid;
-          below-rows = below-laid;
-          tabled = (p .descended .sizes .0, p .descended .sizes .1, d .standing .long, rising .sizes .0, rising .sizes .1);
-          masks = (long, p .descended .longer .masks);
-        }
+          abbrev after : Lists
+          after = lists e b t l of′ first′ last′ number′ track′ used′ column′
+
+          -- THE PLAN: what the lower layers made is what the chart is drawn from
+          pub laid : Roomy n after → Laid c (record {
+            refusal = 0;
+            rows = k .used;
+            row = k .rows;
+            descendants = k .counts;
+            channels = k .channels .count;
+            channel = k .channels .channel;
+            position = k .channels .position;
+            bundles = bs;
+            width = width;
+          }) after
+          unfolding planOf chart.bundled chart.tracked graphContent
+          laid room′ = record {
+            sound = s;
+            row-count = rows-counted;
+            rows = rows-laid;
+            rows-past = p .descended .past;
+            descendants = descendants-laid;
+            channel-count = arranged .counted;
+            channels = arranged .channel;
+            positions = arranged .position;
+            bundles = bundles-laid;
+            track = track-laid;
+            used = used-laid;
+            column = column-laid;
+            column-past = d .standing .past;
+            width = d .owns .end ∙ width-same;
+            longer-pairs = longer-laid;
+            below-rows = below-laid;
+            tabled = (p .descended .sizes .0, p .descended .sizes .1, arranged .sizes .0, arranged .sizes .1);
+            room = room′;
+          }

@@ -1,4 +1,3 @@
-pub mod Entries
 pub mod Judging
 pub mod Nothing
 pub mod Refusals
@@ -8,3 +7,4 @@ pub mod Owning
 pub mod Spacing
 pub mod Laying
 pub mod Planning
+pub mod Entries

@@ -1,12 +1,14 @@
 -- What is planned of a sound graph. Assumes nothing.
 use mathlib.Core.Path.{_≡_}
 use mathlib.Core.Logic.{_≢_, _↔_}
-use mathlib.Core.Bool.{Bool}
+use mathlib.Core.Bool.{Bool, _&&_}
 use mathlib.Core.List.{List}
-use Prim.Native.Nat.{ℕ, _*_, _≤_, _<_}
+use Prim.Native.Nat.{ℕ, _*_, _≤_, _<_, min}
+use lib.Dec.{leb}
 use lib.ListN.{length, getD, replicate}
 use Rattle.masks.specs.Sets.{member?, at}
-use Rattle.planning.specs.Arranged.{Arranged}
+use Rattle.matching.specs.Lists.{channelOf, positionOf}
+use Rattle.descent.specs.Promise.{Sized}
 use Rattle.record.specs.Checks.{Content, refusalOf}
 use Rattle.record.specs.Sound.{Sound}
 use Rattle.reduction.specs.Reduction.{transitive?}
@@ -15,52 +17,109 @@ use Rattle.outline.specs.Chart.{leads?, rowOf, rowCount, descendantsOf, planOf,
 use Rattle.drawing.specs.Drawn.{graphContent}
 use Rattle.drawing.specs.declared.Plan.{Plan}
 
--- p has the rows, channels, bundles, tracks and columns of the graph's chart, 0 past the last of each; `below` has, for each k up to the
--- rows used, the set of the vertices whose row is below k, and `longer` the pairs of vertices with a vertex between. Left free, since nobody
--- reads it, is what `below` has past the rows used, and `longer` past the vertices
-pub record Laid (c : Content) (p : Plan) (below longer : List ℕ) : Type 0 where
+-- the lists that are lent: four of masks; the channel and the rows of each bundle; the bundle at each end of a vertex; the track of each
+-- bundle; how many tracks each channel has; the column of each vertex
+pub record Lists : Type 0 where
+  pub edges : List ℕ
+  pub below : List ℕ
+  pub table : List ℕ
+  pub longer : List ℕ
+  pub of : List ℕ
+  pub first : List ℕ
+  pub last : List ℕ
+  pub number : List ℕ
+  pub track : List ℕ
+  pub used : List ℕ
+  pub column : List ℕ
+
+abbrev pub lists : List ℕ → List ℕ → List ℕ → List ℕ → List ℕ → List ℕ → List ℕ → List ℕ → List ℕ → List ℕ → List ℕ → Lists
+lists edges below table longer of first last number track used column = record {
+  edges = edges;
+  below = below;
+  table = table;
+  longer = longer;
+  of = of;
+  first = first;
+  last = last;
+  number = number;
+  track = track;
+  used = used;
+  column = column;
+}
+
+-- room for m vertices, two bundles each, and for the tracks of 128 channels
+unfoldable pub roomy? : ℕ → ℕ → ℕ → ℕ → ℕ → ℕ → ℕ → ℕ → Bool
+roomy? m of first last number track used column =
+    leb (2 * m) of && (leb (2 * m) first && (leb (2 * m) last && (leb (2 * m) number && (leb (2 * m) track && (leb 128 used && leb m column)))))
+
+-- the lists have room for n vertices, 128 at most
+pub record Roomy (n : ℕ) (t : Lists) : Type 0 where
+  pub masks : Sized n (t .edges) (t .below) (t .table) (t .longer)
+  pub of : 2 * min n 128 ≤ length (t .of)
+  pub first : 2 * min n 128 ≤ length (t .first)
+  pub last : 2 * min n 128 ≤ length (t .last)
+  pub number : 2 * min n 128 ≤ length (t .number)
+  pub track : 2 * min n 128 ≤ length (t .track)
+  pub used : 128 ≤ length (t .used)
+  pub column : min n 128 ≤ length (t .column)
+
+-- p and t have the rows, channels, bundles, tracks and columns of the graph's chart, 0 past the last of each; `below` has, for each k up
+-- to the rows used, the set of the vertices whose row is below k, and `longer` the pairs of vertices with a vertex between. Left free,
+-- since nobody reads it, is what `below` has past the rows used, `longer` past the vertices, and what `edges` and `table` have
+pub record Laid (c : Content) (p : Plan) (t : Lists) : Type 0 where
   pub sound : Sound c
-  pub row-count : p .used ≡ rowCount c
+  pub row-count : p .rows ≡ rowCount c
   pub rows : (v : ℕ) → v < c .vertices → getD (p .row) v 0 ≡ rowOf c v
   pub rows-past : (v : ℕ) → c .vertices ≤ v → getD (p .row) v 0 ≡ 0
   pub descendants : (v : ℕ) → v < 128 → getD (p .descendants) v 0 ≡ descendantsOf c v
-  pub channels : Arranged (planOf c .channels) (p .channels)
-  pub accepted : p .channels .refusal ≡ 0
-  pub bundles : Listed (c .vertices) (planOf c .bundles) (p .bundles)
-  pub track : p .tracks .track ≡ planOf c .tracks
-  pub used : (l : ℕ) → l < 128 → getD (p .tracks .used) l 0 ≡ tracksIn (planOf c) l
-  pub column : (v : ℕ) → v < c .vertices → getD (p .column) v 0 ≡ columnIn (planOf c) v
-  pub column-past : (v : ℕ) → c .vertices ≤ v → getD (p .column) v 0 ≡ 0
+  pub channel-count : p .channels ≡ length (planOf c .channels)
+  pub channels : (v : ℕ) → getD (p .channel) v 0 ≡ channelOf (planOf c .channels) v
+  pub positions : (v : ℕ) → getD (p .position) v 0 ≡ positionOf (planOf c .channels) v
+  pub bundles : Listed (c .vertices) (planOf c .bundles) (p .bundles) (t .of) (t .first) (t .last) (t .number)
+  pub track : (b : ℕ) → getD (t .track) b 0 ≡ getD (planOf c .tracks) b 0
+  pub used : (l : ℕ) → l < 128 → getD (t .used) l 0 ≡ tracksIn (planOf c) l
+  pub column : (v : ℕ) → v < c .vertices → getD (t .column) v 0 ≡ columnIn (planOf c) v
+  pub column-past : (v : ℕ) → c .vertices ≤ v → getD (t .column) v 0 ≡ 0
   pub width : p .width ≡ widthOf (planOf c)
-  pub longer-pairs : (u v : ℕ) → u < c .vertices → v < c .vertices → member? longer (2 * u) v ≡ transitive? (leads? c) (c .vertices) u v
-  pub below-rows : (k v : ℕ) → k ≤ rowCount c → v < 128 → at 2 below k v ≡ 1 ↔ ((v < c .vertices) × (rowOf c v < k))
-  pub tabled : (length (p .row) ≡ 128) × (length (p .descendants) ≡ 128) × (length (p .column) ≡ 128) × (length (p .tracks .track) ≡ 256) × (length (p .tracks .used) ≡ 128)
-  pub masks : (length below ≡ 258) × (length longer ≡ 256)
+  pub longer-pairs : (u v : ℕ) → u < c .vertices → v < c .vertices → member? (t .longer) (2 * u) v ≡ transitive? (leads? c) (c .vertices) u v
+  pub below-rows : (k v : ℕ) → k ≤ rowCount c → v < 128 → at 2 (t .below) k v ≡ 1 ↔ ((v < c .vertices) × (rowOf c v < k))
+  pub tabled : (length (p .row) ≡ 128) × (length (p .descendants) ≡ 128) × (length (p .channel) ≡ 128) × (length (p .position) ≡ 128)
+  pub room : Roomy (c .vertices) t
 
 -- a refusal, with nothing planned
 abbrev pub unplannedBy : ℕ → Plan
 unplannedBy k = record {
   refusal = k;
-  used = 0;
+  rows = 0;
   row = replicate 128 0;
   descendants = replicate 128 0;
-  channels = record { refusal = k; count = 0; vertices = 0; channel = replicate 128 0; position = replicate 128 0; order = replicate 128 0; starts = replicate 128 0 };
-  bundles = record { count = 0; channel = replicate 256 0; first = replicate 256 0; last = replicate 256 0; into = replicate 128 256; «out_of» = replicate 128 256 };
-  tracks = record { track = replicate 256 0; used = replicate 128 0 };
-  column = replicate 128 0;
+  channels = 0;
+  channel = replicate 128 0;
+  position = replicate 128 0;
+  bundles = 0;
   width = 0;
 }
 
--- `below` and `longer` are long enough for the masks: 129 sets by row, and a set a vertex
-pub record Roomy (below longer : List ℕ) : Type 0 where
-  pub rows : length below ≡ 258
-  pub pairs : length longer ≡ 256
+-- every list is as long as it was
+pub record Long (t s : Lists) : Type 0 where
+  pub edges : length (s .edges) ≡ length (t .edges)
+  pub below : length (s .below) ≡ length (t .below)
+  pub table : length (s .table) ≡ length (t .table)
+  pub longer : length (s .longer) ≡ length (t .longer)
+  pub of : length (s .of) ≡ length (t .of)
+  pub first : length (s .first) ≡ length (t .first)
+  pub last : length (s .last) ≡ length (t .last)
+  pub number : length (s .number) ≡ length (t .number)
+  pub track : length (s .track) ≡ length (t .track)
+  pub used : length (s .used) ≡ length (t .used)
+  pub column : length (s .column) ≡ length (t .column)
 
--- the first check that fails, or 0 and what is planned; 8, and nothing changed, where a list is not as long as it must be. After another
--- refusal it is left free what the two lists hold
-pub record Plans (n : ℕ) (ends : List ℕ) (given : Bool) (field below longer : List ℕ) (p : Plan) (below′ longer′ : List ℕ) : Type 0 where
-  pub answer : Roomy below longer → p .refusal ≡ refusalOf (graphContent n ends given field)
-  pub short : (Roomy below longer → ⊥) → (p .refusal ≡ 8) × (below′ ≡ below) × (longer′ ≡ longer)
-  pub laid : p .refusal ≡ 0 → Laid (graphContent n ends given field) p below′ longer′
+-- the first check that fails, or 0 and what is planned; 8, and nothing changed, where a list has no room. After another refusal it is
+-- left free what the lists of masks hold, and the others are as they were
+pub record Plans (n : ℕ) (ends : List ℕ) (given : Bool) (field : List ℕ) (t : Lists) (p : Plan) (s : Lists) : Type 0 where
+  pub answer : Roomy n t → p .refusal ≡ refusalOf (graphContent n ends given field)
+  pub short : (Roomy n t → ⊥) → (p .refusal ≡ 8) × (s ≡ t)
+  pub laid : p .refusal ≡ 0 → Laid (graphContent n ends given field) p s
   pub none : p .refusal ≢ 0 → p ≡ unplannedBy (p .refusal)
-  pub long : (length below′ ≡ length below) × (length longer′ ≡ length longer)
+  pub kept : p .refusal ≢ 0 → s ≡ lists (s .edges) (s .below) (s .table) (s .longer) (t .of) (t .first) (t .last) (t .number) (t .track) (t .used) (t .column)
+  pub long : Long t s

@@ -1,68 +1,63 @@
 // Columns by blocks (document 01: 'Columns and bends').
 ghost use mathlib.Core.Path.{_≡_};
 ghost use Prim.Native.Nat.{ℕ, _≤_, _<_};
-ghost use lib.ListN.{length, getD};
+ghost use lib.ListN.{length, getD, replicate};
 ghost use Rattle.geometry.specs.Placement.{evenGaps, blockStart};
 ghost use Rattle.page.specs.Page as page;
-ghost use Rattle.drawing.specs.Parts.{Owns, Tabled, Spaceable, Spaced};
+ghost use Rattle.drawing.specs.Parts.{Tabled, Owns, Spaceable, Spaced};
 use crate::wide;
-use planning::Channels;
-use tracks::Tracks;
 
 // Columns kept free on either side of a channel's own.
 const GAP: u16 = 1;
 
-// The own column of each channel, 0 past the last, and the columns of all blocks.
-pub struct Columns {
-    pub own: [u16; 128],
-    pub width: u16,
-}
-
-// The own columns of the first channels, block after block from column 0: tracks, a gap, the own column, a gap.
-fn own_columns(channels: usize, tracks: &[u16]) -> Columns
-    requires { ⌜ (channels ≤ 128) × (channels ≤ length (now tracks)) × (blockStart (evenGaps (λ l. getD (now tracks) l 0)) channels ≤ page.columns) ⌝ }
-    ensures { λ r. ⌜ Owns (evenGaps (λ l. getD (now (tracks .entry)) l 0)) channels (r .own) (r .width) ⌝ }
+// The own columns of the first channels, block after block from column 0: tracks, a gap, the own column, a gap. The columns of all
+// blocks.
+fn own_columns(channels: usize, tracks: &[u16], own: &mut [u16]) -> u16
+    requires { ⌜ (channels ≤ 128) × (channels ≤ length (now tracks)) × (now own ≡ replicate 128 0) × (blockStart (evenGaps (λ l. getD (now tracks) l 0)) channels ≤ page.columns) ⌝ }
+    ensures { λ r. ⌜ Owns (evenGaps (λ l. getD (now (tracks .entry)) l 0)) channels (now (own .exit)) r ⌝ }
 {
-    let mut own = [0; 128];
     let mut start: u16 = 0;
     for l in 0..channels {
         let x = start + tracks[l] + GAP;
         own[l] = x;
         start = x + 1 + GAP;
     }
-    Columns { own, width: start }
+    start
+}
+
+// No column.
+fn clear(columns: &mut [u16])
+    ensures { λ _. ⌜ now (columns .exit) ≡ replicate (length (now (columns .entry))) 0 ⌝ }
+{
+    for i in 0..columns.len() {
+        columns[i] = 0;
+    }
 }
 
 // Each of n vertices stands in its channel's own column.
-fn vertex_columns<'a>(n: usize, channel: &'a [u8], own: &'a [u16]) -> [u16; 128]
-    requires { ⌜ (n ≤ 128) × (n ≤ length (now channel)) × (length (now own) ≡ 128) × ((v : ℕ) → v < n → getD (now channel) v 0 < 128) ⌝ }
-    ensures { λ r. ⌜ Tabled 128 (λ v. getD (now (own .entry)) (getD (now (channel .entry)) v 0) 0) n r ⌝ }
+fn vertex_columns<'a>(n: usize, channel: &'a [u8], own: &'a [u16], columns: &mut [u16])
+    requires { ⌜ (n ≤ 128) × (n ≤ length (now columns)) × (n ≤ length (now channel)) × (length (now own) ≡ 128) × ((v : ℕ) → v < n → getD (now channel) v 0 < 128) × (now columns ≡ replicate (length (now columns)) 0) ⌝ }
+    ensures { λ _. ⌜ Tabled (length (now (columns .entry))) (λ v. getD (now (own .entry)) (getD (now (channel .entry)) v 0) 0) n (now (columns .exit)) ⌝ }
 {
-    let mut columns = [0; 128];
     for v in 0..n {
         columns[v] = own[wide(channel[v])];
     }
-    columns
 }
 
-// The column of each vertex, 0 past the last, and the columns of all blocks.
-pub struct Places {
-    pub column: [u16; 128],
-    pub width: u16,
-}
-
-// The columns of n vertices by their channels, and the tracks of each channel.
-pub(crate) fn places_of(n: usize, channels: Channels, tracks: Tracks) -> Places
-    requires { ⌜ Spaceable n channels tracks ⌝ }
-    ensures { λ r. ⌜ Spaced n channels tracks (r .column) (r .width) ⌝ }
+// The columns of n vertices by their channels, 0 past the last, and the columns of all blocks, by the tracks of each channel.
+pub(crate) fn places_of<'a>(
+    n: usize,
+    channels: usize,
+    channel: &'a [u8],
+    tracks: &'a [u16],
+    column: &mut [u16],
+) -> u16
+    requires { ⌜ Spaceable n channels (now channel) (now tracks) (now column) ⌝ }
+    ensures { λ r. ⌜ Spaced n channels (now (channel .entry)) (now (tracks .entry)) (length (now (column .entry))) (now (column .exit)) r ⌝ }
 {
-    let used = tracks.used;
-    let channel = channels.channel;
-    let columns = own_columns(wide(channels.count), &used);
-    let own = columns.own;
-    let column = vertex_columns(n, &channel, &own);
-    Places {
-        column,
-        width: columns.width,
-    }
+    let mut own = [0; 128];
+    let width = own_columns(channels, tracks, &mut own);
+    clear(column);
+    vertex_columns(n, channel, &own, column);
+    width
 }

@@ -4,7 +4,7 @@ use mathlib.Core.Bool.{Bool, not}
 use mathlib.Core.List.{List}
 use Prim.Native.Nat.{ℕ, _+_, _*_, _/_, _%_, _<_, _≤_, min}
 use native.Mathlib.Omega.{arith}
-use lib.ListN.{length, getD, take}
+use lib.ListN.{length, getD}
 use Rattle.counting.specs.Count.{count}
 use Rattle.counting.proofs.Sums.{count-ext}
 use Rattle.lists.proofs.Written.{refilled}
@@ -16,28 +16,34 @@ use Rattle.outline.specs.Chart.{planOf, transitiveEdge?, reducedEdges, vertexEn
 use Rattle.outline.specs.declared.VertexEntry.{VertexEntry}
 use Rattle.outline.specs.declared.EdgeEntry.{EdgeEntry}
 use Rattle.outline.specs.declared.BundleEntry.{BundleEntry}
-use Rattle.kinds.specs.Kinds.{kindAmong}
 use Rattle.drawing.specs.Drawn.{graphContent}
-use Rattle.drawing.specs.Laid.{Laid}
+use Rattle.drawing.specs.Laid.{Lists, lists, Laid}
 use Rattle.drawing.specs.declared.Plan.{Plan}
 use Rattle.drawing.proofs.Entries.{edges-counted, small, edges-few, bundles-few, ends-known, vertex-drawn, bundle-drawn, kind-among, mark-drawn}
 use Rattle.flat.specs.Chart.{wordNumber, arrowNumber, bundleNumber}
 use Rattle.flat.specs.Numbers.{implied?, kindAt, wordFrom, arrowFrom, bundleFrom}
 use Rattle.flat.specs.Numbers as numbers
 use Rattle.flat.specs.Pass.{Ready}
-use Rattle.flat.specs.Hand.{Sources, sources, arrowsFrom, Fit, Handed, LeftFor, Charts}
+use Rattle.flat.specs.Hand.{Sources, sources, Tables, LaidIn, arrowsFrom, Fit, Handed, LeftFor, Charts}
 
-module _ (n : ℕ) (ends : List ℕ) (given : Bool) (field : List ℕ) (p : Plan) (below longer left : List ℕ)
-    (l : Laid (graphContent n ends given field) p below longer) where
+module _ (n : ℕ) (ends : List ℕ) (given : Bool) (field : List ℕ) (p : Plan) (t : Tables) (left : List ℕ)
+    (in-lists : LaidIn (graphContent n ends given field) p t) where
   abbrev c : Content
   c = graphContent n ends given field
 
   abbrev m : ℕ
   m = length ends / 2
 
+  abbrev planned : Lists
+  planned = lists (in-lists .edges) (t .below) (in-lists .table) (t .longer) (t .of) (t .first) (t .last) (t .number) (t .track)
+      (in-lists .used) (t .column)
+
+  abbrev l : Laid c p planned
+  l = in-lists .laid
+
   abbrev from : Sources
-  from = sources ends longer below left (p .channels .channel) (p .channels .position) (p .column) (p .row) (p .descendants)
-      (p .bundles .into) (p .bundles .«out_of») (p .bundles .channel) (p .bundles .first) (p .bundles .last) (p .tracks .track)
+  from = sources ends (t .longer) (t .below) left (p .channel) (p .position) (t .column) (p .row) (p .descendants) (t .number) (t .of)
+      (t .first) (t .last) (t .track)
 
   abbrev here : numbers.Given
   here = arrowsFrom from n
@@ -54,55 +60,72 @@ module _ (n : ℕ) (ends : List ℕ) (given : Bool) (field : List ℕ) (p : Plan
   unfolding graphContent
   head-same e = sym (head-at ends e)
 
+  few : n ≤ 128
+  unfolding graphContent
+  few = small c p planned l
+
   -- ---- what the fills ask for
+
+  ends-low : (e : ℕ) → e < m → (getD ends (2 * e) 0 < n) × (getD ends (2 * e + 1) 0 < n)
+  unfolding graphContent
+  ends-low e h =
+      let k = ends-known c p planned l e (omega (arith, counted)) in
+      (omega (arith, tail-same e), omega (arith, head-same e))
 
   ready : (e : ℕ) → e < m → Ready here e
   unfolding graphContent
   ready e h =
-      let k = ends-known c p below longer l e (omega (arith, counted)) in
-      let few = small c p below longer l in
+      let k = ends-low e h in
+      let f = few in
+      let r = l .room in
+      let d = l .tabled in
       record {
-        few = omega (arith, edges-few c p below longer l, counted);
+        few = omega (arith, edges-few c p planned l, counted);
         ends = omega arith;
-        tail = omega (arith, tail-same e);
-        head = omega (arith, head-same e);
-        longer = l .masks .1;
+        low = (omega arith, omega arith);
+        longer = omega (arith, r .masks .longer);
+        channel = (omega (arith, d .2), omega (arith, d .2));
+        position = (omega (arith, d .3), omega (arith, d .3));
+        number = (omega (arith, r .number), omega (arith, r .number));
       }
 
-  pub fits : (ws es bs : List ℕ) → n * 5 ≤ length ws → m * 5 ≤ length es → p .bundles .count * 4 ≤ length bs
-      → Fit from n m (p .bundles .count) ws es bs
+  pub fits : (ws es bs : List ℕ) → n * 5 ≤ length ws → m * 5 ≤ length es → p .bundles * 4 ≤ length bs → Fit from n m (p .bundles) ws es bs
   unfolding graphContent
-  fits ws es bs hw he hb = record {
-    vertices = small c p below longer l;
-    edges = omega (arith, edges-few c p below longer l, counted);
-    bundles = bundles-few c p below longer l;
-    word-room = hw;
-    arrow-room = he;
-    bundle-room = hb;
-    ready = ready;
-    placed = (l .channels .sizes .2, l .channels .sizes .3);
-    tabled = (l .tabled .2, l .tabled .0, l .tabled .1);
-    bundled = (l .bundles .sizes .0, l .bundles .sizes .1, l .bundles .sizes .2, l .tabled .3);
-  }
+  fits ws es bs hw he hb =
+      let f = few in
+      let b = bundles-few c p planned l in
+      let r = l .room in
+      let d = l .tabled in
+      record {
+        vertices = f;
+        edges = omega (arith, edges-few c p planned l, counted);
+        bundles = omega arith;
+        word-room = hw;
+        arrow-room = he;
+        bundle-room = hb;
+        ready = ready;
+        placed = (omega (arith, d .2), omega (arith, d .3));
+        tabled = (omega (arith, r .column), omega (arith, d .0), omega (arith, d .1));
+        bundled = (omega (arith, r .of), omega (arith, r .first), omega (arith, r .last), omega (arith, r .track));
+      }
 
   -- ---- vertices and bundles
 
   word-same : (v : ℕ) → v < n
-      → wordFrom (p .channels .channel) (p .channels .position) (p .column) (p .row) (p .descendants) v ≡ vertexEntry c (planOf c) v
+      → wordFrom (p .channel) (p .position) (t .column) (p .row) (p .descendants) v ≡ vertexEntry c (planOf c) v
   unfolding wordFrom graphContent
-  word-same v h = vertex-drawn c p below longer l v h
+  word-same v h = vertex-drawn c p planned l v h
 
-  bundle-same : (b : ℕ)
-      → bundleFrom (p .bundles .channel) (p .bundles .first) (p .bundles .last) (p .tracks .track) b ≡ bundleEntry (planOf c) b
+  bundle-same : (b : ℕ) → bundleFrom (t .of) (t .first) (t .last) (t .track) b ≡ bundleEntry (planOf c) b
   unfolding bundleFrom
-  bundle-same b = bundle-drawn c p below longer l b
+  bundle-same b = bundle-drawn c p planned l b
 
   -- ---- edges
 
   mark-same : (e : ℕ) → e < m → implied? here e ≡ transitiveEdge? c e
   unfolding implied?
   mark-same e h =
-      ap₂ (λ (x y : ℕ). member? longer (2 * x) y) (tail-same e) (head-same e) ∙ mark-drawn c p below longer l e (omega (arith, counted))
+      ap₂ (λ (x y : ℕ). member? (t .longer) (2 * x) y) (tail-same e) (head-same e) ∙ mark-drawn c p planned l e (omega (arith, counted))
 
   firm-same : (x : ℕ) → x ≡ count m (λ e. not (implied? here e)) → x ≡ reducedEdges c
   unfolding reducedEdges reducedCount transitiveEdge?
@@ -111,20 +134,19 @@ module _ (n : ℕ) (ends : List ℕ) (given : Bool) (field : List ℕ) (p : Plan
       ∙ ap (λ k. count k (λ e. not (transitiveEdge? c e))) (sym counted)
 
   -- `left` is made of the channels by `kinds::prefixes`
-  module _ (lefts : LeftFor n p left) where
+  module _ (size : ℕ) (room : 2 * min n 128 + 2 ≤ size) (lefts : LeftFor n (p .channels) (p .channel) size left) where
     kind-same : (e : ℕ) → e < m → kindAt here e ≡ kindBetween c (planOf c) (tailOf c e) (headOf c e)
     unfolding kindAt graphContent
     kind-same e h =
-        ap₂ (kindAmong (p .channels .channel) (p .channels .position) (p .bundles .into) (p .bundles .«out_of») (take n (p .column))
-        (take n (p .row)) below left) (tail-same e) (head-same e)
-        ∙ kind-among c p below longer l e (omega (arith, counted)) left lefts
+        rw (tail-same e, head-same e)
+        (kind-among c p planned l e (omega (arith, counted)) size left (let f = few in omega arith) lefts)
 
     arrow-same : (e : ℕ) → e < m → arrowFrom here e ≡ edgeEntry c (planOf c) e
     unfolding arrowFrom edgeEntry
     arrow-same e h = rw (kind-same e h, mark-same e h) refl
 
     -- THE HAND-OVER: the lists have the chart, and every number past it is as it was
-    pub charted : (ws es bs ws′ es′ bs′ : List ℕ) (x : ℕ) → Handed from n m (p .bundles .count) ws es bs ws′ es′ bs′ x
+    pub charted : (ws es bs ws′ es′ bs′ : List ℕ) (x : ℕ) → Handed from n m (p .bundles) ws es bs ws′ es′ bs′ x
         → Charts c ws es bs x ws′ es′ bs′
     unfolding graphContent
     charted ws es bs ws′ es′ bs′ x h = record {

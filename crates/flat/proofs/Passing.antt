@@ -12,6 +12,7 @@ use Rattle.counting.proofs.Sums.{sum-more}
 use Rattle.masks.specs.Sets.{member, member?}
 use Rattle.masks.proofs.Bits.{bit-lt}
 use Rattle.masks.proofs.Sets.{member-test}
+use Rattle.outline.specs.declared.Kind.{Kind}
 use Rattle.kinds.specs.Codes.{codeOf}
 use Rattle.kinds.specs.Kinds.{kindAmong}
 use Rattle.kinds.specs.declared.Code.{Code}
@@ -46,14 +47,18 @@ module _ (g : Given) (e u v : ℕ) (tail : u ≡ tailAt g e) (head : v ≡ headA
   unfolding implied?
   mark-here mark h = rw tail at (rw head at h)
 
-  kind-here : (k : Code)
-      → k ≡ codeOf (kindAmong (g .channel) (g .position) (g .into) (g .out-of) (g .columns) (g .rows) (g .below) (g .left) u v)
-      → k ≡ codeOf (kindAt g e)
+  -- what `kinds::kind_of` is asked for
+  abbrev kindHere : Kind
+  kindHere =
+      kindAmong (getD (g .channel) u 0) (getD (g .channel) v 0) (getD (g .position) u 0) (getD (g .position) v 0) (getD (g .number) (2 * v) 0)
+      (getD (g .number) (2 * u + 1) 0) (g .columns) (g .rows) (g .below) (g .left) u v
+
+  kind-here : (k : Code) → k ≡ codeOf kindHere → k ≡ codeOf (kindAt g e)
   unfolding kindAt
   kind-here k h = rw tail at (rw head at h)
 
   pub arrow-stored : (mark : ℕ) (k : Code) (l : List ℕ)
-      → k ≡ codeOf (kindAmong (g .channel) (g .position) (g .into) (g .out-of) (g .columns) (g .rows) (g .below) (g .left) u v)
+      → k ≡ codeOf kindHere
       → mark ≡ indicator (implied? g e)
       → set (set (set (set (set l (e * 5) e) (e * 5 + 1) (k .code)) (e * 5 + 2) (k .value)) (e * 5 + 3) (k .row)) (e * 5 + 4) mark
       ≡ stored (arrowAt g e) (e * 5) 5 l

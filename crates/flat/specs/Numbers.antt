@@ -27,28 +27,26 @@ bundleFrom channel first last track b = record {
   track = getD track b 0;
 }
 
--- what edges are made from: two bytes an edge, the pairs with a vertex between, the places and the bundles of their ends, and the sets of
--- the vertices below each row and left of each channel
+-- what edges are made from: two bytes an edge, the pairs with a vertex between, the places and the bundles of their ends (into a vertex and
+-- out of it, in turn), and the sets of the vertices below each row and left of each channel
 pub record Given : Type 0 where
   pub ends : List ℕ
   pub longer : List ℕ
   pub channel : List ℕ
   pub position : List ℕ
-  pub into : List ℕ
-  pub out-of : List ℕ
+  pub number : List ℕ
   pub columns : List ℕ
   pub rows : List ℕ
   pub below : List ℕ
   pub left : List ℕ
 
-abbrev pub given : List ℕ → List ℕ → List ℕ → List ℕ → List ℕ → List ℕ → List ℕ → List ℕ → List ℕ → List ℕ → Given
-given ends longer channel position into out-of columns rows below left = record {
+abbrev pub given : List ℕ → List ℕ → List ℕ → List ℕ → List ℕ → List ℕ → List ℕ → List ℕ → List ℕ → Given
+given ends longer channel position number columns rows below left = record {
   ends = ends;
   longer = longer;
   channel = channel;
   position = position;
-  into = into;
-  out-of = out-of;
+  number = number;
   columns = columns;
   rows = rows;
   below = below;
@@ -66,7 +64,10 @@ module _ (g : Given) where
   implied? e = member? (g .longer) (2 * tailAt e) (headAt e)
 
   unfoldable pub kindAt : ℕ → Kind
-  kindAt e = kindAmong (g .channel) (g .position) (g .into) (g .out-of) (g .columns) (g .rows) (g .below) (g .left) (tailAt e) (headAt e)
+  kindAt e =
+      kindAmong (getD (g .channel) (tailAt e) 0) (getD (g .channel) (headAt e) 0) (getD (g .position) (tailAt e) 0)
+      (getD (g .position) (headAt e) 0) (getD (g .number) (2 * headAt e) 0) (getD (g .number) (2 * tailAt e + 1) 0) (g .columns) (g .rows)
+      (g .below) (g .left) (tailAt e) (headAt e)
 
   unfoldable pub arrowFrom : ℕ → EdgeEntry
   arrowFrom e = record { number = e; kind = kindAt e; transitive = implied? e }

@@ -13,13 +13,15 @@ use Rattle.flat.specs.Numbers.{Given, tailAt, headAt, implied?, arrowFro
 abbrev pub arrowAt : Given → ℕ → ℕ → ℕ
 arrowAt g e = arrowNumber (arrowFrom g e)
 
--- edge e has two bytes, which are vertices, and each vertex has a set of the vertices past one between
+-- edge e has two bytes, which are vertices, and the tables have an entry for each: two masks, a channel, a position and two bundles
 pub record Ready (g : Given) (e : ℕ) : Type 0 where
   pub few : e < 4096
   pub ends : 2 * e + 2 ≤ length (g .ends)
-  pub tail : tailAt g e < 128
-  pub head : headAt g e < 128
-  pub longer : length (g .longer) ≡ 256
+  pub low : (tailAt g e < 128) × (headAt g e < 128)
+  pub longer : 2 * tailAt g e + 2 ≤ length (g .longer)
+  pub channel : (tailAt g e < length (g .channel)) × (headAt g e < length (g .channel))
+  pub position : (tailAt g e < length (g .position)) × (headAt g e < length (g .position))
+  pub number : (2 * tailAt g e + 2 ≤ length (g .number)) × (2 * headAt g e + 2 ≤ length (g .number))
 
 -- the first m entries stand in the list, every number past them is as it was, and the reduced ones are counted
 pub record Passed (g : Given) (was : List ℕ) (m : ℕ) (is : List ℕ) (r : ℕ) : Type 0 where

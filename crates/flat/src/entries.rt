@@ -46,7 +46,7 @@ fn put_four(out: &mut [u16], i: usize, a: u16, b: u16, c: u16, d: u16)
 
 // 1 where the edge from u to v is transitive (document 01: implied), else 0.
 fn mark_of(longer: &[u64], u: usize, v: usize) -> u16
-    requires { ⌜ (length (now longer) ≡ 256) × (u < 128) × (v < 128) ⌝ }
+    requires { ⌜ (2 * u + 2 ≤ length (now longer)) × (u < 128) × (v < 128) ⌝ }
     ensures { λ r. ⌜ (r ≡ indicator (member? (now (longer .entry)) (2 * u) v)) × (r < 2) ⌝ }
 {
     ((longer[2 * u + v / 64] >> (v % 64)) & 1) as u16
@@ -59,25 +59,26 @@ fn put_arrow<'e, 'l, 'a>(
     longer: &'l [u64],
     channel: &'a [u8],
     position: &'a [u8],
-    into: &'a [u16],
-    out_of: &'a [u16],
+    number: &'a [u16],
     columns: &'a [u16],
     rows: &'a [u8],
     below: &'a [u64],
     left: &'a [u64],
     e: usize,
 ) -> u16
-    requires { ⌜ (e * 5 + 5 ≤ length (now out)) × Ready (given (now ends) (now longer) (now channel) (now position) (now into) (now «out_of») (now columns) (now rows) (now below) (now left)) e ⌝ }
-    ensures { λ r. ⌜ (now (out .exit) ≡ stored (arrowAt (given (now (ends .entry)) (now (longer .entry)) (now (channel .entry)) (now (position .entry)) (now (into .entry)) (now («out_of» .entry)) (now (columns .entry)) (now (rows .entry)) (now (below .entry)) (now (left .entry))) e) (e * 5) 5 (now (out .entry))) × (r ≡ indicator (not (implied? (given (now (ends .entry)) (now (longer .entry)) (now (channel .entry)) (now (position .entry)) (now (into .entry)) (now («out_of» .entry)) (now (columns .entry)) (now (rows .entry)) (now (below .entry)) (now (left .entry))) e))) × (r < 2) ⌝ }
+    requires { ⌜ (e * 5 + 5 ≤ length (now out)) × Ready (given (now ends) (now longer) (now channel) (now position) (now number) (now columns) (now rows) (now below) (now left)) e ⌝ }
+    ensures { λ r. ⌜ (now (out .exit) ≡ stored (arrowAt (given (now (ends .entry)) (now (longer .entry)) (now (channel .entry)) (now (position .entry)) (now (number .entry)) (now (columns .entry)) (now (rows .entry)) (now (below .entry)) (now (left .entry))) e) (e * 5) 5 (now (out .entry))) × (r ≡ indicator (not (implied? (given (now (ends .entry)) (now (longer .entry)) (now (channel .entry)) (now (position .entry)) (now (number .entry)) (now (columns .entry)) (now (rows .entry)) (now (below .entry)) (now (left .entry))) e))) × (r < 2) ⌝ }
 {
     let u = wide(ends[2 * e]);
     let v = wide(ends[2 * e + 1]);
     let mark = mark_of(longer, u, v);
     let k = kinds::kind_of(
-        channel,
-        position,
-        into,
-        out_of,
+        channel[u],
+        channel[v],
+        position[u],
+        position[v],
+        number[2 * v],
+        number[2 * u + 1],
         columns,
         rows,
         below,
@@ -104,16 +105,15 @@ pub(crate) fn put_arrows<'e, 'l, 'a>(
     longer: &'l [u64],
     channel: &'a [u8],
     position: &'a [u8],
-    into: &'a [u16],
-    out_of: &'a [u16],
+    number: &'a [u16],
     columns: &'a [u16],
     rows: &'a [u8],
     below: &'a [u64],
     left: &'a [u64],
     m: usize,
 ) -> u16
-    requires { ⌜ (m * 5 ≤ length (now out)) × (m ≤ 4096) × ((e : ℕ) → e < m → Ready (given (now ends) (now longer) (now channel) (now position) (now into) (now «out_of») (now columns) (now rows) (now below) (now left)) e) ⌝ }
-    ensures { λ r. ⌜ Passed (given (now (ends .entry)) (now (longer .entry)) (now (channel .entry)) (now (position .entry)) (now (into .entry)) (now («out_of» .entry)) (now (columns .entry)) (now (rows .entry)) (now (below .entry)) (now (left .entry))) (now (out .entry)) m (now (out .exit)) r ⌝ }
+    requires { ⌜ (m * 5 ≤ length (now out)) × (m ≤ 4096) × ((e : ℕ) → e < m → Ready (given (now ends) (now longer) (now channel) (now position) (now number) (now columns) (now rows) (now below) (now left)) e) ⌝ }
+    ensures { λ r. ⌜ Passed (given (now (ends .entry)) (now (longer .entry)) (now (channel .entry)) (now (position .entry)) (now (number .entry)) (now (columns .entry)) (now (rows .entry)) (now (below .entry)) (now (left .entry))) (now (out .entry)) m (now (out .exit)) r ⌝ }
 {
     let mut firm: u16 = 0;
     for e in 0..m {
@@ -123,8 +123,7 @@ pub(crate) fn put_arrows<'e, 'l, 'a>(
             longer,
             channel,
             position,
-            into,
-            out_of,
+            number,
             columns,
             rows,
             below,
@@ -146,7 +145,7 @@ pub(crate) fn put_words<'c, 'p, 'l, 'r, 'd>(
     descendants: &'d [u8],
     n: usize,
 )
-    requires { ⌜ (n * 5 ≤ length (now out)) × (n ≤ 128) × (length (now channel) ≡ 128) × (length (now position) ≡ 128) × (length (now column) ≡ 128) × (length (now row) ≡ 128) × (length (now descendants) ≡ 128) ⌝ }
+    requires { ⌜ (n * 5 ≤ length (now out)) × (n ≤ 128) × (n ≤ length (now channel)) × (n ≤ length (now position)) × (n ≤ length (now column)) × (n ≤ length (now row)) × (n ≤ length (now descendants)) ⌝ }
     ensures { λ _. ⌜ Filled (now (out .entry)) (words (wordFrom (now (channel .entry)) (now (position .entry)) (now (column .entry)) (now (row .entry)) (now (descendants .entry)))) (n * 5) (now (out .exit)) ⌝ }
 {
     for v in 0..n {
@@ -170,7 +169,7 @@ pub(crate) fn put_bundles<'c, 'f, 'l, 't>(
     track: &'t [u8],
     count: usize,
 )
-    requires { ⌜ (count * 4 ≤ length (now out)) × (count ≤ 256) × (length (now channel) ≡ 256) × (length (now «first_row») ≡ 256) × (length (now «last_row») ≡ 256) × (length (now track) ≡ 256) ⌝ }
+    requires { ⌜ (count * 4 ≤ length (now out)) × (count ≤ 256) × (count ≤ length (now channel)) × (count ≤ length (now «first_row»)) × (count ≤ length (now «last_row»)) × (count ≤ length (now track)) ⌝ }
     ensures { λ _. ⌜ Filled (now (out .entry)) (bundles (bundleFrom (now (channel .entry)) (now («first_row» .entry)) (now («last_row» .entry)) (now (track .entry)))) (count * 4) (now (out .exit)) ⌝ }
 {
     for b in 0..count {

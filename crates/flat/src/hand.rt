@@ -1,5 +1,7 @@
 // What is planned of a graph, handed over.
-ghost use Rattle.flat.specs.Hand.{sources, Fit, Handed, Lends, LeftFor, Hands};
+ghost use mathlib.Core.Path.{_≡_};
+ghost use lib.ListN.{length};
+ghost use Rattle.flat.specs.Hand.{sources, tables, Fit, Handed, Lends, LeftFor, Hands};
 use crate::entries::put_arrows;
 use crate::entries::put_bundles;
 use crate::entries::put_words;
@@ -20,8 +22,7 @@ fn fill_lists<'e, 'l, 'a, 'd, 'b, 'f, 'z, 't>(
     columns: &'a [u16],
     rows: &'a [u8],
     descendants: &'d [u8],
-    into: &'a [u16],
-    out_of: &'a [u16],
+    number: &'a [u16],
     of: &'b [u8],
     first_row: &'f [u8],
     last_row: &'z [u8],
@@ -30,8 +31,8 @@ fn fill_lists<'e, 'l, 'a, 'd, 'b, 'f, 'z, 't>(
     m: usize,
     count: usize,
 ) -> u16
-    requires { ⌜ Fit (sources (now ends) (now longer) (now below) (now left) (now channel) (now position) (now columns) (now rows) (now descendants) (now into) (now «out_of») (now of) (now «first_row») (now «last_row») (now track)) n m count (now words) (now arrows) (now bundles) ⌝ }
-    ensures { λ r. ⌜ Handed (sources (now (ends .entry)) (now (longer .entry)) (now (below .entry)) (now (left .entry)) (now (channel .entry)) (now (position .entry)) (now (columns .entry)) (now (rows .entry)) (now (descendants .entry)) (now (into .entry)) (now («out_of» .entry)) (now (of .entry)) (now («first_row» .entry)) (now («last_row» .entry)) (now (track .entry))) n m count (now (words .entry)) (now (arrows .entry)) (now (bundles .entry)) (now (words .exit)) (now (arrows .exit)) (now (bundles .exit)) r ⌝ }
+    requires { ⌜ Fit (sources (now ends) (now longer) (now below) (now left) (now channel) (now position) (now columns) (now rows) (now descendants) (now number) (now of) (now «first_row») (now «last_row») (now track)) n m count (now words) (now arrows) (now bundles) ⌝ }
+    ensures { λ r. ⌜ Handed (sources (now (ends .entry)) (now (longer .entry)) (now (below .entry)) (now (left .entry)) (now (channel .entry)) (now (position .entry)) (now (columns .entry)) (now (rows .entry)) (now (descendants .entry)) (now (number .entry)) (now (of .entry)) (now («first_row» .entry)) (now («last_row» .entry)) (now (track .entry))) n m count (now (words .entry)) (now (arrows .entry)) (now (bundles .entry)) (now (words .exit)) (now (arrows .exit)) (now (bundles .exit)) r ⌝ }
 {
     put_words(words, channel, position, columns, rows, descendants, n);
     let firm = put_arrows(
@@ -40,8 +41,7 @@ fn fill_lists<'e, 'l, 'a, 'd, 'b, 'f, 'z, 't>(
         longer,
         channel,
         position,
-        into,
-        out_of,
+        number,
         &columns[..n],
         &rows[..n],
         below,
@@ -52,36 +52,41 @@ fn fill_lists<'e, 'l, 'a, 'd, 'b, 'f, 'z, 't>(
     firm
 }
 
-// Fills lists that have room with the chart of a graph of n vertices, by the sets of the vertices left of each channel; how many edges are
-// reduced.
-fn handed<'e, 'b, 'l>(
+// The sets of the vertices left of each channel, where there are more than two: between two nothing stands.
+fn make_left(channel: &[u8], n: usize, count: usize, left: &mut [u64])
+    ensures { λ _. ⌜ LeftFor n count (now (channel .entry)) (length (now (left .entry))) (now (left .exit)) × (length (now (left .exit)) ≡ length (now (left .entry))) ⌝ }
+{
+    if 2 < count {
+        kinds::prefixes(channel, n, count, left);
+    }
+}
+
+// Fills lists that have room with the chart of a graph of n vertices; how many edges are reduced.
+pub(crate) fn hand_over<'e, 'l, 'b, 'o, 'f, 'z, 't>(
     words: &mut [u16],
     arrows: &mut [u16],
     bundles: &mut [u16],
     ends: &'e [u8],
-    below: &'b [u64],
     longer: &'l [u64],
-    left: &'b [u64],
+    below: &'b [u64],
+    left: &'b mut [u64],
+    of: &'o [u8],
+    first: &'f [u8],
+    last: &'z [u8],
+    number: &'b [u16],
+    track: &'t [u8],
+    column: &'b [u16],
     n: usize,
     p: Plan,
 ) -> u16
-    requires { ⌜ Lends n (now ends) p (now below) (now longer) (now words) (now arrows) (now bundles) ⌝ }
-    ensures { λ r. ⌜ (LeftFor n p (now (left .entry)) → Hands n (now (ends .entry)) p (now (below .entry)) (now (longer .entry)) (now (words .entry)) (now (arrows .entry)) (now (bundles .entry)) r (now (words .exit)) (now (arrows .exit)) (now (bundles .exit))) ⌝ }
+    requires { ⌜ Lends n (now ends) p (tables (now longer) (now below) (now of) (now first) (now last) (now number) (now track) (now column)) (length (now left)) (now words) (now arrows) (now bundles) ⌝ }
+    ensures { λ r. ⌜ Hands n (now (ends .entry)) p (tables (now (longer .entry)) (now (below .entry)) (now (of .entry)) (now (first .entry)) (now (last .entry)) (now (number .entry)) (now (track .entry)) (now (column .entry))) (now (words .entry)) (now (arrows .entry)) (now (bundles .entry)) r (now (words .exit)) (now (arrows .exit)) (now (bundles .exit)) ⌝ }
 {
-    let lines = p.channels;
-    let gathered = p.bundles;
-    let tracks = p.tracks;
-    let channel = lines.channel;
-    let position = lines.position;
-    let column = p.column;
+    let channel = p.channel;
+    let position = p.position;
     let row = p.row;
     let descendants = p.descendants;
-    let into = gathered.into;
-    let out_of = gathered.out_of;
-    let of = gathered.channel;
-    let first = gathered.first;
-    let last = gathered.last;
-    let track = tracks.track;
+    make_left(&channel, n, wide(p.channels), left);
     fill_lists(
         words,
         arrows,
@@ -92,41 +97,16 @@ fn handed<'e, 'b, 'l>(
         left,
         &channel,
         &position,
-        &column,
+        column,
         &row,
         &descendants,
-        &into,
-        &out_of,
-        &of,
-        &first,
-        &last,
-        &track,
+        number,
+        of,
+        first,
+        last,
+        track,
         n,
         ends.len() / 2,
-        gathered.count as usize,
+        p.bundles,
     )
-}
-
-// The same with these sets made, where there are more than two channels: between two nothing stands.
-pub(crate) fn hand_over<'e, 'b, 'l>(
-    words: &mut [u16],
-    arrows: &mut [u16],
-    bundles: &mut [u16],
-    ends: &'e [u8],
-    below: &'b [u64],
-    longer: &'l [u64],
-    n: usize,
-    p: Plan,
-) -> u16
-    requires { ⌜ Lends n (now ends) p (now below) (now longer) (now words) (now arrows) (now bundles) ⌝ }
-    ensures { λ r. ⌜ Hands n (now (ends .entry)) p (now (below .entry)) (now (longer .entry)) (now (words .entry)) (now (arrows .entry)) (now (bundles .entry)) r (now (words .exit)) (now (arrows .exit)) (now (bundles .exit)) ⌝ }
-{
-    let lines = p.channels;
-    let count = wide(lines.count);
-    if count < 3 {
-        return handed(words, arrows, bundles, ends, below, longer, below, n, p);
-    }
-    let channel = lines.channel;
-    let left = kinds::prefixes(&channel, n, count);
-    handed(words, arrows, bundles, ends, below, longer, &left, n, p)
 }

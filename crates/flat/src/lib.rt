@@ -1,10 +1,11 @@
 // The chart as three lent lists of numbers, straight from what is planned: no table of edges between.
 ghost use mathlib.Core.Path.{_≡_};
-ghost use Prim.Native.Nat.{_<_, _/_};
-ghost use lib.ListN.{length};
+ghost use Prim.Native.Nat.{_+_, _*_, _/_, _≤_, _<_, min};
+ghost use lib.ListN.{length, replicate};
 ghost use Rattle.drawing.specs.Drawn.{graphDrawn, lent};
+ghost use Rattle.drawing.specs.Laid.{lists, Roomy};
 ghost use Rattle.flat.specs.Chart.{Left, HandedFlat};
-ghost use Rattle.flat.specs.Hand.{noCounts, countsOf};
+ghost use Rattle.flat.specs.Hand.{noCounts, countsOf, roomRefusal};
 
 mod entries;
 mod hand;
@@ -15,6 +16,9 @@ use entries::BUNDLE_NUMBERS;
 use entries::WORD_NUMBERS;
 use hand::hand_over;
 use record::layout::Layout;
+
+// For so many vertices there are smaller work lists.
+const FEW: usize = 16;
 
 // Document 01's number, or 0; how many entries each list got; the other counts, and the side columns of each line, 0 past the last.
 // Every number but the first is 0 where the chart is refused.
@@ -55,32 +59,176 @@ fn refused(refusal: u8) -> ChartCounts
     }
 }
 
-// The counts of what is planned of n vertices and m edges.
-fn counts_of(n: usize, m: usize, firm: u16, p: Plan) -> ChartCounts
-    ensures { λ r. ⌜ r ≡ countsOf n m firm p ⌝ }
+// The counts of what is planned of n vertices and m edges, and the tracks of each channel.
+fn counts_of(n: usize, m: usize, firm: u16, p: Plan, side_columns: [u16; 128]) -> ChartCounts
+    ensures { λ r. ⌜ r ≡ countsOf n m firm p «side_columns» ⌝ }
 {
-    let lines = p.channels;
-    let gathered = p.bundles;
-    let tracks = p.tracks;
-    let side_columns = tracks.used;
     ChartCounts {
         refusal: 0,
         words: n,
         arrows: m,
-        bundles: gathered.count as usize,
-        rows: p.used,
-        lines: lines.count,
+        bundles: p.bundles,
+        rows: p.rows,
+        lines: p.channels,
         firm,
         width: p.width,
         side_columns,
     }
 }
 
-// The chart of a neutral graph into three lists: so many vertices, the bytes of its edges' ends, two an edge, and the bytes of its given
-// channels, if any are given. Refused with 8 where a list has no room for all its entries. Numbers past the needed ones stay.
-pub fn of_graph<'e, 'f>(
+// Why a chart is refused, or 0: as its graph is, or with 8 where a list of so many numbers has no room for n vertices, m edges or so many
+// bundles.
+fn refusal_of(
+    refusal: u8,
     n: usize,
-    ends: &'e [u8],
+    m: usize,
+    count: usize,
+    words: usize,
+    arrows: usize,
+    bundles: usize,
+) -> u8
+    ensures { λ r. ⌜ r ≡ roomRefusal refusal n m count (words / 5) (arrows / 5) (bundles / 4) ⌝ }
+{
+    if refusal != 0 {
+        return refusal;
+    }
+    if words / WORD_NUMBERS < n {
+        return 8;
+    }
+    if arrows / ARROW_NUMBERS < m {
+        return 8;
+    }
+    if bundles / BUNDLE_NUMBERS < count {
+        return 8;
+    }
+    0
+}
+
+// The chart of a neutral graph into three lists, by work lists that have room for its vertices.
+fn drawn<'g, 'f, 'e, 'b, 't, 'l, 's, 'o, 'i, 'z, 'n, 'k, 'c>(
+    n: usize,
+    ends: &'g [u8],
+    given: bool,
+    field: &'f [u8],
+    words: &mut [u16],
+    arrows: &mut [u16],
+    bundles: &mut [u16],
+    edges: &'e mut [u64],
+    below: &'b mut [u64],
+    table: &'t mut [u64],
+    longer: &'l mut [u64],
+    left: &'s mut [u64],
+    of: &'o mut [u8],
+    first: &'i mut [u8],
+    last: &'z mut [u8],
+    number: &'n mut [u16],
+    track: &'k mut [u8],
+    column: &'c mut [u16],
+) -> ChartCounts
+    requires { ⌜ Roomy n (lists (now edges) (now below) (now table) (now longer) (now of) (now first) (now last) (now number) (now track) (replicate 128 0) (now column)) × (2 * min n 128 + 2 ≤ length (now left)) ⌝ }
+    ensures { λ r. ⌜ Left (lent (length (now (words .entry)) / 5) (length (now (arrows .entry)) / 5) (length (now (bundles .entry)) / 4) (graphDrawn n (now (ends .entry)) given (now (field .entry)))) (now (words .entry)) (now (arrows .entry)) (now (bundles .entry)) r (now (words .exit)) (now (arrows .exit)) (now (bundles .exit)) ⌝ }
+{
+    let mut used = [0; 128];
+    let p = drawing::planned(
+        n,
+        ends,
+        given,
+        field,
+        edges,
+        below,
+        table,
+        longer,
+        of,
+        first,
+        last,
+        number,
+        track,
+        &mut used,
+        column,
+    );
+    let m = ends.len() / 2;
+    let k = refusal_of(
+        p.refusal,
+        n,
+        m,
+        p.bundles,
+        words.len(),
+        arrows.len(),
+        bundles.len(),
+    );
+    if k != 0 {
+        return refused(k);
+    }
+    let firm = hand_over(
+        words,
+        arrows,
+        bundles,
+        ends,
+        longer,
+        below,
+        left,
+        of,
+        first,
+        last,
+        number,
+        track,
+        column,
+        n,
+        p,
+    );
+    counts_of(n, m, firm, p, used)
+}
+
+// The same with work lists for at most 16 vertices: clearing larger ones would take most of the time of a small chart.
+fn few<'g, 'f>(
+    n: usize,
+    ends: &'g [u8],
+    given: bool,
+    field: &'f [u8],
+    words: &mut [u16],
+    arrows: &mut [u16],
+    bundles: &mut [u16],
+) -> ChartCounts
+    requires { ⌜ n ≤ 16 ⌝ }
+    ensures { λ r. ⌜ Left (lent (length (now (words .entry)) / 5) (length (now (arrows .entry)) / 5) (length (now (bundles .entry)) / 4) (graphDrawn n (now (ends .entry)) given (now (field .entry)))) (now (words .entry)) (now (arrows .entry)) (now (bundles .entry)) r (now (words .exit)) (now (arrows .exit)) (now (bundles .exit)) ⌝ }
+{
+    let mut edges = [0; 32];
+    let mut below = [0; 34];
+    let mut table = [0; 32];
+    let mut longer = [0; 32];
+    let mut left = [0; 34];
+    let mut of = [0; 32];
+    let mut first = [0; 32];
+    let mut last = [0; 32];
+    let mut number = [0; 32];
+    let mut track = [0; 32];
+    let mut column = [0; 16];
+    drawn(
+        n,
+        ends,
+        given,
+        field,
+        words,
+        arrows,
+        bundles,
+        &mut edges,
+        &mut below,
+        &mut table,
+        &mut longer,
+        &mut left,
+        &mut of,
+        &mut first,
+        &mut last,
+        &mut number,
+        &mut track,
+        &mut column,
+    )
+}
+
+// The same with work lists for as many vertices as a graph can have.
+fn many<'g, 'f>(
+    n: usize,
+    ends: &'g [u8],
     given: bool,
     field: &'f [u8],
     words: &mut [u16],
@@ -89,25 +237,56 @@ pub fn of_graph<'e, 'f>(
 ) -> ChartCounts
     ensures { λ r. ⌜ Left (lent (length (now (words .entry)) / 5) (length (now (arrows .entry)) / 5) (length (now (bundles .entry)) / 4) (graphDrawn n (now (ends .entry)) given (now (field .entry)))) (now (words .entry)) (now (arrows .entry)) (now (bundles .entry)) r (now (words .exit)) (now (arrows .exit)) (now (bundles .exit)) ⌝ }
 {
+    let mut edges = [0; 256];
     let mut below = [0; 258];
+    let mut table = [0; 256];
     let mut longer = [0; 256];
-    let p = drawing::planned(n, ends, given, field, &mut below, &mut longer);
-    if p.refusal != 0 {
-        return refused(p.refusal);
+    let mut left = [0; 258];
+    let mut of = [0; 256];
+    let mut first = [0; 256];
+    let mut last = [0; 256];
+    let mut number = [0; 256];
+    let mut track = [0; 256];
+    let mut column = [0; 128];
+    drawn(
+        n,
+        ends,
+        given,
+        field,
+        words,
+        arrows,
+        bundles,
+        &mut edges,
+        &mut below,
+        &mut table,
+        &mut longer,
+        &mut left,
+        &mut of,
+        &mut first,
+        &mut last,
+        &mut number,
+        &mut track,
+        &mut column,
+    )
+}
+
+// The chart of a neutral graph into three lists: so many vertices, the bytes of its edges' ends, two an edge, and the bytes of its given
+// channels, if any are given. Refused with 8 where a list has no room for all its entries. Numbers past the needed ones stay.
+pub fn of_graph<'g, 'f>(
+    n: usize,
+    ends: &'g [u8],
+    given: bool,
+    field: &'f [u8],
+    words: &mut [u16],
+    arrows: &mut [u16],
+    bundles: &mut [u16],
+) -> ChartCounts
+    ensures { λ r. ⌜ Left (lent (length (now (words .entry)) / 5) (length (now (arrows .entry)) / 5) (length (now (bundles .entry)) / 4) (graphDrawn n (now (ends .entry)) given (now (field .entry)))) (now (words .entry)) (now (arrows .entry)) (now (bundles .entry)) r (now (words .exit)) (now (arrows .exit)) (now (bundles .exit)) ⌝ }
+{
+    if n <= FEW {
+        return few(n, ends, given, field, words, arrows, bundles);
     }
-    let m = ends.len() / 2;
-    let gathered = p.bundles;
-    if words.len() / WORD_NUMBERS < n {
-        return refused(8);
-    }
-    if arrows.len() / ARROW_NUMBERS < m {
-        return refused(8);
-    }
-    if bundles.len() / BUNDLE_NUMBERS < gathered.count as usize {
-        return refused(8);
-    }
-    let firm = hand_over(words, arrows, bundles, ends, &below, &longer, n, p);
-    counts_of(n, m, firm, p)
+    many(n, ends, given, field, words, arrows, bundles)
 }
 
 // The same of the graph that a record says. Refused with 1 where the record's fields do not stand as they must.

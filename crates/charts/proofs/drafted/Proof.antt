@@ -10,17 +10,17 @@ slice-aggregate-prefixes c = search needs
 wide-requires : tie.Need-wide-requires
 wide-requires c κs = search needs
 
+slice-aggregate-prefixes-2 : tie.Need-slice-aggregate-prefixes-2
+slice-aggregate-prefixes-2 c = search needs
+
 prefixes-requires : tie.Need-prefixes-requires
 prefixes-requires c κs = search needs
 
-cast-t24 : tie.Need-cast-t24
-cast-t24 c = search needs
-
 returns : tie.Need-returns
 returns c =
-    let st = c .before .before .before .before .before .before .before in
-    record { tables = refl; lefts = rw (st .before .wide .ensures .0) at (st .prefixes .ensures) }
+    let made = c .before .prefixes .ensures in
+    λ edges table. record { tables = refl; lefts = rw (c .before .before .before .wide .ensures .0) at (rw (made .0) at (made .1)) }
 
 pub drafted-spec : {M : Type 1} → statement M
 drafted-spec =
-    tie.close (tie.spec slice-aggregate-prefixes wide-requires prefixes-requires cast-t24 returns)
+    tie.close (tie.spec slice-aggregate-prefixes wide-requires slice-aggregate-prefixes-2 prefixes-requires returns)

@@ -1,4 +1,4 @@
--- `charts::kind_at` meets its contract, from what `kinds::kind_of` ensures of the code. Assumes nothing.
+-- `charts::kind_at` meets its contract, from what `code_at` ensures of the code. Assumes nothing.
 use mathlib.Core.Path.{_≡_, sym, _∙_}
 use mathlib.Core.List.{List}
 use Prim.Native.Nat.{ℕ, min}
@@ -24,30 +24,30 @@ slice-aggregate-columns c = search needs
 slice-aggregate-rows : tie.Need-slice-aggregate-rows
 slice-aggregate-rows c = search needs
 
-slice-aggregate-kind-of : tie.Need-slice-aggregate-kind-of
-slice-aggregate-kind-of c =
-    let st = c .before .before .before .before .before .before .before .before .before .before .before in
+slice-aggregate-code-at : tie.Need-slice-aggregate-code-at
+slice-aggregate-code-at c =
+    let st = c .before .before .before .before .before .before .before .before .before in
     let size : 128 ≡ length (st .before .before .before .before .args .t1 .column) = slice-aggregate-columns st in
     first-long _ _ _ (st .before .before .before .least .ensures) size
 
-slice-aggregate-kind-of-2 : tie.Need-slice-aggregate-kind-of-2
-slice-aggregate-kind-of-2 c =
-    let st = c .before .before .before .before .before .before .before .before .before .before .before in
+slice-aggregate-code-at-2 : tie.Need-slice-aggregate-code-at-2
+slice-aggregate-code-at-2 c =
+    let st = c .before .before .before .before .before .before .before .before .before in
     let size : 128 ≡ length (st .before .before .before .before .before .args .t1 .row) = slice-aggregate-rows st in
     first-long _ _ _ (st .before .before .before .before .least .ensures) size
+
+code-at-requires : tie.Need-code-at-requires
+code-at-requires c κs = search needs
 
 kind-of-requires : tie.Need-kind-of-requires
 kind-of-requires c κs = search needs
 
-kind-of-requires-2 : tie.Need-kind-of-requires-2
-kind-of-requires-2 c κs = search needs
-
 returns : tie.Need-returns
 unfolding kindAt
 returns c =
-    let st = c .before .before .before .before .before .before .before .before .before .before .before in
+    let st = c .before .before .before .before .before .before .before .before .before in
     rw (← st .before .before .before .before .before .before .before .before .before .before .least .ensures)
-    (c .kind-of2 .ensures ∙ kind-made _ _ (c .before .kind-of .ensures))
+    (c .kind-of .ensures ∙ kind-made _ _ (c .before .code-at .ensures))
 
 pub kind-at-spec : {M : Type 1} → statement M
 kind-at-spec =
@@ -56,8 +56,8 @@ kind-at-spec =
     least-requires
     slice-aggregate-columns
     slice-aggregate-rows
-    slice-aggregate-kind-of
-    slice-aggregate-kind-of-2
+    slice-aggregate-code-at
+    slice-aggregate-code-at-2
+    code-at-requires
     kind-of-requires
-    kind-of-requires-2
     returns)

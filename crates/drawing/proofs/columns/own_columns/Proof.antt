@@ -1,4 +1,5 @@
-use mathlib.Core.Path.{_≡_, subst}
+use mathlib.Core.Path.{_≡_, sym, subst}
+use mathlib.Core.List.{List}
 use Prim.Native.Nat.{ℕ, _+_, _-_, _≤_, zero-le}
 use native.Mathlib.Omega.{arith}
 use lib.ListN.{getD}
@@ -17,7 +18,9 @@ abbrev μ-loop : tie.MeasureT-loop
 μ-loop channels tracks own₀ start₀ l₀ own start l = channels - l
 
 loop-holds : tie.Need-loop-holds Inv-loop μ-loop
-loop-holds c = (zero-le, owns-none (evenGaps (λ k. getD (c .args .tracks .now) k 0)))
+loop-holds c =
+    let W = evenGaps (λ k. getD (c .args .tracks .now) k 0) in
+    (zero-le, subst (λ (t : List ℕ). Owns W 0 t 0) (sym (c .pre .2)) (owns-none W))
 
 mul-x : tie.Need-mul-x Inv-loop μ-loop
 mul-x c = search needs
@@ -30,7 +33,7 @@ fits : (c : tie.In-loop Inv-loop μ-loop) → c .before .loop .start + getD (c .
 fits c =
     let a = c .before .before .args in
     let l = c .before .loop in
-    omega (arith, block-within (λ k. getD (a .tracks .now) k 0) (l .l) (a .channels) (c .loop-test .taken), l .inv .1 .end, c .before .before .pre .2)
+    omega (arith, block-within (λ k. getD (a .tracks .now) k 0) (l .l) (a .channels) (c .loop-test .taken), l .inv .1 .end, c .before .before .pre .3)
 
 add-x : tie.Need-add-x Inv-loop μ-loop
 add-x c = record { fits = omega (arith, fits (c .before)) }
@@ -41,8 +44,10 @@ add-x-2 c = record { fits = omega (arith, fits (c .before)) }
 mul-own : tie.Need-mul-own Inv-loop μ-loop
 mul-own c = search needs
 
-array-write-own : tie.Need-array-write-own Inv-loop μ-loop
-array-write-own c = search needs
+slice-write-own : tie.Need-slice-write-own Inv-loop μ-loop
+slice-write-own c =
+    let few = c .before .before .before .pre .0 in
+    omega (arith, c .before .before .loop .inv .1 .columns .long)
 
 add-start : tie.Need-add-start Inv-loop μ-loop
 add-start c = record { fits = omega (arith, fits (c .before)) }
@@ -62,6 +67,9 @@ loop-again c =
     let l = c .before .before .loop in
     (omega arith, owns-more (λ k. getD (a .tracks .now) k 0) (l .l) (let g = c .before .before .before .pre in omega arith) (l .inv .1))
 
+same-length : tie.Need-same-length Inv-loop μ-loop
+same-length c = search needs
+
 returns : tie.Need-returns Inv-loop μ-loop
 returns c =
     let a = c .before .before .args in
@@ -80,10 +88,11 @@ own-columns-spec =
     add-x
     add-x-2
     mul-own
-    array-write-own
+    slice-write-own
     add-start
     add-start-2
     add-l
     loop-less
     loop-again
+    same-length
     returns)

@@ -1,58 +1,69 @@
-use mathlib.Core.Path.{sym, subst}
-use Prim.Native.Nat.{ℕ, _≤_}
+use mathlib.Core.Path.{_≡_, _∙_, subst}
+use Prim.Native.Nat.{ℕ}
 use native.Mathlib.Omega.{arith}
-use Rattle.page.specs.Page as page
-use Rattle.geometry.specs.Placement.{blockStart}
-use Rattle.drawing.specs.Parts.{Owns, blocksOf}
+use lib.ListN.{length, getD}
+use Rattle.drawing.specs.Parts.{Tabled}
+use Rattle.counting.proofs.Clearing.{cleared-length, cleared-own}
 use borrow.Author.Needs.{needs}
 use Rattle.drawing.proofs.columns.places_of.Statement.{statement}
 use Rattle.drawing.proofs.columns.places_of.Tie as tie
-
-wide-requires : tie.Need-wide-requires
-wide-requires c κs = search needs
 
 slice-aggregate-own-columns : tie.Need-slice-aggregate-own-columns
 slice-aggregate-own-columns c = search needs
 
 own-columns-requires : tie.Need-own-columns-requires
-own-columns-requires c κs =
-    let st = c .before .before .before .before in
-    let e = c .before .wide .ensures .0 in
-    let few = st .pre .channels in
-    let long = st .pre .sizes .1 in
-    (omega arith, omega arith, subst (λ (k : ℕ). blockStart (blocksOf (st .args .tracks)) k ≤ page.columns) (sym e) (st .pre .page))
+own-columns-requires c κs = search needs
+
+clear-requires : tie.Need-clear-requires
+clear-requires c κs = search needs
 
 slice-aggregate-vertex-columns : tie.Need-slice-aggregate-vertex-columns
 slice-aggregate-vertex-columns c = search needs
 
-slice-aggregate-vertex-columns-2 : tie.Need-slice-aggregate-vertex-columns-2
-slice-aggregate-vertex-columns-2 c = search needs
-
 vertex-columns-requires : tie.Need-vertex-columns-requires
 vertex-columns-requires c κs =
-    let p = c .before .before .before .before .before .before .before .before .pre in
+    let st = c .before .before .before .before .before .before .before .before .before .before .before .before in
+    let p = st .pre in
+    let cl = c .before .before .before .before .clear in
+    let long : length (cl .last .0) ≡ length (st .args .column .now) = cleared-length 0 _ _ (cl .ensures) in
     let few = p .few in
-    let long = p .sizes .0 in
-    let channels = p .channels in
-    (few, omega arith, c .before .before .before .own-columns .ensures .columns .long, λ v h. omega (arith, p .known v h))
+    let all = p .few-channels in (
+      few,
+      omega (arith, long, p .sizes .2),
+      p .sizes .0,
+      c .before .before .before .before .before .before .before .own-columns .ensures .columns .long,
+      λ v h. omega (arith, p .known v h),
+      cleared-own 0 (cl .last .0) (length (st .args .column .now)) (cl .ensures),
+    )
+
+same-length : tie.Need-same-length
+same-length c =
+    let st = c .before .before .before .before .before .before .before .before .before .before .before .before .before .before .before in
+    let cl = c .before .before .before .before .before .before .before .clear in
+    let long : length (cl .last .0) ≡ length (st .args .column .now) = cleared-length 0 _ _ (cl .ensures) in
+    c .before .before .vertex-columns .ensures .long ∙ long
 
 returns : tie.Need-returns
 returns c =
-    let a = c .before .before .before .before .before .before .before .before .before .args in
-    let owned = c .before .before .before .before .own-columns in record {
-      own = owned .result .own;
-      owns = subst (λ (k : ℕ). Owns (blocksOf (a .tracks)) k (owned .result .own) (owned .result .width)) (c .before .before .before .before .before .before .wide .ensures .0) (owned .ensures);
-      standing = c .vertex-columns .ensures;
+    let st = c .before .before .before .before .before .before .before .before .before .before .before .before .before .before .before in
+    let cl = c .before .before .before .before .before .before .before .clear in
+    let own = c .before .before .before .before .before .before .before .before .before .before .own-columns in
+    let long : length (cl .last .0) ≡ length (st .args .column .now) = cleared-length 0 _ _ (cl .ensures) in
+    record {
+      own = own .last .1 .1 .0;
+      owns = own .ensures;
+      standing = subst (λ (k : ℕ). Tabled k (λ v. getD (own .last .1 .1 .0) (getD (st .args .channel .now) v 0) 0) (st .args .n)
+          (c .before .before .vertex-columns .last .1 .1 .1 .0)) long (c .before .before .vertex-columns .ensures);
     }
 
 pub places-of-spec : {M : Type 1} → statement M
 places-of-spec =
     tie.close
     (tie.spec
-    wide-requires
     slice-aggregate-own-columns
     own-columns-requires
+    clear-requires
     slice-aggregate-vertex-columns
-    slice-aggregate-vertex-columns-2
     vertex-columns-requires
+    same-length
     returns)

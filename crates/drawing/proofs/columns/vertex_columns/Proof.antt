@@ -1,7 +1,8 @@
-use mathlib.Core.Path.{_≡_, ap, subst}
+use mathlib.Core.Path.{_≡_, sym, ap, subst}
+use mathlib.Core.List.{List}
 use Prim.Native.Nat.{ℕ, _-_, _≤_, _<_, zero-le}
 use native.Mathlib.Omega.{arith}
-use lib.ListN.{getD}
+use lib.ListN.{length, getD}
 use Rattle.drawing.specs.Parts.{Tabled}
 use Rattle.drawing.proofs.Tabling.{tabled-none, tabled-more}
 use borrow.Author.Needs.{needs}
@@ -9,13 +10,17 @@ use Rattle.drawing.proofs.columns.vertex_columns.Statement.{statement}
 use Rattle.drawing.proofs.columns.vertex_columns.Tie as tie
 
 abbrev Inv-loop : tie.InvT-loop
-Inv-loop n channel own columns₀ v₀ columns v = (v ≤ n) × Tabled 128 (λ x. getD own (getD channel x 0) 0) v columns
+Inv-loop n channel own columns₀ v₀ columns v = (v ≤ n) × Tabled (length columns₀) (λ x. getD own (getD channel x 0) 0) v columns
 
 abbrev μ-loop : tie.MeasureT-loop
 μ-loop n channel own columns₀ v₀ columns v = n - v
 
 loop-holds : tie.Need-loop-holds Inv-loop μ-loop
-loop-holds c = let a = c .before .before .args in (zero-le, tabled-none 128 (λ x. getD (a .own .now) (getD (a .channel .now) x 0) 0))
+loop-holds c =
+    let st = c .before .before .before in
+    let a = st .args in
+    let f : ℕ → ℕ = λ x. getD (a .own .now) (getD (a .channel .now) x 0) 0 in
+    (zero-le, subst (λ (t : List ℕ). Tabled (length (a .columns .now)) f 0 t) (sym (st .pre .5)) (tabled-none (length (a .columns .now)) f))
 
 shared-slice-read-wide : tie.Need-shared-slice-read-wide Inv-loop μ-loop
 shared-slice-read-wide c = search needs
@@ -24,20 +29,24 @@ wide-requires : tie.Need-wide-requires Inv-loop μ-loop
 wide-requires c κs = search needs
 
 -- the channel of a vertex has an own column
-known : (c : tie.In-loop Inv-loop μ-loop) → getD (c .before .before .before .before .args .channel .now) (c .before .loop .v) 0 < 128
-known c = c .before .before .before .before .pre .3 (c .before .loop .v) (c .loop-test .taken)
+known : (c : tie.In-loop Inv-loop μ-loop) → getD (c .before .before .before .before .before .args .channel .now) (c .before .loop .v) 0 < 128
+known c = c .before .before .before .before .before .pre .4 (c .before .loop .v) (c .loop-test .taken)
 
 mul-columns : tie.Need-mul-columns Inv-loop μ-loop
 mul-columns c = search needs
 
 shared-slice-read-columns : tie.Need-shared-slice-read-columns Inv-loop μ-loop
-shared-slice-read-columns c = let g = c .before .before .before .before .before .before .before .pre in omega (arith, known (c .before .before .before), c .before .wide .ensures .0)
+shared-slice-read-columns c =
+    let g = c .before .before .before .before .before .before .before .before .pre in
+    omega (arith, known (c .before .before .before), c .before .wide .ensures .0)
 
 mul-columns-2 : tie.Need-mul-columns-2 Inv-loop μ-loop
 mul-columns-2 c = search needs
 
-array-write-columns : tie.Need-array-write-columns Inv-loop μ-loop
-array-write-columns c = search needs
+slice-write-columns : tie.Need-slice-write-columns Inv-loop μ-loop
+slice-write-columns c =
+    let g = c .before .before .before .before .before .before .before .before .pre .1 in
+    omega (arith, c .before .before .before .before .loop .inv .1 .long)
 
 add-v : tie.Need-add-v Inv-loop μ-loop
 add-v c = search needs
@@ -47,15 +56,21 @@ loop-less c = search needs
 
 loop-again : tie.Need-loop-again Inv-loop μ-loop
 loop-again c =
-    let a = c .before .before .before .before .before .before .before .args in
+    let st = c .before .before .before .before .before .before .before .before in
+    let a = st .args in
     let l = c .before .before .before .before .loop in
-    (omega arith, tabled-more _ (let g = c .before .before .before .before .before .before .before .pre in omega arith) (l .inv .1) (ap (λ (x : ℕ). getD (a .own .now) x 0) (c .before .wide .ensures .0)))
+    let g = st .pre .1 in
+    (omega arith, tabled-more _ (omega arith) (l .inv .1) (ap (λ (x : ℕ). getD (a .own .now) x 0) (c .before .wide .ensures .0)))
+
+same-length : tie.Need-same-length Inv-loop μ-loop
+same-length c = c .before .loop .inv .1 .long
 
 returns : tie.Need-returns Inv-loop μ-loop
 returns c =
-    let a = c .before .before .before .before .args in
+    let a = c .before .before .before .before .before .args in
     let l = c .before .loop in
-    subst (λ (j : ℕ). Tabled 128 (λ x. getD (a .own .now) (getD (a .channel .now) x 0) 0) j (l .columns)) (let e : l .v ≡ a .n = omega arith in e) (l .inv .1)
+    subst (λ (j : ℕ). Tabled (length (a .columns .now)) (λ x. getD (a .own .now) (getD (a .channel .now) x 0) 0) j (l .columns))
+    (let e : l .v ≡ a .n = omega arith in e) (l .inv .1)
 
 pub vertex-columns-spec : {M : Type 1} → statement M
 vertex-columns-spec =
@@ -69,8 +84,9 @@ vertex-columns-spec =
     mul-columns
     shared-slice-read-columns
     mul-columns-2
-    array-write-columns
+    slice-write-columns
     add-v
     loop-less
     loop-again
+    same-length
     returns)

@@ -29,10 +29,40 @@ wide-requires-2 : tie.Need-wide-requires-2
 wide-requires-2 c κs = search needs
 
 mark-of-requires : tie.Need-mark-of-requires
-mark-of-requires c κs =
-    let p = c .before .before .before .before .before .before .before .before .before .before .before .before .before .before
-    .before .pre .1 in
-    (p .longer, omega (arith, p .tail), omega (arith, p .head))
+mark-of-requires c κs = search needs
+
+shared-slice-read-kind-of : tie.Need-shared-slice-read-kind-of
+shared-slice-read-kind-of c = search needs
+
+shared-slice-read-kind-of-2 : tie.Need-shared-slice-read-kind-of-2
+shared-slice-read-kind-of-2 c = search needs
+
+shared-slice-read-kind-of-3 : tie.Need-shared-slice-read-kind-of-3
+shared-slice-read-kind-of-3 c = search needs
+
+shared-slice-read-kind-of-4 : tie.Need-shared-slice-read-kind-of-4
+shared-slice-read-kind-of-4 c = search needs
+
+mul-kind-of : tie.Need-mul-kind-of
+mul-kind-of c = search needs
+
+mul-kind-of-2 : tie.Need-mul-kind-of-2
+mul-kind-of-2 c = search needs
+
+shared-slice-read-kind-of-5 : tie.Need-shared-slice-read-kind-of-5
+shared-slice-read-kind-of-5 c = search needs
+
+mul-kind-of-3 : tie.Need-mul-kind-of-3
+mul-kind-of-3 c = search needs
+
+add-kind-of : tie.Need-add-kind-of
+add-kind-of c = search needs
+
+mul-kind-of-4 : tie.Need-mul-kind-of-4
+mul-kind-of-4 c = search needs
+
+shared-slice-read-kind-of-6 : tie.Need-shared-slice-read-kind-of-6
+shared-slice-read-kind-of-6 c = search needs
 
 kind-of-requires : tie.Need-kind-of-requires
 kind-of-requires c κs = search needs
@@ -60,15 +90,13 @@ same-length c = search needs
 
 returns : tie.Need-returns
 returns c =
-    let a = c .before .before .before .before .before .before .before .before .before .before .before .before .before .before .before
-    .before .before .before .before .before .before .before .before .args in
-    let g = given (a .ends .now) (a .longer .now) (a .channel .now) (a .position .now) (a .into .now) (a .out-of .now) (a .columns .now)
+    let a = c .before .before .before .before .before .before .before .before .before .before .before .before .before .before .before .before .before .before .before .before .before .before .before .before .before .before .before .before .args in
+    let g = given (a .ends .now) (a .longer .now) (a .channel .now) (a .position .now) (a .number .now) (a .columns .now)
     (a .rows .now) (a .below .now) (a .left .now) in
-    let tail = c .before .before .before .before .before .before .before .before .before .before .wide .ensures .0 in
-    let head = c .before .before .before .before .before .before .before .before .wide2 .ensures .0 in
-    let mark = mark-here g (a .e) _ _ tail head _ (c .before .before .before .before .before .before .before .mark-of .ensures .0) in (
-      c .before .before .put-five .ensures ∙ arrow-stored g (a .e) _ _ tail head _ _ _
-          (c .before .before .before .before .before .before .kind-of .ensures) mark,
+    let tail = c .before .before .before .before .before .before .before .before .before .before .before .before .before .before .before .before .wide .ensures .0 in
+    let head = c .before .before .before .before .before .before .before .before .before .before .before .before .before .before .wide2 .ensures .0 in
+    let mark = mark-here g (a .e) _ _ tail head _ (c .before .before .before .before .before .before .before .before .before .before .before .before .before .mark-of .ensures .0) in (
+      c .before .before .put-five .ensures ∙ arrow-stored g (a .e) _ _ tail head _ _ _ (c .before .before .before .before .before .before .kind-of .ensures) mark,
       unmarked (implied? g (a .e)) _ mark,
       omega arith,
     )
@@ -85,6 +113,17 @@ put-arrow-spec =
     shared-slice-read-wide-2
     wide-requires-2
     mark-of-requires
+    shared-slice-read-kind-of
+    shared-slice-read-kind-of-2
+    shared-slice-read-kind-of-3
+    shared-slice-read-kind-of-4
+    mul-kind-of
+    mul-kind-of-2
+    shared-slice-read-kind-of-5
+    mul-kind-of-3
+    add-kind-of
+    mul-kind-of-4
+    shared-slice-read-kind-of-6
     kind-of-requires
     mul-put-five
     cast-put-five

@@ -13,22 +13,20 @@ use Rattle.flat.proofs.entries.put_arrows.Statement.{statement}
 use Rattle.flat.proofs.entries.put_arrows.Tie as tie
 
 abbrev Inv-loop : tie.InvT-loop
-Inv-loop out₀ ends longer channel position into out-of columns rows below left m firm₀ e₀ out firm e =
-    let g = given ends longer channel position into out-of columns rows below left in
+Inv-loop out₀ ends longer channel position number columns rows below left m firm₀ e₀ out firm e =
+    let g = given ends longer channel position number columns rows below left in
     (e ≤ m) × (out ≡ entered 5 (arrowAt g) out₀ e) × (firm ≡ count e (λ i. not (implied? g i))) × (firm ≤ e)
 
 abbrev μ-loop : tie.MeasureT-loop
-μ-loop out₀ ends longer channel position into out-of columns rows below left m firm₀ e₀ out firm e = m - e
+μ-loop out₀ ends longer channel position number columns rows below left m firm₀ e₀ out firm e = m - e
 
 loop-holds : tie.Need-loop-holds Inv-loop μ-loop
 loop-holds c = (omega arith, entered-none _ _ _, firm-none _, omega arith)
 
 put-arrow-requires : tie.Need-put-arrow-requires Inv-loop μ-loop
-put-arrow-requires c κs = (
-  omega (arith, entered-long _ _ _ _ _ (c .before .before .loop .inv .1)),
-  c .before .before .before .before
-      .before .before .before .before .before .before .before .before .before .before .pre .2 _ (omega arith),
-)
+put-arrow-requires c κs =
+    let st = c .before .before .before .before .before .before .before .before .before .before .before .before .before in
+    (omega (arith, entered-long _ _ _ _ _ (c .before .before .loop .inv .1)), st .pre .2 _ (omega arith))
 
 add-firm : tie.Need-add-firm Inv-loop μ-loop
 add-firm c = search needs

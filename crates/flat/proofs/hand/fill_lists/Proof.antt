@@ -1,6 +1,5 @@
 -- `flat::hand::fill_lists` meets its contract, from what the three fills ensure. Assumes nothing.
 use mathlib.Core.Path.{sym}
-use native.Mathlib.Omega.{arith}
 use lib.Seq.{length-take-le}
 use borrow.Author.Needs.{needs}
 use Rattle.flat.proofs.hand.fill_lists.Statement.{statement}
@@ -11,23 +10,20 @@ put-words-requires c κs = search needs
 
 slice-aggregate-put-arrows : tie.Need-slice-aggregate-put-arrows
 slice-aggregate-put-arrows c =
-    let p = c .before .before .before .before .before .before .before .before .before .before .before .before .before .before .before
-    .before .before .before .before .before .before .before .before .before .pre in
-    sym (length-take-le _ _ (omega (arith, p .vertices, p .tabled .0)))
+    let p = c .before .before .before .before .before .before .before .before .before .before .before .before .before .before .before .before .before .before .before .before .before .before .before .pre in
+    sym (length-take-le _ _ (p .tabled .0))
 
 slice-aggregate-put-arrows-2 : tie.Need-slice-aggregate-put-arrows-2
 slice-aggregate-put-arrows-2 c =
-    let p = c .before .before .before .before .before .before .before .before .before .before .before .before .before .before .before
-    .before .before .before .before .before .before .before .before .before .before .pre in
-    sym (length-take-le _ _ (omega (arith, p .vertices, p .tabled .1)))
+    let p = c .before .before .before .before .before .before .before .before .before .before .before .before .before .before .before .before .before .before .before .before .before .before .before .before .pre in
+    sym (length-take-le _ _ (p .tabled .1))
 
 put-arrows-requires : tie.Need-put-arrows-requires
 put-arrows-requires c κs = search needs
 
 put-bundles-requires : tie.Need-put-bundles-requires
 put-bundles-requires c κs =
-    let p = c .before .before .before .before .before .before .before .before .before .before .before .before .before .before .before
-    .before .before .before .before .before .before .before .before .before .before .before .before .before .before .pre in
+    let p = c .before .before .before .before .before .before .before .before .before .before .before .before .before .before .before .before .before .before .before .before .before .before .before .before .before .before .before .before .pre in
     (p .bundle-room, p .bundles, p .bundled .0, p .bundled .1, p .bundled .2, p .bundled .3)
 
 same-length : tie.Need-same-length
