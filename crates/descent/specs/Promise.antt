@@ -49,7 +49,8 @@ pub record Descended (n : ℕ) (tails heads : List ℕ) (r : Descent) (e b t l :
   pub sizes : (length (r .rows) ≡ 128) × (length (r .counts) ≡ 128)
 
 -- from the bytes of the edges to the tables; e′, b′, t′ and l′ are the work lists after it. Where a list has too little room the answer is 8,
--- and nothing changed. After a refusal of 2 to 5 what the work lists hold is left free: nobody reads it
+-- and nothing changed. After a refusal of 2 to 5 what the work lists hold is left free, and so is always what they hold past 256 masks:
+-- nobody reads it
 pub record Descends (n : ℕ) (ends e b t l : List ℕ) (r : Descent) (e′ b′ t′ l′ : List ℕ) : Type 0 where
   pub answer : Sized n e b t l → r .refusal ≡ edgesRefusal n (tailsOf ends) (headsOf ends)
   pub short : (Sized n e b t l → ⊥) → (r .refusal ≡ 8) × (e′ ≡ e) × (b′ ≡ b) × (t′ ≡ t) × (l′ ≡ l)

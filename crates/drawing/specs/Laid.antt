@@ -65,7 +65,8 @@ pub record Roomy (n : ℕ) (t : Lists) : Type 0 where
 
 -- p and t have the rows, channels, bundles, tracks and columns of the graph's chart, 0 past the last of each; `below` has, for each k up
 -- to the rows used, the set of the vertices whose row is below k, and `longer` the pairs of vertices with a vertex between. Left free,
--- since nobody reads it, is what `below` has past the rows used, `longer` past the vertices, and what `edges` and `table` have
+-- since nobody reads it, is what `below` has past the rows used, `longer` past the vertices, `used` past 128 channels, and what `edges` and
+-- `table` have
 pub record Laid (c : Content) (p : Plan) (t : Lists) : Type 0 where
   pub sound : Sound c
   pub row-count : p .rows ≡ rowCount c

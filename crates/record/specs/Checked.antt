@@ -32,7 +32,7 @@ pub record Passes (n : ℕ) (ends : List ℕ) (given : Bool) (field : List ℕ) 
   pub accepted : r .channels .refusal ≡ 0
 
 -- r is the first check that fails and no count, or 0 and what passes; e, b, t and l are the lists that are lent, and e′ to l′ what they hold
--- afterwards. On a refusal but 8 it is left free what they hold
+-- afterwards. On a refusal but 8 it is left free what they hold, and always what they hold past 256 masks
 pub record Checks (n : ℕ) (ends : List ℕ) (given : Bool) (field e b t l : List ℕ) (r : Checked) (e′ b′ t′ l′ : List ℕ) : Type 0 where
   pub answer : Sized n e b t l → r .refusal ≡ refusalOf (content n (tailsOf ends) (headsOf ends) given field)
   pub short : (Sized n e b t l → ⊥) → (r .refusal ≡ 8) × (e′ ≡ e) × (b′ ≡ b) × (t′ ≡ t) × (l′ ≡ l)
