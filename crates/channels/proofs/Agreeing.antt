@@ -1,19 +1,15 @@
 -- Channels by a table and by a relation that agrees with it on the vertices below n: they are the same. Assumes nothing.
-use mathlib.Core.Path.{_≡_, refl, ap, ap₂, subst}
+use mathlib.Core.Path.{_≡_, refl, ap, ap₂}
 use mathlib.Core.Bool.{Bool, true, false, not, _&&_, _||_}
 use mathlib.Core.List.{List, [], _∷_, _++_, flatten}
-use Prim.Native.Nat.{ℕ, _≤_, _<_}
+use Prim.Native.Nat.{ℕ, _<_}
 use lib.Dec.{leb}
 use borrow.Author.Tests.{leb-false}
 use Rattle.counting.specs.Count.{choose}
 use Rattle.counting.proofs.Truth.{or-neither}
 use Rattle.matching.specs.Lists.{linked, every, allLinked}
-use Rattle.matching.specs.Chains.{planned}
-use Rattle.matching.proofs.Same.{planned-same}
-use Rattle.search.specs.Table.{leadsIn}
 use Rattle.channels.specs.Given.{linesOf, verticesOf, unknown?, repeats?, lacks?, broken?}
-use Rattle.channels.specs.Promise.{Answers, Plans, Gives, outsized?, planRefusal, givenRefusal}
-use Rattle.planning.specs.declared.Channels.{Channels}
+use Rattle.channels.specs.Promise.{outsized?, givenRefusal}
 
 unknown-append : (n : ℕ) (l s : List ℕ) → unknown? n (l ++ s) ≡ false → (unknown? n l ≡ false) × (unknown? n s ≡ false)
 unfolding unknown?
@@ -54,11 +50,3 @@ module _ (n : ℕ) (leads other : ℕ → ℕ → Bool) (same : (u v : ℕ) → 
           → rest b c (allLinked leads (linesOf field)) ≡ rest b c (allLinked other (linesOf field))
       go true c f = refl
       go false c f = ap (rest false c) (f refl)
-
-module _ (n : ℕ) (table : List ℕ) (other : ℕ → ℕ → Bool)
-    (same : (u v : ℕ) → u < n → v < n → leadsIn table u v ≡ other u v) (r : Channels) where
-  pub plans-same : n ≤ 128 → Plans n table r → Answers (planRefusal n) (planned other n) r
-  plans-same small = subst (λ (ls : List (List ℕ)). Answers (planRefusal n) ls r) (planned-same n (leadsIn table) other small same)
-
-  pub gives-same : (field : List ℕ) → Gives n table field r → Answers (givenRefusal other n field) (linesOf field) r
-  gives-same field = subst (λ (k : ℕ). Answers k (linesOf field) r) (given-same n (leadsIn table) other same field)

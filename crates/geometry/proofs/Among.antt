@@ -85,9 +85,6 @@ module _ (candidate : ℕ → Bool) (at : ℕ → Point) (n u v : ℕ) where
           (λ t. and-elim (candidate w) (isHit (at u) (at v) (at w)) t .1)
           (λ t. and-intro (candidate w) (isHit (at u) (at v) (at w)) (f w l (isHit-decides (at u) (at v) (at w) .holds t)) t)
 
-pub among-all : (at : ℕ → Point) (n u v : ℕ) → courseOf at n u v ≡ courseAmong (λ _. true) at n u v
-among-all at n u v = sym (among-enough (λ _. true) at n u v (λ w l h. refl))
-
 -- the course goes by the candidates below n alone
 pub among-same : (f g : ℕ → Bool) (at : ℕ → Point) (n u v : ℕ) → ((w : ℕ) → w < n → f w ≡ g w)
     → courseAmong f at n u v ≡ courseAmong g at n u v

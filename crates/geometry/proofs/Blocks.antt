@@ -8,7 +8,7 @@ use Rattle.counting.specs.Count.{sum}
 use Rattle.counting.proofs.Truth.{lt-or-le}
 use Rattle.counting.proofs.Sums.{sum-more, sum-split}
 use Rattle.geometry.specs.Segment.{Point}
-use Rattle.geometry.specs.Placement.{Widths, gapWidth, evenGaps, Placement, blockWidth, blockStart, ownColumn}
+use Rattle.geometry.specs.Placement.{Widths, Placement, blockWidth, blockStart, ownColumn}
 
 -- what holds of the lower of two numbers, of equal ones and of the higher
 pub lower-or-higher : {X : Type 0} (c d : ℕ) → (c < d → X) → (c ≡ d → X) → (d < c → X) → X

@@ -8,12 +8,11 @@ use Rattle.geometry.specs.declared.Course.{Course}
 use Rattle.geometry.specs.declared.Course.the-variants.{Straight, Bent}
 use Rattle.geometry.specs.Segment.{Point, Blocked}
 use Rattle.geometry.specs.Placement.{Widths, Placement}
-use Rattle.geometry.specs.Polylines.{Clear, bendRow, bent, Drawn, cross, bend-right, bend-left}
+use Rattle.geometry.specs.Polylines.{bendRow, bent, Drawn, cross, bend-right, bend-left}
 use Rattle.geometry.specs.Courses.{bendOffset, bendBeside, courseOf, polylineOf}
 use Rattle.geometry.proofs.Segments.{hit-rise}
 use Rattle.geometry.proofs.Tests.{isBlocked-true, isBlocked-false, blocked-or-free}
 use Rattle.geometry.proofs.Blocks.{lower-or-higher}
-use Rattle.geometry.proofs.Clear.{drawn-clear}
 
 -- ---- the bend, by the order of the columns
 
@@ -82,7 +81,3 @@ module _ (n : ℕ) (at : ℕ → Point) (channel position own : ℕ → ℕ) (W 
         blocked-or-free at n u v
         (λ b. rw (course-blocked at n u v b) (bend-drawn b))
         (λ f. rw (course-free at n u v f) (cross apart f))
-
-    -- And it meets no vertex but its ends.
-    pub course-clear : at u .row < at v .row → Clear n at u v (polylineOf (courseOf at n u v) (at u) (at v))
-    course-clear rise = drawn-clear n at channel position own W P u v _ hu hv rise course-drawn

@@ -96,14 +96,6 @@ bit-high n x k h l = ap (λ (y : ℕ). y % 2) (div-eq-of-lt (lt-of-lt-of-le h (p
 half-below : (n x : ℕ) → x < 2 ^ suc n → x / 2 < 2 ^ n
 half-below n x h = shr-lt n 1 (subst (λ (k : ℕ). x < 2 ^ k) (sym (add-one n)) h)
 
--- two numbers with the same bits
-pub bit-ext : (n x y : ℕ) → x < 2 ^ n → y < 2 ^ n → ((k : ℕ) → k < n → bit x k ≡ bit y k) → x ≡ y
-bit-ext zero x y hx hy h = lt-one hx ∙ sym (lt-one hy)
-bit-ext (suc n) x y hx hy h =
-    let lows : x % 2 ≡ y % 2 = sym (bit-zero x) ∙ h 0 (zero-lt-suc n) ∙ bit-zero y in
-    let highs : x / 2 ≡ y / 2 = bit-ext n (x / 2) (y / 2) (half-below n x hx) (half-below n y hy) (λ k l. sym (bit-suc x k) ∙ h (suc k) (suc-le-suc l) ∙ bit-suc y k) in
-    omega arith
-
 -- ---- `!`
 
 bit-cons-zero : (h b : ℕ) → b < 2 → bit (h * 2 + b) 0 ≡ b

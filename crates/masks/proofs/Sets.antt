@@ -2,7 +2,7 @@
 use mathlib.Core.Path.{_≡_, refl, sym, ap, ap₂, _∙_}
 use mathlib.Core.Bool.{not, _&&_}
 use mathlib.Core.List.{List}
-use Prim.Native.Nat.{ℕ, zero, suc, _+_, _*_, _/_, _%_, _^_, _<_, max, min}
+use Prim.Native.Nat.{ℕ, zero, suc, _+_, _*_, _/_, _%_, _^_, _<_, max}
 use native.Mathlib.Nat.{not-suc-le-zero}
 use native.Mathlib.Omega.{arith}
 use borrow.Author.Count.{below-more}
@@ -15,7 +15,7 @@ use Rattle.counting.specs.Count.{sum}
 use Rattle.counting.proofs.Sums.{sum-ext, sum-split}
 use Rattle.masks.specs.Bits.{bit}
 use Rattle.masks.specs.Sets.{maskOf, member, member?, inserted, United}
-use Rattle.masks.proofs.Bits.{bit-lt, bit-or, bit-and, without, bit-without, ones-sum}
+use Rattle.masks.proofs.Bits.{bit-lt, bit-or, without, bit-without, ones-sum}
 
 pub member-lt : (s : List ℕ) (first v : ℕ) → member s first v < 2
 unfolding member
@@ -68,14 +68,6 @@ united-member w s first o r a v h =
     ap (λ (x : ℕ). bit x (v % 64)) (a .done (v / 64) (omega arith))
     ∙ bit-or (getD s (first + v / 64) 0) (getD o (v / 64) 0) (v % 64)
     ∙ ap (λ (i : ℕ). max (bit (getD s (first + v / 64) 0) (v % 64)) (bit (getD o i 0) (v % 64))) (let e : v / 64 ≡ 0 + v / 64 = omega arith in e)
-
--- of w masks: a member of both sets
-pub intersected-member : (w : ℕ) (a b r : List ℕ) → ((i : ℕ) → i < w → getD r i 0 ≡ bitAnd (getD a i 0) (getD b i 0)) → (v : ℕ) → v < w * 64
-    → member r 0 v ≡ min (member a 0 v) (member b 0 v)
-unfolding member
-intersected-member w a b r same v h =
-    let i : ℕ = 0 + v / 64 in
-    ap (λ (x : ℕ). bit x (v % 64)) (same i (omega arith)) ∙ bit-and (getD a i 0) (getD b i 0) (v % 64)
 
 -- of w masks: a member of one set that another lacks
 pub without-member : (w : ℕ) (t : List ℕ) (from : ℕ) (s : List ℕ) (first : ℕ) (r : List ℕ) → ((i : ℕ) → i < w → getD s (first + i) 0 < 2 ^ 64)

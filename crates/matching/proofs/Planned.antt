@@ -16,16 +16,15 @@ use Rattle.counting.proofs.Truth.{indicator-le, and-intro}
 use Rattle.counting.proofs.Sums.{sum-mono}
 use Rattle.counting.proofs.Classes.{sum-add, sum-two, count-le, one-below, indicator-mono}
 use Rattle.matching.specs.Search.{most, nobody, matching}
-use Rattle.matching.specs.Lists.{times, linked, full, every, channelOf, positionOf, allLinked}
+use Rattle.matching.specs.Lists.{times, linked, full, every}
 use Rattle.matching.specs.Chains.{successorFrom, successor, chain, begun, planned}
-use Rattle.matching.specs.Division.{Order, Division, Covers, Channelled}
+use Rattle.matching.specs.Division.{Order, Division, Covers}
 use Rattle.matching.proofs.Kept.{heldBy}
 use Rattle.matching.proofs.Asked.{Asked, asked-matching}
 use Rattle.matching.proofs.Sound.{Sound}
 use Rattle.matching.proofs.Least.{least-begins}
 use Rattle.matching.proofs.Lists.{times-here, times-other, times-tail, times-none, times-snoc, every-snoc}
 use Rattle.matching.proofs.Chains.{chain-end, chain-more, begun-yes, begun-no, successor-here, successor-on, successor-fact, begun-once, begun-within, begun-count}
-use Rattle.matching.proofs.Ordered.{channelled}
 
 module _ (leads : ℕ → ℕ → Bool) (n : ℕ) (small : n ≤ most) (P : List ℕ) where
   -- what holds of each channel holds of those begun
@@ -178,12 +177,6 @@ module _ (leads : ℕ → ℕ → Bool) (n : ℕ) (small : n ≤ most) (P : List
     }
 
 module _ (leads : ℕ → ℕ → Bool) (n : ℕ) (small : n ≤ most) where
-  -- for any relation: each vertex leads to the next of its channel
-  pub planned-linked : allLinked leads (planned leads n) ≡ true
-  unfolding planned
-  planned-linked =
-      begun-every leads n small (matching leads n) (linked leads) (chain-linked leads n small (matching leads n) (asked-matching leads n small .sound) (suc n)) n (omega arith)
-
   -- for any relation: no division has fewer parts
   pub planned-least : (m : ℕ) (part : ℕ → ℕ) → Division leads n m part → length (planned leads n) ≤ m
   unfolding planned
@@ -193,7 +186,3 @@ module _ (leads : ℕ → ℕ → Bool) (n : ℕ) (small : n ≤ most) where
   pub planned-covers : Order leads n → Covers leads n (planned leads n)
   unfolding planned
   planned-covers o = begun-covers leads n small (matching leads n) (asked-matching leads n small) o
-
-  -- for a strict order: a division into channels
-  pub planned-channelled : Order leads n → Channelled leads n (length (planned leads n)) (channelOf (planned leads n)) (positionOf (planned leads n))
-  planned-channelled o = channelled leads n o (planned leads n) (planned-covers o)

@@ -10,7 +10,6 @@ use lib.ListN.{length}
 use borrow.Author.Tests.{eq-eqb, eqb-true, lt-ltb}
 use Rattle.counting.specs.Count.{count}
 use Rattle.counting.proofs.Truth.{and-intro}
-use Rattle.counting.proofs.Classes.{count-le}
 use Rattle.reach.specs.Graph.{edge?}
 use Rattle.matching.specs.Lists.{channelOf, positionOf}
 use Rattle.record.specs.Checks.{Content}
@@ -135,12 +134,6 @@ module _ (c : Content) (s : Sound c) where
   unfolding tracksIn
   tracks-past l h =
       omega (arith, top-least (length bs) (λ b. eqb (bundleIn p b .channel) l) (trackIn p) 0 (λ b k e. absurd (omega (arith, bundle-channel b k, eqb-true (bundleIn p b .channel) l e))))
-
-  pub tracks-256 : (l : ℕ) → tracksIn p l ≤ 256
-  tracks-256 l = omega (arith, tracks-few l, count-le n (λ v. eqb (channelOf ls v) l), vertices-small c s)
-
-  pub track-256 : (b : ℕ) → b < length bs → trackIn p b < 256
-  track-256 b l = omega (arith, track-below b l, tracks-256 (bundleIn p b .channel))
 
   -- the track of an edge's bundle is one of its channel
   pub side-track : (u v : ℕ) → sideEdge? c u v ≡ true → trackIn p (bundleOf bs u v) < tracksIn p (channelOf ls u)

@@ -115,6 +115,3 @@ module _ (c : Content) (s : Sound c) where
 
   pub channels-few : length ls ≤ n
   channels-few = omega (arith, channels-bound (length ls) (sizeOf c) size-positive, sizes-sum)
-
-  pub channels-some : 0 < length ls
-  channels-some = omega (arith, channel-below 0 (s .size .0))

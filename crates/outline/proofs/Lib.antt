@@ -1,6 +1,5 @@
 pub mod Leading
 pub mod Channels
-pub mod Positions
 pub mod Rows
 pub mod Bundling
 pub mod Columns

@@ -4,12 +4,11 @@ use mathlib.Core.Path.{_≡_}
 use mathlib.Core.Logic.{_↔_}
 use mathlib.Core.Bool.{Bool, true, false}
 use Prim.Native.Nat.{ℕ, _≤_, _<_}
-use Rattle.counting.proofs.Classes.{count-le}
 use Rattle.reach.specs.Graph.{Reaches, Longer, Edge}
 use Rattle.reach.proofs.Decide.{edge-decided}
 use Rattle.record.specs.Checks.{Content, edgesOf}
 use Rattle.record.specs.Sound.{Leads, Sound}
-use Rattle.reduction.specs.Reduction.{reducedCount, Reduced, linkCount, SameClosure, reducedLink, Fewest, Dag}
+use Rattle.reduction.specs.Reduction.{Reduced, linkCount, SameClosure, reducedLink, Fewest, Dag}
 use Rattle.reduction.proofs.Transitive.{transitive-longer, reduced-reaches}
 use Rattle.reduction.proofs.Links.{links-least, reduced-link-count, reduced-fewest}
 use Rattle.reduction.proofs.Graphs.{reachable-dag}
@@ -49,7 +48,3 @@ module _ (c : Content) (s : Sound c) where
   pub chart-links-count : linkCount n (reducedLink (leads? c) n (c .tails) (c .heads)) ≡ reducedEdges c
   unfolding reducedEdges
   chart-links-count = reduced-link-count (leads? c) n (c .tails) (c .heads) chart-dag
-
-  pub reduced-few : reducedEdges c ≤ edgesOf c
-  unfolding reducedEdges reducedCount
-  reduced-few = count-le (edgesOf c) _

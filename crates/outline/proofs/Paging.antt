@@ -1,5 +1,5 @@
 -- Every polyline of a sound graph's chart stands on document 01's page. Assumes nothing.
-use mathlib.Core.Path.{_≡_, refl, subst}
+use mathlib.Core.Path.{_≡_, refl}
 use mathlib.Core.Logic.{_≢_, ⊎-elim}
 use mathlib.Core.List.{List}
 use Prim.Native.Nat.{ℕ, _<_}
@@ -17,7 +17,6 @@ use Rattle.geometry.specs.Courses.{courseOf}
 use Rattle.geometry.specs.declared.Course.{Course}
 use Rattle.geometry.specs.declared.Course.the-variants as course
 use Rattle.geometry.proofs.Crossing.{course-within}
-use Rattle.outline.specs.declared.Bend.{Bend}
 use Rattle.outline.specs.declared.Kind.{Kind}
 use Rattle.outline.specs.declared.Kind.the-variants.{Path, PathTransitive, Bent}
 use Rattle.page.specs.Page as page
@@ -82,10 +81,3 @@ module _ (c : Content) (s : Sound c) where
       → OnPage (polylineOf (vertexEntry c p (tailOf c i)) (vertexEntry c p (headOf c i)) (edgeEntry c p i .kind) (bundleEntry p))
   unfolding edgeEntry
   chart-on-page i l = let b = s .ends i l in between-paged (tailOf c i) (headOf c i) (b .0) (b .1)
-
-  pub bend-on-page : (i : ℕ) → i < edgesOf c → (b : Bend) → edgeEntry c p i .kind ≡ Bent b → (b .column < page.columns) × (b .row < page.rows)
-  unfolding polylineOf vertexEntry
-  bend-on-page i l b e = middle (subst (λ k. Paged (tailOf c i) (headOf c i) k) e (chart-on-page i l))
-    where
-      middle : Paged (tailOf c i) (headOf c i) (Bent b) → (b .column < page.columns) × (b .row < page.rows)
-      middle (more x y (more z w _)) = (z, w)

@@ -10,7 +10,7 @@ use Rattle.record.specs.Checks.{Content, edgesOf}
 use Rattle.record.specs.Sound.{Leads, Sound}
 use Rattle.layers.specs.Rows.{above}
 use Rattle.layers.proofs.Above.{above-each, above-le}
-use Rattle.layers.proofs.Compaction.{Order, rows-least, used-least, rows-below, rows-rule}
+use Rattle.layers.proofs.Compaction.{Order, used-least, rows-below, rows-rule}
 use Rattle.outline.specs.Chart.{leads?, tailOf, headOf, rowOf, rowCount}
 use Rattle.outline.proofs.Leading.{edge-ends, leads-decided, leads-order, edge-there, edge-leads}
 
@@ -74,9 +74,6 @@ module _ (c : Content) (s : Sound c) where
   pub row-counted : (v : ℕ) → v < n → rowOf c v < rowCount c
   row-counted v h = omega (arith, row-count, above-each n (λ v. true) (rowOf c) v h refl)
 
-  pub rows-some : 0 < rowCount c
-  rows-some = omega (arith, row-counted 0 (s .size .0))
-
   -- ---- the lowest, and the fewest
 
   module _ (other : ℕ → ℕ) (rise : (i : ℕ) → i < edgesOf c → other (tailOf c i) < other (headOf c i)) where
@@ -85,10 +82,6 @@ module _ (c : Content) (s : Sound c) where
     along u v hu hv e =
         let i = edge-decided (c .tails) (c .heads) u v .1 e in
         omega (arith, rise (i .0) (i .1), ap other (i .2), ap other (i .3))
-
-    pub rows-lowest : (v : ℕ) → v < n → rowOf c v ≤ other v
-    unfolding rowOf
-    rows-lowest = rows-least E n other along
 
     pub rows-fewest : rowCount c ≤ above n (λ v. true) other
     unfolding rowCount

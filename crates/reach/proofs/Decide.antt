@@ -1,21 +1,20 @@
 -- The computed forms decide their relations: `edge?` decides `Edge`, `reaches?` decides `Reaches`, `reachable?` decides `Reachable`. Assumes nothing.
-use mathlib.Core.Path.{_≡_, refl, subst}
+use mathlib.Core.Path.{_≡_, subst}
 use mathlib.Core.Logic.{inl, inr, ⊎-elim, _↔_}
-use mathlib.Core.Bool.{Bool, true, false, false≢true, _||_, _&&_}
+use mathlib.Core.Bool.{Bool, true, false, false≢true, _&&_}
 use mathlib.Core.List.{List, [], _∷_}
-use Prim.Native.Nat.{ℕ, zero, suc, _<_, min, suc-le-suc}
-use native.Mathlib.Nat.{not-suc-le-zero, le-of-suc-le-suc, zero-lt-suc}
+use Prim.Native.Nat.{ℕ, zero, suc, _<_}
+use native.Mathlib.Nat.{not-suc-le-zero}
 use native.Mathlib.Numerals.{add-one}
 use native.Mathlib.Omega.{arith}
 use borrow.Author.Tests.{eq-eqb, eqb-true}
 use lib.Dec.{eqb}
-use lib.ListN.{length, getD}
+use lib.ListN.{getD}
 use Rattle.counting.proofs.Truth.{and-intro, and-elim, or-left, or-right, or-elim}
 use Rattle.reach.specs.Graph.{Reaches, edgeCount, Edge, edge?, reaches?}
 use Rattle.reach.specs.Graph.Reaches.{one}
 use Rattle.reach.specs.Refusal.{refusal}
 use Rattle.reach.specs.Closure.{Reachable, reachable?}
-use Rattle.reach.specs.Steps.{Within}
 use Rattle.reach.proofs.Warshall.{Stage, stage-step, complete}
 use Rattle.reach.proofs.Marking.{tail-below}
 use Rattle.reach.proofs.Refusing.{accepted-within}

@@ -2,17 +2,12 @@
 use mathlib.Core.Path.{_≡_}
 use mathlib.Core.List.{List}
 use Prim.Native.Nat.{ℕ, _<_}
-use native.Mathlib.Nat.{lt-of-lt-of-le}
-use borrow.Author.Tests.{eq-eqb, eqb-true}
-use lib.Dec.{eqb}
 use lib.ListN.{getD}
-use Rattle.masks.specs.Sets.{at}
 use Rattle.reach.specs.Graph.{Reaches, edgeCount, Edge}
 use Rattle.reach.specs.Refusal.{refusal}
 use Rattle.reach.specs.Closure.{reachable?}
 use Rattle.reach.proofs.Refusing.{accepted-within}
 use Rattle.reach.proofs.Decide.{reachable-decided}
-use Rattle.reach.proofs.Closures.{Bits}
 use Rattle.reduction.specs.Reduction.{Dag}
 
 module _ (n : ℕ) (tails heads : List ℕ) (accepted : refusal n tails heads ≡ 0)
@@ -25,15 +20,4 @@ module _ (n : ℕ) (tails heads : List ℕ) (accepted : refusal n tails heads �
     distinct = distinct;
     acyclic = λ u p. absurd (acyclic u p);
     decided = λ u v hu hv. let r = reachable-decided n tails heads u v in ((λ e. r .1 e .1), λ p. r .0 (accepted, p));
-  }
-
-  -- by the bits of the graph's table (document 01: the descent table)
-  pub table-dag : (t : List ℕ) → Bits n tails heads t → Dag (λ u v. eqb (at 2 t u v) 1) n tails heads
-  table-dag t bits = record {
-    ends = reachable-dag .ends;
-    distinct = reachable-dag .distinct;
-    acyclic = reachable-dag .acyclic;
-    decided = λ u v hu hv.
-        let small = accepted-within n tails heads accepted .1 in
-        let r = bits u v (lt-of-lt-of-le hu small) (lt-of-lt-of-le hv small) in ((λ e. r .0 (eqb-true _ _ e) .1), λ p. eq-eqb _ _ (r .1 (accepted, p)));
   }

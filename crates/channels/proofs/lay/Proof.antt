@@ -18,27 +18,6 @@ opened-requires c κs =
     let few = st .pre .2 in
     (omega arith, λ d. st .pre .4 (let q = st .pre .3 in omega arith))
 
-sub-channel : tie.Need-sub-channel
-sub-channel c = search needs
-
-cast-channel : tie.Need-cast-channel
-cast-channel c = search needs
-
-slice-write-channel : tie.Need-slice-write-channel
-slice-write-channel c = search needs
-
-cast-position : tie.Need-cast-position
-cast-position c = search needs
-
-slice-write-position : tie.Need-slice-write-position
-slice-write-position c = search needs
-
-same-length : tie.Need-same-length
-same-length c = search needs
-
-same-length-2 : tie.Need-same-length-2
-same-length-2 c = search needs
-
 returns-2 : tie.Need-returns-2
 returns-2 c =
     let st = c .before .before .before .before in
@@ -52,11 +31,11 @@ lay-spec =
     (tie.spec
     returns
     opened-requires
-    sub-channel
-    cast-channel
-    slice-write-channel
-    cast-position
-    slice-write-position
-    same-length
-    same-length-2
+    (λ c. search needs)
+    (λ c. search needs)
+    (λ c. search needs)
+    (λ c. search needs)
+    (λ c. search needs)
+    (λ c. search needs)
+    (λ c. search needs)
     returns-2)

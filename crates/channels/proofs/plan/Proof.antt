@@ -5,22 +5,13 @@ use borrow.Author.Needs.{needs}
 use Rattle.channels.proofs.plan.Statement.{statement}
 use Rattle.channels.proofs.plan.Tie as tie
 
-empty-requires : tie.Need-empty-requires
-empty-requires c κs = search needs
-
 returns : tie.Need-returns
 returns c =
     answers-refused _ 2 _ _ (plan-outsized _ (none-outsized _ (c .before .if1 .taken))) (λ e. omega arith) (c .empty .ensures)
 
-empty-requires-2 : tie.Need-empty-requires-2
-empty-requires-2 c κs = search needs
-
 returns-2 : tie.Need-returns-2
 returns-2 c =
     answers-refused _ 2 _ _ (plan-outsized _ (many-outsized _ (c .before .if2 .taken))) (λ e. omega arith) (c .empty2 .ensures)
-
-chained-requires : tie.Need-chained-requires
-chained-requires c κs = search needs
 
 returns-3 : tie.Need-returns-3
 returns-3 c =
@@ -31,9 +22,9 @@ pub plan-spec : {M : Type 1} → statement M
 plan-spec =
     tie.close
     (tie.spec
-    empty-requires
+    (λ c κs. search needs)
     returns
-    empty-requires-2
+    (λ c κs. search needs)
     returns-2
-    chained-requires
+    (λ c κs. search needs)
     returns-3)

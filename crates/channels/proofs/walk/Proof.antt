@@ -25,24 +25,6 @@ loop-holds : tie.Need-loop-holds Inv-loop μ-loop
 loop-holds c =
     (omega arith, walking-none _ _ _, tabling-none _ _ _ _ (c .before .before .before .before .pre .2))
 
-shared-slice-read-wide : tie.Need-shared-slice-read-wide Inv-loop μ-loop
-shared-slice-read-wide c = search needs
-
-wide-requires : tie.Need-wide-requires Inv-loop μ-loop
-wide-requires c κs = search needs
-
-add-next : tie.Need-add-next Inv-loop μ-loop
-add-next c = search needs
-
-sub-fewer : tie.Need-sub-fewer Inv-loop μ-loop
-sub-fewer c = search needs
-
-same-length : tie.Need-same-length Inv-loop μ-loop
-same-length c = search needs
-
-same-length-2 : tie.Need-same-length-2 Inv-loop μ-loop
-same-length-2 c = search needs
-
 returns : tie.Need-returns Inv-loop μ-loop
 returns c =
     let o = c .before .before .before .before .before in
@@ -53,12 +35,6 @@ returns c =
     (walked-unknown _ _ _ (l .i) here (l .left) (l .last) (l .seen) (l .vertices) (l .fault) (l .inv .1)
     _ (c .before .before .wide .ensures .0) (c .before .if1 .left) (st .pre .0) (st .pre .1) (c .if2 .taken))
 
-slice-aggregate-weigh : tie.Need-slice-aggregate-weigh Inv-loop μ-loop
-slice-aggregate-weigh c = search needs
-
-weigh-requires : tie.Need-weigh-requires Inv-loop μ-loop
-weigh-requires c κs = search needs
-
 lay-requires : tie.Need-lay-requires Inv-loop μ-loop
 lay-requires c κs =
     let o = c .before .before .before .before .before .before .before .before .before .before in
@@ -66,15 +42,6 @@ lay-requires c κs =
     let v = c .before .before .before .before .before .if2 .left in
     let small = o .before .before .before .before .before .pre .1 in
     (t .sizes .0, t .sizes .1, t .lines, t .place, t .some, omega arith)
-
-add-vertices : tie.Need-add-vertices Inv-loop μ-loop
-add-vertices c = search needs
-
-add-p : tie.Need-add-p Inv-loop μ-loop
-add-p c = search needs
-
-loop-less : tie.Need-loop-less Inv-loop μ-loop
-loop-less c = search needs
 
 loop-again : tie.Need-loop-again Inv-loop μ-loop
 loop-again c =
@@ -85,9 +52,6 @@ loop-again c =
       walking-length _ _ _ (l .i) here (l .left) (l .last) (l .seen) (l .vertices) (l .fault) (l .inv .1) _ byte (c .if1 .taken),
       tabling-length _ _ (l .i) here (l .left) (l .p) (l .vertices) _ (l .inv .2) _ byte (c .if1 .taken),
     )
-
-loop-less-2 : tie.Need-loop-less-2 Inv-loop μ-loop
-loop-less-2 c = search needs
 
 loop-again-2 : tie.Need-loop-again-2 Inv-loop μ-loop
 loop-again-2 c =
@@ -106,15 +70,6 @@ loop-again-2 c =
           (l .inv .1 .counted) (d .if1 .left) _ (t .kept .0 ∙ sizes .0, t .kept .1 .0 ∙ sizes .1) (t .ensures),
     )
 
-settle-requires : tie.Need-settle-requires Inv-loop μ-loop
-settle-requires c κs = search needs
-
-same-length-3 : tie.Need-same-length-3 Inv-loop μ-loop
-same-length-3 c = search needs
-
-same-length-4 : tie.Need-same-length-4 Inv-loop μ-loop
-same-length-4 c = search needs
-
 returns-2 : tie.Need-returns-2 Inv-loop μ-loop
 returns-2 c =
     let o = c .before .before in
@@ -132,23 +87,23 @@ walk-spec =
     Inv-loop
     μ-loop
     loop-holds
-    shared-slice-read-wide
-    wide-requires
-    add-next
-    sub-fewer
-    same-length
-    same-length-2
+    (λ c. search needs)
+    (λ c κs. search needs)
+    (λ c. search needs)
+    (λ c. search needs)
+    (λ c. search needs)
+    (λ c. search needs)
     returns
-    slice-aggregate-weigh
-    weigh-requires
+    (λ c. search needs)
+    (λ c κs. search needs)
     lay-requires
-    add-vertices
-    add-p
-    loop-less
+    (λ c. search needs)
+    (λ c. search needs)
+    (λ c. search needs)
     loop-again
-    loop-less-2
+    (λ c. search needs)
     loop-again-2
-    settle-requires
-    same-length-3
-    same-length-4
+    (λ c κs. search needs)
+    (λ c. search needs)
+    (λ c. search needs)
     returns-2)

@@ -12,37 +12,16 @@ Inv-loop rows first table₀ u₀ table u = (u ≤ rows) × (256 ≡ length tabl
 abbrev μ-loop : tie.MeasureT-loop
 μ-loop rows first table₀ u₀ table u = rows - u
 
-loop-holds : tie.Need-loop-holds Inv-loop μ-loop
-loop-holds c = search needs
-
-slice-aggregate-lead : tie.Need-slice-aggregate-lead Inv-loop μ-loop
-slice-aggregate-lead c = search needs
-
-lead-requires : tie.Need-lead-requires Inv-loop μ-loop
-lead-requires c κs = search needs
-
-add-u : tie.Need-add-u Inv-loop μ-loop
-add-u c = search needs
-
-loop-less : tie.Need-loop-less Inv-loop μ-loop
-loop-less c = search needs
-
-loop-again : tie.Need-loop-again Inv-loop μ-loop
-loop-again c = search needs
-
-returns : tie.Need-returns Inv-loop μ-loop
-returns c = search needs
-
 pub slanted-spec : {M : Type 1} → statement M
 slanted-spec =
     tie.close
     (tie.spec
     Inv-loop
     μ-loop
-    loop-holds
-    slice-aggregate-lead
-    lead-requires
-    add-u
-    loop-less
-    loop-again
-    returns)
+    (λ c. search needs)
+    (λ c. search needs)
+    (λ c κs. search needs)
+    (λ c. search needs)
+    (λ c. search needs)
+    (λ c. search needs)
+    (λ c. search needs))

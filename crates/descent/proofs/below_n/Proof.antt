@@ -9,9 +9,6 @@ use borrow.Author.Needs.{needs}
 use Rattle.descent.proofs.below_n.Statement.{statement}
 use Rattle.descent.proofs.below_n.Tie as tie
 
-shl-t4 : tie.Need-shl-t4
-shl-t4 c = search needs
-
 -- k ones, as the code makes them
 made : (k : ℕ) → k < 64 → (1 * 2 ^ k) % 2 ^ 64 - 1 ≡ 2 ^ k - 1
 made k h = ap (λ (x : ℕ). x - 1) (one-shl k h)
@@ -31,9 +28,6 @@ returns c =
     let l = c .if1 .taken in
     below-law n n 0 _ _ (made n l) refl (made-fits n l) (omega arith) (λ v h. ((λ q. q), λ q. q)) (λ v h. ((λ q. absurd (omega arith)), λ q. absurd (omega arith)))
 
-shl-t9 : tie.Need-shl-t9
-shl-t9 c = search needs
-
 sub-t10 : tie.Need-sub-t10
 sub-t10 c = made-some (c .before .before .args .n - 64) (omega arith)
 
@@ -49,4 +43,4 @@ returns-3 c =
     below-law n 64 64 _ _ refl refl (omega arith) (omega arith) (λ v h. ((λ q. omega arith), λ q. h)) (λ v h. ((λ q. omega (arith, c .before .before .pre)), λ q. h))
 
 pub below-n-spec : {M : Type 1} → statement M
-below-n-spec = tie.close (tie.spec shl-t4 sub-t5 returns shl-t9 sub-t10 returns-2 returns-3)
+below-n-spec = tie.close (tie.spec (λ c. search needs) sub-t5 returns (λ c. search needs) sub-t10 returns-2 returns-3)

@@ -31,54 +31,6 @@ so-far c =
     let a = c .before .before .before .before .before .before .before .args in
     subst (λ (r : ℕ). Descended (a .edges .now) (a .n) r (a .table .now) (a .longer .now) (a .counts .now) (l .table) (l .longer) (l .counts)) (let e : l .r ≡ l .r - 1 + 1 = (let k = c .loop-test .taken in omega arith) in e) (l .inv .7)
 
-sub-r : tie.Need-sub-r Inv-loop μ-loop
-sub-r c = search needs
-
-mul-a : tie.Need-mul-a Inv-loop μ-loop
-mul-a c = search needs
-
-add-a : tie.Need-add-a Inv-loop μ-loop
-add-a c = search needs
-
-mul-a-2 : tie.Need-mul-a-2 Inv-loop μ-loop
-mul-a-2 c = search needs
-
-shared-slice-read-a : tie.Need-shared-slice-read-a Inv-loop μ-loop
-shared-slice-read-a c = search needs
-
-mul-a-3 : tie.Need-mul-a-3 Inv-loop μ-loop
-mul-a-3 c = search needs
-
-mul-a-4 : tie.Need-mul-a-4 Inv-loop μ-loop
-mul-a-4 c = search needs
-
-shared-slice-read-a-2 : tie.Need-shared-slice-read-a-2 Inv-loop μ-loop
-shared-slice-read-a-2 c = search needs
-
-mul-b : tie.Need-mul-b Inv-loop μ-loop
-mul-b c = search needs
-
-add-b : tie.Need-add-b Inv-loop μ-loop
-add-b c = search needs
-
-mul-b-2 : tie.Need-mul-b-2 Inv-loop μ-loop
-mul-b-2 c = search needs
-
-shared-slice-read-b : tie.Need-shared-slice-read-b Inv-loop μ-loop
-shared-slice-read-b c = search needs
-
-mul-b-3 : tie.Need-mul-b-3 Inv-loop μ-loop
-mul-b-3 c = search needs
-
-add-b-2 : tie.Need-add-b-2 Inv-loop μ-loop
-add-b-2 c = search needs
-
-mul-b-4 : tie.Need-mul-b-4 Inv-loop μ-loop
-mul-b-4 c = search needs
-
-shared-slice-read-b-2 : tie.Need-shared-slice-read-b-2 Inv-loop μ-loop
-shared-slice-read-b-2 c = search needs
-
 close-row-requires : tie.Need-close-row-requires Inv-loop μ-loop
 close-row-requires c κs =
     let st = c .before .before .before .before .before .before .before .before .before .before .before .before .before .before in
@@ -125,9 +77,6 @@ close-row-requires-2 c κs =
           (a .table .now) (a .longer .now) (a .counts .now) (l .table) (l .longer) (l .counts) (so-far turn) _ _ _ (first .ensures),
     )
 
-loop-less : tie.Need-loop-less Inv-loop μ-loop
-loop-less c = search needs
-
 loop-again : tie.Need-loop-again Inv-loop μ-loop
 loop-again c =
     let st = c .before .before .before .before .before .before .before .before .before .before .before .before .before .before .before .before .before .before .before .before .before .before .before .before .before .before .before .before .before .before .before in
@@ -150,15 +99,6 @@ loop-again c =
           (a .table .now) (a .longer .now) (a .counts .now) (l .table) (l .longer) (l .counts) (so-far turn) _ _ _ (first .ensures) _ _ _ (second .ensures),
     )
 
-same-length : tie.Need-same-length Inv-loop μ-loop
-same-length c = search needs
-
-same-length-2 : tie.Need-same-length-2 Inv-loop μ-loop
-same-length-2 c = search needs
-
-same-length-3 : tie.Need-same-length-3 Inv-loop μ-loop
-same-length-3 c = search needs
-
 returns : tie.Need-returns Inv-loop μ-loop
 returns c =
     let st = c .before .before .before .before .before .before .before in
@@ -174,27 +114,27 @@ close-spec =
     Inv-loop
     μ-loop
     loop-holds
-    sub-r
-    mul-a
-    add-a
-    mul-a-2
-    shared-slice-read-a
-    mul-a-3
-    mul-a-4
-    shared-slice-read-a-2
-    mul-b
-    add-b
-    mul-b-2
-    shared-slice-read-b
-    mul-b-3
-    add-b-2
-    mul-b-4
-    shared-slice-read-b-2
+    (λ c. search needs)
+    (λ c. search needs)
+    (λ c. search needs)
+    (λ c. search needs)
+    (λ c. search needs)
+    (λ c. search needs)
+    (λ c. search needs)
+    (λ c. search needs)
+    (λ c. search needs)
+    (λ c. search needs)
+    (λ c. search needs)
+    (λ c. search needs)
+    (λ c. search needs)
+    (λ c. search needs)
+    (λ c. search needs)
+    (λ c. search needs)
     close-row-requires
     close-row-requires-2
-    loop-less
+    (λ c. search needs)
     loop-again
-    same-length
-    same-length-2
-    same-length-3
+    (λ c. search needs)
+    (λ c. search needs)
+    (λ c. search needs)
     returns)

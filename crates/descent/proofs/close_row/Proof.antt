@@ -34,9 +34,6 @@ cast-u c = omega (arith, small c, c .before .before .before .before .before .bef
 add-u : tie.Need-add-u Inv-loop μ-loop
 add-u c = omega (arith, small c, c .before .before .before .before .before .before .pre .0)
 
-sub-x : tie.Need-sub-x Inv-loop μ-loop
-sub-x c = search needs
-
 close-vertex-requires : tie.Need-close-vertex-requires Inv-loop μ-loop
 close-vertex-requires c κs =
     let st = c .before .before .before .before .before .before .before .before .before in
@@ -74,15 +71,6 @@ loop-again c =
           (c .before .before .before .before .before .before .before .before .before .before .loop-test .taken) refl (call .ensures),
     )
 
-same-length : tie.Need-same-length Inv-loop μ-loop
-same-length c = search needs
-
-same-length-2 : tie.Need-same-length-2 Inv-loop μ-loop
-same-length-2 c = search needs
-
-same-length-3 : tie.Need-same-length-3 Inv-loop μ-loop
-same-length-3 c = search needs
-
 returns : tie.Need-returns Inv-loop μ-loop
 returns c =
     let a = c .before .before .before .before .before .before .args in
@@ -98,11 +86,11 @@ close-row-spec =
     loop-holds
     cast-u
     add-u
-    sub-x
+    (λ c. search needs)
     close-vertex-requires
     loop-less
     loop-again
-    same-length
-    same-length-2
-    same-length-3
+    (λ c. search needs)
+    (λ c. search needs)
+    (λ c. search needs)
     returns)

@@ -3,33 +3,12 @@ use Prim.Native.Nat.{_+_, _*_, _^_, _<_}
 use native.Mathlib.Omega.{arith}
 use lib.Bits.{bitOr, or-lt}
 use lib.Count.{ones-le}
-use lib.ListN.{getD, set, length-set}
+use lib.ListN.{getD, length-set}
 use lib.Seq.{getD-set-same, getD-set-other}
 use Rattle.descent.proofs.Descending.{stored-law, long-law, nested-law, vertex-law}
 use borrow.Author.Needs.{needs}
 use Rattle.descent.proofs.close_vertex.Statement.{statement}
 use Rattle.descent.proofs.close_vertex.Tie as tie
-
-mul-low : tie.Need-mul-low
-mul-low c = search needs
-
-mul-low-2 : tie.Need-mul-low-2
-mul-low-2 c = search needs
-
-shared-slice-read-low : tie.Need-shared-slice-read-low
-shared-slice-read-low c = search needs
-
-mul-high : tie.Need-mul-high
-mul-high c = search needs
-
-add-high : tie.Need-add-high
-add-high c = search needs
-
-mul-high-2 : tie.Need-mul-high-2
-mul-high-2 c = search needs
-
-shared-slice-read-high : tie.Need-shared-slice-read-high
-shared-slice-read-high c = search needs
 
 reached-requires : tie.Need-reached-requires
 reached-requires c κs =
@@ -38,44 +17,8 @@ reached-requires c κs =
     let room = long-law (a .edges .now) (a .table .now) (a .u) _ _ (st .pre .0) refl refl (st .pre .5) in
     (room .0, room .1, nested-law (a .edges .now) (a .table .now) (a .u) _ _ (st .pre .0) refl refl (st .pre .6))
 
-mul-longer : tie.Need-mul-longer
-mul-longer c = search needs
-
-mul-longer-2 : tie.Need-mul-longer-2
-mul-longer-2 c = search needs
-
-slice-write-longer : tie.Need-slice-write-longer
-slice-write-longer c = search needs
-
-mul-longer-3 : tie.Need-mul-longer-3
-mul-longer-3 c = search needs
-
-add-longer : tie.Need-add-longer
-add-longer c = search needs
-
-mul-longer-4 : tie.Need-mul-longer-4
-mul-longer-4 c = search needs
-
 slice-write-longer-2 : tie.Need-slice-write-longer-2
 slice-write-longer-2 c = simp length-set (omega arith)
-
-mul-table : tie.Need-mul-table
-mul-table c = search needs
-
-mul-table-2 : tie.Need-mul-table-2
-mul-table-2 c = search needs
-
-slice-write-table : tie.Need-slice-write-table
-slice-write-table c = search needs
-
-mul-table-3 : tie.Need-mul-table-3
-mul-table-3 c = search needs
-
-add-table : tie.Need-add-table
-add-table c = search needs
-
-mul-table-4 : tie.Need-mul-table-4
-mul-table-4 c = search needs
 
 slice-write-table-2 : tie.Need-slice-write-table-2
 slice-write-table-2 c = simp length-set (omega arith)
@@ -97,18 +40,6 @@ add-counts c = omega (arith, ones-le 64 _ (first-fits c), ones-le 64 _ (second-f
 cast-counts : tie.Need-cast-counts
 cast-counts c = omega (arith, ones-le 64 _ (first-fits c), ones-le 64 _ (second-fits c))
 
-slice-write-counts : tie.Need-slice-write-counts
-slice-write-counts c = search needs
-
-same-length : tie.Need-same-length
-same-length c = search needs
-
-same-length-2 : tie.Need-same-length-2
-same-length-2 c = search needs
-
-same-length-3 : tie.Need-same-length-3
-same-length-3 c = search needs
-
 returns : tie.Need-returns
 returns c =
     let st = c .before .before .before .before .before .before .before .before .before .before in
@@ -123,32 +54,32 @@ pub close-vertex-spec : {M : Type 1} → statement M
 close-vertex-spec =
     tie.close
     (tie.spec
-    mul-low
-    mul-low-2
-    shared-slice-read-low
-    mul-high
-    add-high
-    mul-high-2
-    shared-slice-read-high
+    (λ c. search needs)
+    (λ c. search needs)
+    (λ c. search needs)
+    (λ c. search needs)
+    (λ c. search needs)
+    (λ c. search needs)
+    (λ c. search needs)
     reached-requires
-    mul-longer
-    mul-longer-2
-    slice-write-longer
-    mul-longer-3
-    add-longer
-    mul-longer-4
+    (λ c. search needs)
+    (λ c. search needs)
+    (λ c. search needs)
+    (λ c. search needs)
+    (λ c. search needs)
+    (λ c. search needs)
     slice-write-longer-2
-    mul-table
-    mul-table-2
-    slice-write-table
-    mul-table-3
-    add-table
-    mul-table-4
+    (λ c. search needs)
+    (λ c. search needs)
+    (λ c. search needs)
+    (λ c. search needs)
+    (λ c. search needs)
+    (λ c. search needs)
     slice-write-table-2
     add-counts
     cast-counts
-    slice-write-counts
-    same-length
-    same-length-2
-    same-length-3
+    (λ c. search needs)
+    (λ c. search needs)
+    (λ c. search needs)
+    (λ c. search needs)
     returns)

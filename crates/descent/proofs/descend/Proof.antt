@@ -14,12 +14,6 @@ use Rattle.descent.proofs.Answering.{descends-inside, descends-cyclic, 
 use Rattle.descent.proofs.descend.Statement.{statement}
 use Rattle.descent.proofs.descend.Tie as tie
 
-is-fit-requires : tie.Need-is-fit-requires
-is-fit-requires c κs = search needs
-
-no-descent-requires : tie.Need-no-descent-requires
-no-descent-requires c κs = search needs
-
 returns : tie.Need-returns
 returns c =
     let a = c .before .before .before .before .before .before .before .before .args in
@@ -30,12 +24,6 @@ returns c =
 sized : (c : tie.Else1) → let a = c .before .before .before .before .before .before .before .args in
     Sized (a .n) (a .edges .now) (a .below .now) (a .table .now) (a .longer .now)
 sized c = fits-sized _ _ _ _ _ (sym (c .before .is-fit .ensures) ∙ not-false _ (c .if1 .left))
-
-is-outsized-requires : tie.Need-is-outsized-requires
-is-outsized-requires c κs = search needs
-
-no-descent-requires-2 : tie.Need-no-descent-requires-2
-no-descent-requires-2 c κs = search needs
 
 returns-2 : tie.Need-returns-2
 returns-2 c =
@@ -49,15 +37,6 @@ within : (c : tie.Else2) → let a = c .before .before .before .before .before .
     outsized? (a .n) (length (a .ends .now) / 2) ≡ false
 within c = sym (c .before .is-outsized .ensures) ∙ c .if2 .left
 
-clear-requires : tie.Need-clear-requires
-clear-requires c κs = search needs
-
-clear-requires-2 : tie.Need-clear-requires-2
-clear-requires-2 c κs = search needs
-
-clear-requires-3 : tie.Need-clear-requires-3
-clear-requires-3 c κs = search needs
-
 scan-requires : tie.Need-scan-requires
 scan-requires c κs =
     let cleared = c .before .before .before .before .before .before .before .before .before .before .before .clear in
@@ -66,18 +45,6 @@ scan-requires c κs =
     let room = sized (right .before .before) .edges in
     let same = cleared .kept .0 in
     (small, omega arith, cleared .ensures)
-
-no-descent-requires-3 : tie.Need-no-descent-requires-3
-no-descent-requires-3 c κs = search needs
-
-same-length : tie.Need-same-length
-same-length c = search needs
-
-same-length-2 : tie.Need-same-length-2
-same-length-2 c = search needs
-
-same-length-3 : tie.Need-same-length-3
-same-length-3 c = search needs
 
 -- after the edges are scanned: the places where the size was right, and where the lists had room
 abbrev of-size : tie.After-scan → tie.Else2
@@ -104,9 +71,6 @@ returns-3 c =
     descends-ends (a .n) (a .ends .now) (a .edges .now) (a .below .now) (a .table .now) (a .longer .now) (sized (fitting s))
     (s .scan .result) _ (c .no-descent3 .ensures) _ _ _ _ (scanned-kept s) (within (of-size s)) (s .scan .ensures) (c .before .if3 .taken)
 
-slice-aggregate-grown : tie.Need-slice-aggregate-grown
-slice-aggregate-grown c = search needs
-
 -- the edges are accepted: they join vertices
 inside : (c : tie.Else3) → let s = c .before .before .before in
     Inside (s .scan .last .1 .1 .0) (fitting s .before .before .before .before .before .before .before .args .n)
@@ -124,21 +88,6 @@ grown-requires c κs =
     let small = size .1 in
     let same = scanned-kept s .0 in
     (size .0, (let k = room .edges in omega arith), refl, (let k = room .below in omega arith), inside (c .before .before .before))
-
-no-descent-requires-4 : tie.Need-no-descent-requires-4
-no-descent-requires-4 c κs = search needs
-
-same-length-4 : tie.Need-same-length-4
-same-length-4 c = search needs
-
-same-length-5 : tie.Need-same-length-5
-same-length-5 c = search needs
-
-same-length-6 : tie.Need-same-length-6
-same-length-6 c = search needs
-
-same-length-7 : tie.Need-same-length-7
-same-length-7 c = search needs
 
 -- and after the rows are found
 grown-kept : (c : tie.After-grown) → let s = c .before .before .before .before .before .before .before in
@@ -159,9 +108,6 @@ returns-4 c =
     descends-cyclic (a .n) (a .ends .now) (a .edges .now) (a .below .now) (a .table .now) (a .longer .now) (sized (fitting s))
     _ (s .scan .result) (within (of-size s)) (s .scan .ensures) (g .before .before .before .before .if3 .left)
     (g .grown .result) _ _ (g .grown .ensures) _ _ _ (c .before .if4 .taken) (c .no-descent4 .ensures) (grown-kept g)
-
-slice-aggregate-close : tie.Need-slice-aggregate-close
-slice-aggregate-close c = search needs
 
 close-requires : tie.Need-close-requires
 close-requires c κs =
@@ -187,18 +133,6 @@ cast-t43 c =
     let few = g .grown .ensures .prefixes some .few in
     omega arith
 
-same-length-8 : tie.Need-same-length-8
-same-length-8 c = search needs
-
-same-length-9 : tie.Need-same-length-9
-same-length-9 c = search needs
-
-same-length-10 : tie.Need-same-length-10
-same-length-10 c = search needs
-
-same-length-11 : tie.Need-same-length-11
-same-length-11 c = search needs
-
 returns-5 : tie.Need-returns-5
 returns-5 c =
     let k = c .before .before .before .before .before .close in
@@ -219,34 +153,34 @@ pub descend-spec : {M : Type 1} → statement M
 descend-spec =
     tie.close
     (tie.spec
-    is-fit-requires
-    no-descent-requires
+    (λ c κs. search needs)
+    (λ c κs. search needs)
     returns
-    is-outsized-requires
-    no-descent-requires-2
+    (λ c κs. search needs)
+    (λ c κs. search needs)
     returns-2
-    clear-requires
-    clear-requires-2
-    clear-requires-3
+    (λ c κs. search needs)
+    (λ c κs. search needs)
+    (λ c κs. search needs)
     scan-requires
-    no-descent-requires-3
-    same-length
-    same-length-2
-    same-length-3
+    (λ c κs. search needs)
+    (λ c. search needs)
+    (λ c. search needs)
+    (λ c. search needs)
     returns-3
-    slice-aggregate-grown
+    (λ c. search needs)
     grown-requires
-    no-descent-requires-4
-    same-length-4
-    same-length-5
-    same-length-6
-    same-length-7
+    (λ c κs. search needs)
+    (λ c. search needs)
+    (λ c. search needs)
+    (λ c. search needs)
+    (λ c. search needs)
     returns-4
-    slice-aggregate-close
+    (λ c. search needs)
     close-requires
     cast-t43
-    same-length-8
-    same-length-9
-    same-length-10
-    same-length-11
+    (λ c. search needs)
+    (λ c. search needs)
+    (λ c. search needs)
+    (λ c. search needs)
     returns-5)

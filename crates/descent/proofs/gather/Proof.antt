@@ -55,9 +55,6 @@ mul-b-2 c = omega (arith, small (c .before))
 shared-slice-read-b : tie.Need-shared-slice-read-b Inv-loop μ-loop
 shared-slice-read-b c = omega (arith, room (c .before .before))
 
-sub-x : tie.Need-sub-x Inv-loop μ-loop
-sub-x c = search needs
-
 loop-less : tie.Need-loop-less Inv-loop μ-loop
 loop-less c = let l = c .before .before .before .loop in visited-less _ (l .x) _ (l .inv .2 .members) (c .before .before .loop-test .taken)
 
@@ -89,7 +86,7 @@ gather-spec =
     add-b
     mul-b-2
     shared-slice-read-b
-    sub-x
+    (λ c. search needs)
     loop-less
     loop-again
     returns)

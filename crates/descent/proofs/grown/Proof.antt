@@ -45,44 +45,14 @@ loop-holds c =
 image-requires : tie.Need-image-requires Inv-loop μ-loop
 image-requires c κs = let l = c .before .loop in round-long _ _ (l .r) (l .low) (l .high) _ _ _ (l .inv .7) (l .inv .2)
 
-cast-set-rows : tie.Need-cast-set-rows Inv-loop μ-loop
-cast-set-rows c = search needs
-
 set-rows-requires : tie.Need-set-rows-requires Inv-loop μ-loop
 set-rows-requires c κs = (zero-le, c .before .before .before .before .before .loop .inv .3)
-
-cast-set-rows-2 : tie.Need-cast-set-rows-2 Inv-loop μ-loop
-cast-set-rows-2 c = search needs
 
 set-rows-requires-2 : tie.Need-set-rows-requires-2 Inv-loop μ-loop
 set-rows-requires-2 c κs = (omega arith, c .before .before .before .set-rows .kept .1 .1 .1 .0 ∙ c .before .before .before .before .before .before .before .before .before .loop .inv .3)
 
-add-s : tie.Need-add-s Inv-loop μ-loop
-add-s c = search needs
-
-mul-below : tie.Need-mul-below Inv-loop μ-loop
-mul-below c = search needs
-
-mul-below-2 : tie.Need-mul-below-2 Inv-loop μ-loop
-mul-below-2 c = search needs
-
-slice-write-below-3 : tie.Need-slice-write-below-3 Inv-loop μ-loop
-slice-write-below-3 c = search needs
-
-mul-below-3 : tie.Need-mul-below-3 Inv-loop μ-loop
-mul-below-3 c = search needs
-
-add-below : tie.Need-add-below Inv-loop μ-loop
-add-below c = search needs
-
-mul-below-4 : tie.Need-mul-below-4 Inv-loop μ-loop
-mul-below-4 c = search needs
-
 slice-write-below-4 : tie.Need-slice-write-below-4 Inv-loop μ-loop
 slice-write-below-4 c = simp length-set (omega arith)
-
-same-length : tie.Need-same-length Inv-loop μ-loop
-same-length c = search needs
 
 same-length-2 : tie.Need-same-length-2 Inv-loop μ-loop
 same-length-2 c =
@@ -100,9 +70,6 @@ returns c =
     let two = c .before .before .before .set-rows2 in
     round-over (a .edges .now) (a .n) (l .inv .1) (l .r) (l .low) (l .high) _ _ (image .result .low) (image .result .high) _ _ (a .rows .now) (l .rows) (l .below) (l .inv .7) (l .inv .6) (image .ensures) refl refl
     _ _ _ (one .ensures) (two .ensures) (stored-law (l .below) (l .r + 1) _ _ (omega arith)) (st .pre .4) (omega arith) (c .if1 .taken)
-
-loop-less : tie.Need-loop-less Inv-loop μ-loop
-loop-less c = search needs
 
 loop-again : tie.Need-loop-again Inv-loop μ-loop
 loop-again c =
@@ -123,9 +90,6 @@ loop-again c =
       round-more (a .edges .now) (a .n) (l .inv .1) (l .r) (l .low) (l .high) _ _ (image .result .low) (image .result .high) _ _ (a .rows .now) (l .rows) (l .below) (l .inv .7) (l .inv .6) (image .ensures) refl refl
           _ _ _ (one .ensures) (two .ensures) (stored-law (l .below) (l .r + 1) _ _ (omega arith)) (c .if1 .left),
     )
-
-same-length-3 : tie.Need-same-length-3 Inv-loop μ-loop
-same-length-3 c = search needs
 
 same-length-4 : tie.Need-same-length-4 Inv-loop μ-loop
 same-length-4 c = simp length-set at (c .before .loop .inv .4)
@@ -149,23 +113,23 @@ grown-spec =
     slice-write-below-2
     loop-holds
     image-requires
-    cast-set-rows
+    (λ c. search needs)
     set-rows-requires
-    cast-set-rows-2
+    (λ c. search needs)
     set-rows-requires-2
-    add-s
-    mul-below
-    mul-below-2
-    slice-write-below-3
-    mul-below-3
-    add-below
-    mul-below-4
+    (λ c. search needs)
+    (λ c. search needs)
+    (λ c. search needs)
+    (λ c. search needs)
+    (λ c. search needs)
+    (λ c. search needs)
+    (λ c. search needs)
     slice-write-below-4
-    same-length
+    (λ c. search needs)
     same-length-2
     returns
-    loop-less
+    (λ c. search needs)
     loop-again
-    same-length-3
+    (λ c. search needs)
     same-length-4
     returns-2)

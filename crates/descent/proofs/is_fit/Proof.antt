@@ -8,9 +8,6 @@ use Rattle.descent.specs.Promise.{fits?}
 use Rattle.descent.proofs.is_fit.Statement.{statement}
 use Rattle.descent.proofs.is_fit.Tie as tie
 
-room-requires : tie.Need-room-requires
-room-requires c κs = search needs
-
 returns : tie.Need-returns
 unfolding fits?
 returns c = simp (sym (c .before .room .ensures), lt-leb _ _ (c .if1 .taken))
@@ -45,4 +42,4 @@ returns-4 c =
     last _ _ _ _ _ _ (c .before .before .before .room .ensures) (c .before .before .if1 .left) (roomy (c .before)) (c .if3 .left)
 
 pub is-fit-spec : {M : Type 1} → statement M
-is-fit-spec = tie.close (tie.spec room-requires returns add-if2 returns-2 returns-3 returns-4)
+is-fit-spec = tie.close (tie.spec (λ c κs. search needs) returns add-if2 returns-2 returns-3 returns-4)

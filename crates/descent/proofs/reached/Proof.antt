@@ -54,9 +54,6 @@ mul-b-2 c = omega (arith, small (c .before))
 shared-slice-read-b : tie.Need-shared-slice-read-b Inv-loop μ-loop
 shared-slice-read-b c = omega (arith, room (c .before .before))
 
-sub-x : tie.Need-sub-x Inv-loop μ-loop
-sub-x c = search needs
-
 loop-less : tie.Need-loop-less Inv-loop μ-loop
 loop-less c = let l = c .before .before .before .loop in skip-less _ (l .x) _ (l .inv .1 .so-far .members) (c .before .before .loop-test .taken) _
 
@@ -98,7 +95,7 @@ reached-spec =
     add-b
     mul-b-2
     shared-slice-read-b
-    sub-x
+    (λ c. search needs)
     loop-less
     loop-again
     with-second-requires

@@ -19,27 +19,6 @@ loop-holds c =
     let st = c .before .before in
     (zero-le, refl, scanning-none (st .args .n) (st .args .ends .now) (st .args .edges .now) (st .pre .2))
 
-mul-at : tie.Need-mul-at Inv-loop μ-loop
-mul-at c = search needs
-
-shared-slice-read-wide : tie.Need-shared-slice-read-wide Inv-loop μ-loop
-shared-slice-read-wide c = search needs
-
-wide-requires : tie.Need-wide-requires Inv-loop μ-loop
-wide-requires c κs = search needs
-
-add-wide : tie.Need-add-wide Inv-loop μ-loop
-add-wide c = search needs
-
-shared-slice-read-wide-2 : tie.Need-shared-slice-read-wide-2 Inv-loop μ-loop
-shared-slice-read-wide-2 c = search needs
-
-wide-requires-2 : tie.Need-wide-requires-2 Inv-loop μ-loop
-wide-requires-2 c κs = search needs
-
-same-length : tie.Need-same-length Inv-loop μ-loop
-same-length c = search needs
-
 returns : tie.Need-returns Inv-loop μ-loop
 returns c =
     let st = c .before .before .before .before .before .before .before .before .before in
@@ -47,24 +26,12 @@ returns c =
     let bad : st .args .n ≤ getD (st .args .ends .now) (2 * l .i) 0 = subst (λ (x : ℕ). st .args .n ≤ x) (c .before .before .before .wide .ensures .0) (c .if1 .taken) in
     scanned-strange (st .args .n) (st .args .ends .now) (l .i) (l .edges) (l .double) (l .inv .2) (c .before .before .before .before .before .loop-test .taken) (inl bad)
 
-same-length-2 : tie.Need-same-length-2 Inv-loop μ-loop
-same-length-2 c = search needs
-
 returns-2 : tie.Need-returns-2 Inv-loop μ-loop
 returns-2 c =
     let st = c .before .before .before .before .before .before .before .before .before .before in
     let l = c .before .before .before .before .before .before .before .loop in
     let bad : st .args .n ≤ getD (st .args .ends .now) (2 * l .i + 1) 0 = subst (λ (x : ℕ). st .args .n ≤ x) (c .before .before .wide2 .ensures .0) (c .if2 .taken) in
     scanned-strange (st .args .n) (st .args .ends .now) (l .i) (l .edges) (l .double) (l .inv .2) (c .before .before .before .before .before .before .loop-test .taken) (inr bad)
-
-mark-requires : tie.Need-mark-requires Inv-loop μ-loop
-mark-requires c κs = search needs
-
-add-i : tie.Need-add-i Inv-loop μ-loop
-add-i c = search needs
-
-loop-less : tie.Need-loop-less Inv-loop μ-loop
-loop-less c = search needs
 
 loop-again : tie.Need-loop-again Inv-loop μ-loop
 loop-again c =
@@ -76,9 +43,6 @@ loop-again c =
       scanning-more (st .args .n) (st .args .ends .now) (l .i) (l .edges) (l .double) (st .pre .0)
           (let k = st .pre .1 in let q = l .inv .1 in omega arith) (l .inv .2) _ _ (c .before .before .before .before .before .before .before .before .wide .ensures .0) (c .before .before .before .before .before .before .wide2 .ensures .0) (c .before .before .before .before .before .if1 .left) (c .before .before .before .before .if2 .left) _ _ (c .before .before .mark .ensures),
     )
-
-same-length-3 : tie.Need-same-length-3 Inv-loop μ-loop
-same-length-3 c = search needs
 
 returns-3 : tie.Need-returns-3 Inv-loop μ-loop
 returns-3 c =
@@ -93,19 +57,19 @@ scan-spec =
     Inv-loop
     μ-loop
     loop-holds
-    mul-at
-    shared-slice-read-wide
-    wide-requires
-    add-wide
-    shared-slice-read-wide-2
-    wide-requires-2
-    same-length
+    (λ c. search needs)
+    (λ c. search needs)
+    (λ c κs. search needs)
+    (λ c. search needs)
+    (λ c. search needs)
+    (λ c κs. search needs)
+    (λ c. search needs)
     returns
-    same-length-2
+    (λ c. search needs)
     returns-2
-    mark-requires
-    add-i
-    loop-less
+    (λ c κs. search needs)
+    (λ c. search needs)
+    (λ c. search needs)
     loop-again
-    same-length-3
+    (λ c. search needs)
     returns-3)

@@ -28,9 +28,6 @@ cast-v c = omega (arith, small c)
 add-v : tie.Need-add-v Inv-loop μ-loop
 add-v c = omega (arith, small c)
 
-sub-x : tie.Need-sub-x Inv-loop μ-loop
-sub-x c = search needs
-
 slice-write-rows : tie.Need-slice-write-rows Inv-loop μ-loop
 slice-write-rows c = omega (arith, small c)
 
@@ -47,9 +44,6 @@ loop-again c =
       writing-more (a .mask) (a .base) (a .r) (a .rows .now) (l .rows) (l .x) _ (l .inv .3) (c .loop-test .taken) refl (omega (arith, small c)),
     )
 
-same-length : tie.Need-same-length Inv-loop μ-loop
-same-length c = search needs
-
 returns : tie.Need-returns Inv-loop μ-loop
 returns c =
     let a = c .before .before .args in
@@ -65,9 +59,9 @@ set-rows-spec =
     loop-holds
     cast-v
     add-v
-    sub-x
+    (λ c. search needs)
     slice-write-rows
     loop-less
     loop-again
-    same-length
+    (λ c. search needs)
     returns)

@@ -9,15 +9,9 @@ use Rattle.editing.proofs.comes.Tie as tie
 returns : tie.Need-returns
 returns c = sym (or-left _ _ (eq-eqb _ _ (c .if1 .taken)))
 
-mul-contains : tie.Need-mul-contains
-mul-contains c = search needs
-
-contains-requires : tie.Need-contains-requires
-contains-requires c κs = search needs
-
 returns-2 : tie.Need-returns-2
 unfolding at
 returns-2 c = rw (ne-eqb _ _ (c .before .if1 .left)) (c .contains .ensures)
 
 pub comes-spec : {M : Type 1} → statement M
-comes-spec = tie.close (tie.spec returns mul-contains contains-requires returns-2)
+comes-spec = tie.close (tie.spec returns (λ c. search needs) (λ c κs. search needs) returns-2)

@@ -19,33 +19,6 @@ Inv-loop reach₀ tail head row u₀ reach u = (u ≤ 128) × (length reach ≡ 
 abbrev μ-loop : tie.MeasureT-loop
 μ-loop reach₀ tail head row u₀ reach u = 128 - u
 
-mul-t6 : tie.Need-mul-t6 Inv-loop μ-loop
-mul-t6 c = search needs
-
-mul-t7 : tie.Need-mul-t7 Inv-loop μ-loop
-mul-t7 c = search needs
-
-slice-read-t9 : tie.Need-slice-read-t9 Inv-loop μ-loop
-slice-read-t9 c = search needs
-
-mul-t10 : tie.Need-mul-t10 Inv-loop μ-loop
-mul-t10 c = search needs
-
-add-t11 : tie.Need-add-t11 Inv-loop μ-loop
-add-t11 c = search needs
-
-mul-t12 : tie.Need-mul-t12 Inv-loop μ-loop
-mul-t12 c = search needs
-
-slice-read-t14 : tie.Need-slice-read-t14 Inv-loop μ-loop
-slice-read-t14 c = search needs
-
-slice-aggregate-insert : tie.Need-slice-aggregate-insert Inv-loop μ-loop
-slice-aggregate-insert c = search needs
-
-insert-requires : tie.Need-insert-requires Inv-loop μ-loop
-insert-requires c κs = search needs
-
 loop-holds : tie.Need-loop-holds Inv-loop μ-loop
 loop-holds c =
     let st = c .before .before .before .before .before .before in
@@ -59,24 +32,6 @@ loop-holds c =
       subst (Target 2 t head) (sym (call .ensures .1)) (target-law 2 t head row (st .pre .2) refl (pair-row t head _ _ (ap (λ (i : ℕ). getD t i 0) (let z : 2 * head ≡ 2 * head + 0 = omega arith in z)) refl)),
       linked-none 2 t (st .args .tail) head,
     )
-
-comes-requires : tie.Need-comes-requires Inv-loop μ-loop
-comes-requires c κs = search needs
-
-mul-unite : tie.Need-mul-unite Inv-loop μ-loop
-mul-unite c = search needs
-
-slice-aggregate-unite : tie.Need-slice-aggregate-unite Inv-loop μ-loop
-slice-aggregate-unite c = search needs
-
-unite-requires : tie.Need-unite-requires Inv-loop μ-loop
-unite-requires c κs = search needs
-
-add-u : tie.Need-add-u Inv-loop μ-loop
-add-u c = search needs
-
-loop-less : tie.Need-loop-less Inv-loop μ-loop
-loop-less c = search needs
 
 loop-again : tie.Need-loop-again Inv-loop μ-loop
 loop-again c =
@@ -107,9 +62,6 @@ loop-again c =
     ))
     (c .if1 .came)
 
-same-length : tie.Need-same-length Inv-loop μ-loop
-same-length c = search needs
-
 returns : tie.Need-returns Inv-loop μ-loop
 returns c =
     let a = c .before .before .before .before .before .before .before .before .args in
@@ -122,22 +74,22 @@ link-spec =
     (tie.spec
     Inv-loop
     μ-loop
-    mul-t6
-    mul-t7
-    slice-read-t9
-    mul-t10
-    add-t11
-    mul-t12
-    slice-read-t14
-    slice-aggregate-insert
-    insert-requires
+    (λ c. search needs)
+    (λ c. search needs)
+    (λ c. search needs)
+    (λ c. search needs)
+    (λ c. search needs)
+    (λ c. search needs)
+    (λ c. search needs)
+    (λ c. search needs)
+    (λ c κs. search needs)
     loop-holds
-    comes-requires
-    mul-unite
-    slice-aggregate-unite
-    unite-requires
-    add-u
-    loop-less
+    (λ c κs. search needs)
+    (λ c. search needs)
+    (λ c. search needs)
+    (λ c κs. search needs)
+    (λ c. search needs)
+    (λ c. search needs)
     loop-again
-    same-length
+    (λ c. search needs)
     returns)

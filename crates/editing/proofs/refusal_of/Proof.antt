@@ -12,9 +12,6 @@ use Rattle.editing.proofs.Sessions.{outside-tail, outside-head, inside}
 use Rattle.editing.proofs.refusal_of.Statement.{statement}
 use Rattle.editing.proofs.refusal_of.Tie as tie
 
-capped-requires : tie.Need-capped-requires
-capped-requires c κs = search needs
-
 returns : tie.Need-returns
 unfolding refusalOf
 returns c =
@@ -33,14 +30,8 @@ ends c =
     let a = c .before .before .before .args in
     let k = c .before .before .capped .ensures in (inside (a .s) (a .tail) (a .head) (omega arith) (omega arith), omega arith, omega arith)
 
-slice-aggregate-contains : tie.Need-slice-aggregate-contains
-slice-aggregate-contains c = search needs
-
 mul-contains : tie.Need-mul-contains
 mul-contains c = omega (arith, ends (c .before .before) .1)
-
-contains-requires : tie.Need-contains-requires
-contains-requires c κs = search needs
 
 returns-3 : tie.Need-returns-3
 unfolding refusalOf at
@@ -48,9 +39,6 @@ returns-3 c = (
   sym (verdict-duplicate _ _ _ _ (ends (c .before .before .before .before) .0) (sym (c .before .contains .ensures) ∙ c .if3 .taken)),
   λ e. absurd (omega arith),
 )
-
-slice-aggregate-comes : tie.Need-slice-aggregate-comes
-slice-aggregate-comes c = search needs
 
 comes-requires : tie.Need-comes-requires
 comes-requires c κs = ends (c .before .before .before .before .before .before) .2
@@ -91,14 +79,14 @@ pub refusal-of-spec : {M : Type 1} → statement M
 refusal-of-spec =
     tie.close
     (tie.spec
-    capped-requires
+    (λ c κs. search needs)
     returns
     returns-2
-    slice-aggregate-contains
+    (λ c. search needs)
     mul-contains
-    contains-requires
+    (λ c κs. search needs)
     returns-3
-    slice-aggregate-comes
+    (λ c. search needs)
     comes-requires
     returns-4
     returns-5

@@ -6,24 +6,15 @@ use Rattle.editing.proofs.Sessions.{started}
 use Rattle.editing.proofs.start.Statement.{statement}
 use Rattle.editing.proofs.start.Tie as tie
 
-blank-session-requires : tie.Need-blank-session-requires
-blank-session-requires c κs = search needs
-
 returns : tie.Need-returns
 returns c =
     let n = c .before .before .args .n in
     let e = start-fails n (inl (c .before .if1 .taken)) in started n 2 0 _ (e .0) (e .1) (omega arith) (c .blank-session .ensures)
 
-blank-session-requires-2 : tie.Need-blank-session-requires-2
-blank-session-requires-2 c κs = search needs
-
 returns-2 : tie.Need-returns-2
 returns-2 c =
     let n = c .before .before .before .args .n in
     let e = start-fails n (inr (c .before .if2 .taken)) in started n 2 0 _ (e .0) (e .1) (omega arith) (c .blank-session2 .ensures)
-
-blank-session-requires-3 : tie.Need-blank-session-requires-3
-blank-session-requires-3 c κs = search needs
 
 returns-3 : tie.Need-returns-3
 returns-3 c =
@@ -34,9 +25,9 @@ pub start-spec : {M : Type 1} → statement M
 start-spec =
     tie.close
     (tie.spec
-    blank-session-requires
+    (λ c κs. search needs)
     returns
-    blank-session-requires-2
+    (λ c κs. search needs)
     returns-2
-    blank-session-requires-3
+    (λ c κs. search needs)
     returns-3)

@@ -5,33 +5,18 @@ use Rattle.embed.proofs.Asking.{asked-refused, asked-tail, asked-head, 
 use Rattle.embed.proofs.ceviloneth_leads.Statement.{statement}
 use Rattle.embed.proofs.ceviloneth_leads.Tie as tie
 
-read-requires : tie.Need-read-requires
-read-requires c κs = search needs
-
-told-requires : tie.Need-told-requires
-told-requires c κs = search needs
-
 returns : tie.Need-returns
 returns c = let st = c .before .before .before in asked-refused _ _ _ _ (st .read .ensures) _ (c .before .if1 .taken) (c .told .ensures)
-
-told-requires-2 : tie.Need-told-requires-2
-told-requires-2 c κs = search needs
 
 returns-2 : tie.Need-returns-2
 returns-2 c =
     let test = c .before .before in
     asked-tail _ _ _ _ (test .before .before .read .ensures) _ (test .if1 .left) (c .before .if2 .taken) (c .told2 .ensures)
 
-told-requires-3 : tie.Need-told-requires-3
-told-requires-3 c κs = search needs
-
 returns-3 : tie.Need-returns-3
 returns-3 c =
     let test = c .before .before .before in
     asked-head _ _ _ _ (test .before .before .read .ensures) _ (test .if1 .left) (c .before .if3 .taken) (c .told3 .ensures)
-
-slice-aggregate-contains : tie.Need-slice-aggregate-contains
-slice-aggregate-contains c = search needs
 
 mul-contains : tie.Need-mul-contains
 mul-contains c =
@@ -39,12 +24,6 @@ mul-contains c =
     let test = second .before in
     let l = few _ _ (test .before .before .read .ensures) (test .if1 .left) in
     omega (arith, l, second .if2 .left, c .before .before .if3 .left)
-
-contains-requires : tie.Need-contains-requires
-contains-requires c κs = search needs
-
-told-requires-4 : tie.Need-told-requires-4
-told-requires-4 c κs = search needs
 
 returns-4 : tie.Need-returns-4
 returns-4 c =
@@ -57,15 +36,15 @@ pub ceviloneth-leads-spec : {M : Type 1} → statement M
 ceviloneth-leads-spec =
     tie.close
     (tie.spec
-    read-requires
-    told-requires
+    (λ c κs. search needs)
+    (λ c κs. search needs)
     returns
-    told-requires-2
+    (λ c κs. search needs)
     returns-2
-    told-requires-3
+    (λ c κs. search needs)
     returns-3
-    slice-aggregate-contains
+    (λ c. search needs)
     mul-contains
-    contains-requires
-    told-requires-4
+    (λ c κs. search needs)
+    (λ c κs. search needs)
     returns-4)

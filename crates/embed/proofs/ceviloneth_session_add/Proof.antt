@@ -7,26 +7,11 @@ use Rattle.embed.proofs.ceviloneth_session_add.Tie as tie
 returns : tie.Need-returns
 returns c = add-short _ _ _ (c .if1 .taken)
 
-session-of-requires : tie.Need-session-of-requires
-session-of-requires c κs = search needs
-
-add-requires : tie.Need-add-requires
-add-requires c κs = search needs
-
-same-length : tie.Need-same-length
-same-length c = search needs
-
 returns-2 : tie.Need-returns-2
 returns-2 c =
     let call = c .before .before in
     let st = call .before in
     add-refused _ _ _ (st .before .before .if1 .left) _ (st .session-of .ensures) _ (call .add .ensures) (c .if2 .taken)
-
-fill-state-requires : tie.Need-fill-state-requires
-fill-state-requires c κs = search needs
-
-same-length-2 : tie.Need-same-length-2
-same-length-2 c = search needs
 
 returns-3 : tie.Need-returns-3
 returns-3 c =
@@ -40,10 +25,10 @@ ceviloneth-session-add-spec =
     tie.close
     (tie.spec
     returns
-    session-of-requires
-    add-requires
-    same-length
+    (λ c κs. search needs)
+    (λ c κs. search needs)
+    (λ c. search needs)
     returns-2
-    fill-state-requires
-    same-length-2
+    (λ c κs. search needs)
+    (λ c. search needs)
     returns-3)

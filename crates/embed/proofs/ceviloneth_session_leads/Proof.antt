@@ -4,20 +4,8 @@ use Rattle.embed.proofs.Changing.{tells-short, tells}
 use Rattle.embed.proofs.ceviloneth_session_leads.Statement.{statement}
 use Rattle.embed.proofs.ceviloneth_session_leads.Tie as tie
 
-told-requires : tie.Need-told-requires
-told-requires c κs = search needs
-
 returns : tie.Need-returns
 returns c = tells-short _ _ _ (c .before .if1 .taken) _ (c .told .ensures)
-
-session-of-requires : tie.Need-session-of-requires
-session-of-requires c κs = search needs
-
-leads-requires : tie.Need-leads-requires
-leads-requires c κs = search needs
-
-told-requires-2 : tie.Need-told-requires-2
-told-requires-2 c κs = search needs
 
 returns-2 : tie.Need-returns-2
 returns-2 c = let st = c .before .before in tells _ _ _ (st .before .if1 .left) _ (st .session-of .ensures) _ (c .before .leads .ensures) _ (c .told2 .ensures)
@@ -25,4 +13,4 @@ returns-2 c = let st = c .before .before in tells _ _ _ (st .before .if1 .left) 
 pub ceviloneth-session-leads-spec : {M : Type 1} → statement M
 ceviloneth-session-leads-spec =
     tie.close
-    (tie.spec told-requires returns session-of-requires leads-requires told-requires-2 returns-2)
+    (tie.spec (λ c κs. search needs) returns (λ c κs. search needs) (λ c κs. search needs) (λ c κs. search needs) returns-2)

@@ -7,17 +7,8 @@ use Rattle.embed.proofs.ceviloneth_session_start.Tie as tie
 returns : tie.Need-returns
 returns c = start-short _ _ (c .if1 .taken)
 
-start-requires : tie.Need-start-requires
-start-requires c κs = search needs
-
 returns-2 : tie.Need-returns-2
 returns-2 c = let st = c .before .before in start-refused _ _ (st .before .if1 .left) _ (st .start .ensures) (c .if2 .taken)
-
-fill-state-requires : tie.Need-fill-state-requires
-fill-state-requires c κs = search needs
-
-same-length : tie.Need-same-length
-same-length c = search needs
 
 returns-3 : tie.Need-returns-3
 returns-3 c =
@@ -27,4 +18,4 @@ returns-3 c =
 
 pub ceviloneth-session-start-spec : {M : Type 1} → statement M
 ceviloneth-session-start-spec =
-    tie.close (tie.spec returns start-requires returns-2 fill-state-requires same-length returns-3)
+    tie.close (tie.spec returns (λ c κs. search needs) returns-2 (λ c κs. search needs) (λ c. search needs) returns-3)

@@ -4,14 +4,8 @@ use Rattle.embed.proofs.Stroking.{drawn}
 use Rattle.embed.proofs.ceviloneth_stroke_bent.Statement.{statement}
 use Rattle.embed.proofs.ceviloneth_stroke_bent.Tie as tie
 
-bent-requires : tie.Need-bent-requires
-bent-requires c κs = search needs
-
-stroke-of-requires : tie.Need-stroke-of-requires
-stroke-of-requires c κs = search needs
-
 returns : tie.Need-returns
 returns c = drawn _ _ _ (c .before .bent .ensures) (c .stroke-of .ensures)
 
 pub ceviloneth-stroke-bent-spec : {M : Type 1} → statement M
-ceviloneth-stroke-bent-spec = tie.close (tie.spec bent-requires stroke-of-requires returns)
+ceviloneth-stroke-bent-spec = tie.close (tie.spec (λ c κs. search needs) (λ c κs. search needs) returns)

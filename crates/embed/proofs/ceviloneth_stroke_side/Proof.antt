@@ -4,14 +4,8 @@ use Rattle.embed.proofs.Stroking.{drawn}
 use Rattle.embed.proofs.ceviloneth_stroke_side.Statement.{statement}
 use Rattle.embed.proofs.ceviloneth_stroke_side.Tie as tie
 
-side-requires : tie.Need-side-requires
-side-requires c κs = search needs
-
-stroke-of-requires : tie.Need-stroke-of-requires
-stroke-of-requires c κs = search needs
-
 returns : tie.Need-returns
 returns c = drawn _ _ _ (c .before .side .ensures) (c .stroke-of .ensures)
 
 pub ceviloneth-stroke-side-spec : {M : Type 1} → statement M
-ceviloneth-stroke-side-spec = tie.close (tie.spec side-requires stroke-of-requires returns)
+ceviloneth-stroke-side-spec = tie.close (tie.spec (λ c κs. search needs) (λ c κs. search needs) returns)

@@ -4,14 +4,8 @@ use Rattle.embed.proofs.Stroking.{drawn}
 use Rattle.embed.proofs.ceviloneth_stroke_straight.Statement.{statement}
 use Rattle.embed.proofs.ceviloneth_stroke_straight.Tie as tie
 
-straight-requires : tie.Need-straight-requires
-straight-requires c κs = search needs
-
-stroke-of-requires : tie.Need-stroke-of-requires
-stroke-of-requires c κs = search needs
-
 returns : tie.Need-returns
 returns c = drawn _ _ _ (c .before .straight .ensures) (c .stroke-of .ensures)
 
 pub ceviloneth-stroke-straight-spec : {M : Type 1} → statement M
-ceviloneth-stroke-straight-spec = tie.close (tie.spec straight-requires stroke-of-requires returns)
+ceviloneth-stroke-straight-spec = tie.close (tie.spec (λ c κs. search needs) (λ c κs. search needs) returns)

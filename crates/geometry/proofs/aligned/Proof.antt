@@ -19,20 +19,8 @@ module _ (z v : ℤ) (a b c d : ℕ) (hz : Diff z a b) (hv : Diff v c d) (za : a
   diff : Diff (toZ w32 (ofZ w32 z) *ℤ toZ w32 (ofZ w32 v)) (a * c + b * d) (a * d + b * c)
   diff = product-diff w32 65536 256 (lit< tt) (lit< tt) (lit< tt) z v a b c d za zb vc vd hz hv
 
-minus-requires : tie.Need-minus-requires
-minus-requires c κs = search needs
-
-minus-requires-2 : tie.Need-minus-requires-2
-minus-requires-2 c κs = search needs
-
 mul-left : tie.Need-mul-left
 mul-left c = fits _ _ _ _ _ _ (c .before .minus .ensures) (c .minus2 .ensures) (omega arith) (omega arith) (omega arith) (omega arith)
-
-minus-requires-3 : tie.Need-minus-requires-3
-minus-requires-3 c κs = search needs
-
-minus-requires-4 : tie.Need-minus-requires-4
-minus-requires-4 c κs = search needs
 
 mul-right : tie.Need-mul-right
 mul-right c = fits _ _ _ _ _ _ (c .before .minus3 .ensures) (c .minus4 .ensures) (omega arith) (omega arith) (omega arith) (omega arith)
@@ -47,10 +35,10 @@ pub aligned-spec : {M : Type 1} → statement M
 aligned-spec =
     tie.close
     (tie.spec
-    minus-requires
-    minus-requires-2
+    (λ c κs. search needs)
+    (λ c κs. search needs)
     mul-left
-    minus-requires-3
-    minus-requires-4
+    (λ c κs. search needs)
+    (λ c κs. search needs)
     mul-right
     returns)

@@ -5,14 +5,8 @@ use Rattle.geometry.proofs.Crossing.{bend-beside-right, bend-beside-lef
 use Rattle.geometry.proofs.bend_beside.Statement.{statement}
 use Rattle.geometry.proofs.bend_beside.Tie as tie
 
-add-t5 : tie.Need-add-t5
-add-t5 c = search needs
-
 returns : tie.Need-returns
 returns c = sym (bend-beside-right _ _ _ (search needs))
-
-sub-t6 : tie.Need-sub-t6
-sub-t6 c = search needs
 
 returns-2 : tie.Need-returns-2
 returns-2 c = sym (bend-beside-left _ _ _ (search needs))
@@ -21,4 +15,4 @@ returns-3 : tie.Need-returns-3
 returns-3 c = sym (bend-beside-none _ _ _ (search needs) (search needs))
 
 pub bend-beside-spec : {M : Type 1} → statement M
-bend-beside-spec = tie.close (tie.spec add-t5 returns sub-t6 returns-2 returns-3)
+bend-beside-spec = tie.close (tie.spec (λ c. search needs) returns (λ c. search needs) returns-2 returns-3)

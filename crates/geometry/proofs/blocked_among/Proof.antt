@@ -7,29 +7,14 @@ use borrow.Author.Needs.{needs}
 use Rattle.geometry.proofs.blocked_among.Statement.{statement}
 use Rattle.geometry.proofs.blocked_among.Tie as tie
 
-vertex-count-requires : tie.Need-vertex-count-requires
-vertex-count-requires c κs = search needs
-
 returns : tie.Need-returns
 returns c = no-tail _ _ _ _ _ (omega arith)
 
 returns-2 : tie.Need-returns-2
 returns-2 c = no-head _ _ _ _ _ (omega arith)
 
-shared-slice-read-low-rise : tie.Need-shared-slice-read-low-rise
-shared-slice-read-low-rise c = search needs
-
-shared-slice-read-low-rise-2 : tie.Need-shared-slice-read-low-rise-2
-shared-slice-read-low-rise-2 c = search needs
-
-low-rise-requires : tie.Need-low-rise-requires
-low-rise-requires c κs = search needs
-
 returns-3 : tie.Need-returns-3
 returns-3 c = no-rise _ _ _ _ _ (leb-true _ _ (sym (c .before .low-rise .ensures) ∙ c .if3 .taken))
-
-hit-among-requires : tie.Need-hit-among-requires
-hit-among-requires c κs = search needs
 
 returns-4 : tie.Need-returns-4
 returns-4 c =
@@ -38,9 +23,6 @@ returns-4 c =
     rw (n .vertex-count .ensures) at
     (first-blocks (a .low) (a .high) (search needs) (search needs) _ _ _ _ (search needs) (search needs)
     (c .before .hit-among .ensures .holds (c .if4 .taken)))
-
-hit-among-requires-2 : tie.Need-hit-among-requires-2
-hit-among-requires-2 c κs = search needs
 
 returns-5 : tie.Need-returns-5
 returns-5 c =
@@ -53,14 +35,14 @@ pub blocked-among-spec : {M : Type 1} → statement M
 blocked-among-spec =
     tie.close
     (tie.spec
-    vertex-count-requires
+    (λ c κs. search needs)
     returns
     returns-2
-    shared-slice-read-low-rise
-    shared-slice-read-low-rise-2
-    low-rise-requires
+    (λ c. search needs)
+    (λ c. search needs)
+    (λ c κs. search needs)
     returns-3
-    hit-among-requires
+    (λ c κs. search needs)
     returns-4
-    hit-among-requires-2
+    (λ c κs. search needs)
     returns-5)

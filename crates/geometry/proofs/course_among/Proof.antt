@@ -10,9 +10,6 @@ use borrow.Author.Needs.{needs}
 use Rattle.geometry.proofs.course_among.Statement.{statement}
 use Rattle.geometry.proofs.course_among.Tie as tie
 
-blocked-among-requires : tie.Need-blocked-among-requires
-blocked-among-requires c κs = search needs
-
 -- past the test a candidate is in the way
 known : (c : tie.Then1) →
     let a = c .before .before .before .before .args in
@@ -38,9 +35,6 @@ shared-slice-read-bend-beside-3 c = let b = known (c .before .before .before) .b
 sub-bend-beside : tie.Need-sub-bend-beside
 sub-bend-beside c = omega (arith, hit-rise (known (c .before .before .before) .blocked .hit))
 
-bend-beside-requires : tie.Need-bend-beside-requires
-bend-beside-requires c κs = search needs
-
 returns : tie.Need-returns
 returns c = c .bend-beside .ensures ∙ sym (among-blocked _ _ _ _ _ (known (c .before .before .before .before)))
 
@@ -51,13 +45,13 @@ pub course-among-spec : {M : Type 1} → statement M
 course-among-spec =
     tie.close
     (tie.spec
-    blocked-among-requires
+    (λ c κs. search needs)
     mul-bend-beside
     shared-slice-read-bend-beside
     mul-bend-beside-2
     shared-slice-read-bend-beside-2
     shared-slice-read-bend-beside-3
     sub-bend-beside
-    bend-beside-requires
+    (λ c κs. search needs)
     returns
     returns-2)

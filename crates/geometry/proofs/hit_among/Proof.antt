@@ -14,24 +14,6 @@ Inv-loop mask base columns rows n tail head ax ay bx by x₀ x = Visited mask x 
 abbrev μ-loop : tie.MeasureT-loop
 μ-loop mask base columns rows n tail head ax ay bx by x₀ x = x
 
-mul-ax : tie.Need-mul-ax Inv-loop μ-loop
-mul-ax c = search needs
-
-shared-slice-read-ax : tie.Need-shared-slice-read-ax Inv-loop μ-loop
-shared-slice-read-ax c = search needs
-
-shared-slice-read-ay : tie.Need-shared-slice-read-ay Inv-loop μ-loop
-shared-slice-read-ay c = search needs
-
-mul-bx : tie.Need-mul-bx Inv-loop μ-loop
-mul-bx c = search needs
-
-shared-slice-read-bx : tie.Need-shared-slice-read-bx Inv-loop μ-loop
-shared-slice-read-bx c = search needs
-
-shared-slice-read-by : tie.Need-shared-slice-read-by Inv-loop μ-loop
-shared-slice-read-by c = search needs
-
 loop-holds : tie.Need-loop-holds Inv-loop μ-loop
 loop-holds c = visited-none _ _ (search needs)
 
@@ -40,21 +22,6 @@ cast-w c = omega (arith, trailing-le 64 (c .before .loop .x))
 
 add-w : tie.Need-add-w Inv-loop μ-loop
 add-w c = omega (arith, trailing-le 64 (c .before .loop .x))
-
-sub-rest : tie.Need-sub-rest Inv-loop μ-loop
-sub-rest c = search needs
-
-mul-inside : tie.Need-mul-inside Inv-loop μ-loop
-mul-inside c = search needs
-
-shared-slice-read-inside : tie.Need-shared-slice-read-inside Inv-loop μ-loop
-shared-slice-read-inside c = search needs
-
-shared-slice-read-inside-2 : tie.Need-shared-slice-read-inside-2 Inv-loop μ-loop
-shared-slice-read-inside-2 c = search needs
-
-inside-requires : tie.Need-inside-requires Inv-loop μ-loop
-inside-requires c κs = search needs
 
 returns : tie.Need-returns Inv-loop μ-loop
 returns c =
@@ -86,20 +53,20 @@ hit-among-spec =
     (tie.spec
     Inv-loop
     μ-loop
-    mul-ax
-    shared-slice-read-ax
-    shared-slice-read-ay
-    mul-bx
-    shared-slice-read-bx
-    shared-slice-read-by
+    (λ c. search needs)
+    (λ c. search needs)
+    (λ c. search needs)
+    (λ c. search needs)
+    (λ c. search needs)
+    (λ c. search needs)
     loop-holds
     cast-w
     add-w
-    sub-rest
-    mul-inside
-    shared-slice-read-inside
-    shared-slice-read-inside-2
-    inside-requires
+    (λ c. search needs)
+    (λ c. search needs)
+    (λ c. search needs)
+    (λ c. search needs)
+    (λ c κs. search needs)
     returns
     loop-less
     loop-again

@@ -10,11 +10,8 @@ returns c = hit-low _ _ _ (search needs)
 returns-2 : tie.Need-returns-2
 returns-2 c = hit-high _ _ _ (search needs)
 
-aligned-requires : tie.Need-aligned-requires
-aligned-requires c κs = search needs
-
 returns-3 : tie.Need-returns-3
 returns-3 c = hit-between _ _ _ _ (search needs) (search needs) (c .aligned .ensures)
 
 pub inside-spec : {M : Type 1} → statement M
-inside-spec = tie.close (tie.spec returns returns-2 aligned-requires returns-3)
+inside-spec = tie.close (tie.spec returns returns-2 (λ c κs. search needs) returns-3)

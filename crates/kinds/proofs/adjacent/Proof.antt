@@ -8,26 +8,8 @@ use borrow.Author.Needs.{needs}
 use Rattle.kinds.proofs.adjacent.Statement.{statement}
 use Rattle.kinds.proofs.adjacent.Tie as tie
 
-wide-requires : tie.Need-wide-requires
-wide-requires c κs = search needs
-
-add-if1 : tie.Need-add-if1
-add-if1 c = search needs
-
-wide-requires-2 : tie.Need-wide-requires-2
-wide-requires-2 c κs = search needs
-
 returns : tie.Need-returns
 returns c = let a = c .before .before .before .args in sym (next-adjacent (a .p) (a .q) (omega (arith, c .if1 .taken)))
-
-wide-requires-3 : tie.Need-wide-requires-3
-wide-requires-3 c κs = search needs
-
-add-result : tie.Need-add-result
-add-result c = search needs
-
-wide-requires-4 : tie.Need-wide-requires-4
-wide-requires-4 c κs = search needs
 
 returns-2 : tie.Need-returns-2
 returns-2 c =
@@ -39,11 +21,11 @@ pub adjacent-spec : {M : Type 1} → statement M
 adjacent-spec =
     tie.close
     (tie.spec
-    wide-requires
-    add-if1
-    wide-requires-2
+    (λ c κs. search needs)
+    (λ c. search needs)
+    (λ c κs. search needs)
     returns
-    wide-requires-3
-    add-result
-    wide-requires-4
+    (λ c κs. search needs)
+    (λ c. search needs)
+    (λ c κs. search needs)
     returns-2)

@@ -10,15 +10,6 @@ use borrow.Author.Needs.{needs}
 use Rattle.kinds.proofs.course_between.Statement.{statement}
 use Rattle.kinds.proofs.course_between.Tie as tie
 
-byte-at-requires : tie.Need-byte-at-requires
-byte-at-requires c κs = search needs
-
-byte-at-requires-2 : tie.Need-byte-at-requires-2
-byte-at-requires-2 c κs = search needs
-
-low-rise-requires : tie.Need-low-rise-requires
-low-rise-requires c κs = search needs
-
 returns : tie.Need-returns
 returns c =
     let b = c .before .before in
@@ -27,63 +18,6 @@ returns c =
     let p = b .before .byte-at .ensures in
     let q = b .byte-at2 .ensures in
     sym (among-low _ _ _ _ _ (let h : getD (a .rows .now) (a .v) 0 ≤ getD (a .rows .now) (a .u) 0 + 1 = omega arith in h))
-
-wide-requires : tie.Need-wide-requires
-wide-requires c κs = search needs
-
-mul-high : tie.Need-mul-high
-mul-high c = search needs
-
-wide-requires-2 : tie.Need-wide-requires-2
-wide-requires-2 c κs = search needs
-
-add-low : tie.Need-add-low
-add-low c = search needs
-
-mul-low : tie.Need-mul-low
-mul-low c = search needs
-
-wide-requires-3 : tie.Need-wide-requires-3
-wide-requires-3 c κs = search needs
-
-wide-requires-4 : tie.Need-wide-requires-4
-wide-requires-4 c κs = search needs
-
-largest-requires : tie.Need-largest-requires
-largest-requires c κs = search needs
-
-mul-to : tie.Need-mul-to
-mul-to c = search needs
-
-least-requires : tie.Need-least-requires
-least-requires c κs = search needs
-
-add-from : tie.Need-add-from
-add-from c = search needs
-
-mul-from : tie.Need-mul-from
-mul-from c = search needs
-
-inner-requires : tie.Need-inner-requires
-inner-requires c κs = search needs
-
-add-inner : tie.Need-add-inner
-add-inner c = search needs
-
-add-inner-2 : tie.Need-add-inner-2
-add-inner-2 c = search needs
-
-add-inner-3 : tie.Need-add-inner-3
-add-inner-3 c = search needs
-
-add-inner-4 : tie.Need-add-inner-4
-add-inner-4 c = search needs
-
-inner-requires-2 : tie.Need-inner-requires-2
-inner-requires-2 c κs = search needs
-
-course-among-requires : tie.Need-course-among-requires
-course-among-requires c κs = search needs
 
 returns-2 : tie.Need-returns-2
 returns-2 c =
@@ -104,27 +38,27 @@ pub course-between-spec : {M : Type 1} → statement M
 course-between-spec =
     tie.close
     (tie.spec
-    byte-at-requires
-    byte-at-requires-2
-    low-rise-requires
+    (λ c κs. search needs)
+    (λ c κs. search needs)
+    (λ c κs. search needs)
     returns
-    wide-requires
-    mul-high
-    wide-requires-2
-    add-low
-    mul-low
-    wide-requires-3
-    wide-requires-4
-    largest-requires
-    mul-to
-    least-requires
-    add-from
-    mul-from
-    inner-requires
-    add-inner
-    add-inner-2
-    add-inner-3
-    add-inner-4
-    inner-requires-2
-    course-among-requires
+    (λ c κs. search needs)
+    (λ c. search needs)
+    (λ c κs. search needs)
+    (λ c. search needs)
+    (λ c. search needs)
+    (λ c κs. search needs)
+    (λ c κs. search needs)
+    (λ c κs. search needs)
+    (λ c. search needs)
+    (λ c κs. search needs)
+    (λ c. search needs)
+    (λ c. search needs)
+    (λ c κs. search needs)
+    (λ c. search needs)
+    (λ c. search needs)
+    (λ c. search needs)
+    (λ c. search needs)
+    (λ c κs. search needs)
+    (λ c κs. search needs)
     returns-2)

@@ -9,9 +9,6 @@ use Rattle.kinds.proofs.crossed.Tie as tie
 enum-told : tie.Need-enum-told
 enum-told c = search needs
 
-enum-known-c : tie.Need-enum-known-c
-enum-known-c c = search needs
-
 returns : tie.Need-returns
 unfolding codeOf
 returns c = ap (λ x. codeOf (crossing x)) (sym (c .enum-told .given .1))
@@ -21,4 +18,4 @@ unfolding codeOf
 returns-2 c = ap (λ x. codeOf (crossing x)) (sym (c .before .c .given .1))
 
 pub crossed-spec : {M : Type 1} → statement M
-crossed-spec = tie.close (tie.spec enum-told enum-known-c returns returns-2)
+crossed-spec = tie.close (tie.spec enum-told (λ c. search needs) returns returns-2)

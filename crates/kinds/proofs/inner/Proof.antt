@@ -4,18 +4,6 @@ use borrow.Author.Needs.{needs}
 use Rattle.kinds.proofs.inner.Statement.{statement}
 use Rattle.kinds.proofs.inner.Tie as tie
 
-mask-at-requires : tie.Need-mask-at-requires
-mask-at-requires c κs = search needs
-
-mask-at-requires-2 : tie.Need-mask-at-requires-2
-mask-at-requires-2 c κs = search needs
-
-mask-at-requires-3 : tie.Need-mask-at-requires-3
-mask-at-requires-3 c κs = search needs
-
-mask-at-requires-4 : tie.Need-mask-at-requires-4
-mask-at-requires-4 c κs = search needs
-
 returns : tie.Need-returns
 returns c =
     let b = c .before .before in
@@ -24,4 +12,4 @@ returns c =
 pub inner-spec : {M : Type 1} → statement M
 inner-spec =
     tie.close
-    (tie.spec mask-at-requires mask-at-requires-2 mask-at-requires-3 mask-at-requires-4 returns)
+    (tie.spec (λ c κs. search needs) (λ c κs. search needs) (λ c κs. search needs) (λ c κs. search needs) returns)

@@ -19,53 +19,11 @@ abbrev μ-loop : tie.MeasureT-loop
 loop-holds : tie.Need-loop-holds Inv-loop μ-loop
 loop-holds c = (zero-le, refl, λ n key g. g)
 
-mul-i : tie.Need-mul-i Inv-loop μ-loop
-mul-i c = search needs
-
-mul-a : tie.Need-mul-a Inv-loop μ-loop
-mul-a c = search needs
-
-slice-read-a : tie.Need-slice-read-a Inv-loop μ-loop
-slice-read-a c = search needs
-
-add-b : tie.Need-add-b Inv-loop μ-loop
-add-b c = search needs
-
-mul-b : tie.Need-mul-b Inv-loop μ-loop
-mul-b c = search needs
-
-slice-read-b : tie.Need-slice-read-b Inv-loop μ-loop
-slice-read-b c = search needs
-
-add-sets : tie.Need-add-sets Inv-loop μ-loop
-add-sets c = search needs
-
-mul-sets : tie.Need-mul-sets Inv-loop μ-loop
-mul-sets c = search needs
-
-slice-read-sets : tie.Need-slice-read-sets Inv-loop μ-loop
-slice-read-sets c = search needs
-
-slice-write-sets : tie.Need-slice-write-sets Inv-loop μ-loop
-slice-write-sets c = search needs
-
-add-sets-2 : tie.Need-add-sets-2 Inv-loop μ-loop
-add-sets-2 c = search needs
-
-mul-sets-2 : tie.Need-mul-sets-2 Inv-loop μ-loop
-mul-sets-2 c = search needs
-
 slice-read-sets-2 : tie.Need-slice-read-sets-2 Inv-loop μ-loop
 slice-read-sets-2 c = simp length-set (omega arith)
 
 slice-write-sets-2 : tie.Need-slice-write-sets-2 Inv-loop μ-loop
 slice-write-sets-2 c = simp length-set (omega arith)
-
-add-k : tie.Need-add-k Inv-loop μ-loop
-add-k c = search needs
-
-loop-less : tie.Need-loop-less Inv-loop μ-loop
-loop-less c = search needs
 
 loop-again : tie.Need-loop-again Inv-loop μ-loop
 loop-again c =
@@ -74,9 +32,6 @@ loop-again c =
       twice-length (l .sets) (2 * l .k + 2) (2 * l .k + 3) (getD (l .sets) (2 * l .k) 0) (getD (l .sets) (2 * l .k + 1) 0) ∙ l .inv .1,
       λ n key g. stage-pair _ _ _ _ _ _ (omega arith) refl (l .inv .2 n key g),
     )
-
-same-length : tie.Need-same-length Inv-loop μ-loop
-same-length c = search needs
 
 returns : tie.Need-returns Inv-loop μ-loop
 returns c =
@@ -92,22 +47,22 @@ join-spec =
     Inv-loop
     μ-loop
     loop-holds
-    mul-i
-    mul-a
-    slice-read-a
-    add-b
-    mul-b
-    slice-read-b
-    add-sets
-    mul-sets
-    slice-read-sets
-    slice-write-sets
-    add-sets-2
-    mul-sets-2
+    (λ c. search needs)
+    (λ c. search needs)
+    (λ c. search needs)
+    (λ c. search needs)
+    (λ c. search needs)
+    (λ c. search needs)
+    (λ c. search needs)
+    (λ c. search needs)
+    (λ c. search needs)
+    (λ c. search needs)
+    (λ c. search needs)
+    (λ c. search needs)
     slice-read-sets-2
     slice-write-sets-2
-    add-k
-    loop-less
+    (λ c. search needs)
+    (λ c. search needs)
     loop-again
-    same-length
+    (λ c. search needs)
     returns)

@@ -5,25 +5,13 @@ use borrow.Author.Needs.{needs}
 use Rattle.kinds.proofs.kind_of.Statement.{statement}
 use Rattle.kinds.proofs.kind_of.Tie as tie
 
-adjacent-requires : tie.Need-adjacent-requires
-adjacent-requires c κs = search needs
-
 returns : tie.Need-returns
 returns c = code-path _ _ _ _ _ _ _ _ _ _ _ _ (c .before .before .if1 .taken) (sym (c .before .adjacent .ensures) ∙ c .if2 .taken)
-
-lesser-requires : tie.Need-lesser-requires
-lesser-requires c κs = search needs
 
 returns-2 : tie.Need-returns-2
 returns-2 c =
     code-bundle _ _ _ _ _ _ _ _ _ _ _ _ _ (c .lesser .ensures)
     (c .before .before .before .if1 .taken) (sym (c .before .before .adjacent .ensures) ∙ c .before .if2 .left)
-
-course-between-requires : tie.Need-course-between-requires
-course-between-requires c κs = search needs
-
-crossed-requires : tie.Need-crossed-requires
-crossed-requires c κs = search needs
 
 returns-3 : tie.Need-returns-3
 returns-3 c =
@@ -33,10 +21,10 @@ pub kind-of-spec : {M : Type 1} → statement M
 kind-of-spec =
     tie.close
     (tie.spec
-    adjacent-requires
+    (λ c κs. search needs)
     returns
-    lesser-requires
+    (λ c κs. search needs)
     returns-2
-    course-between-requires
-    crossed-requires
+    (λ c κs. search needs)
+    (λ c κs. search needs)
     returns-3)

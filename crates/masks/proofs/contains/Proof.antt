@@ -7,12 +7,6 @@ use borrow.Author.Needs.{needs}
 use Rattle.masks.proofs.contains.Statement.{statement}
 use Rattle.masks.proofs.contains.Tie as tie
 
-mask-at-requires : tie.Need-mask-at-requires
-mask-at-requires c κs = search needs
-
-shr-result : tie.Need-shr-result
-shr-result c = search needs
-
 returns : tie.Need-returns
 returns c =
     let a = c .before .before .args in
@@ -20,4 +14,4 @@ returns c =
     ∙ ap (λ (x : ℕ). eqb x 1) (member-test (a .masks .now) (a .first) (a .v))
 
 pub contains-spec : {M : Type 1} → statement M
-contains-spec = tie.close (tie.spec mask-at-requires shr-result returns)
+contains-spec = tie.close (tie.spec (λ c κs. search needs) (λ c. search needs) returns)

@@ -19,9 +19,6 @@ returns c =
     let out : length (a .masks .now) ≤ i = omega arith in
     (sym (le-ltb i (length (a .masks .now)) out), sym (set-out (a .masks .now) i _ out))
 
-sub-if2 : tie.Need-sub-if2
-sub-if2 c = search needs
-
 returns-2 : tie.Need-returns-2
 unfolding inserted
 returns-2 c =
@@ -29,24 +26,6 @@ returns-2 c =
     let i : ℕ = a .first + a .v / 64 in
     let out : length (a .masks .now) ≤ i = omega arith in
     (sym (le-ltb i (length (a .masks .now)) out), sym (set-out (a .masks .now) i _ out))
-
-add-i : tie.Need-add-i
-add-i c = search needs
-
-shl-masks : tie.Need-shl-masks
-shl-masks c = search needs
-
-mul-masks : tie.Need-mul-masks
-mul-masks c = search needs
-
-slice-read-masks : tie.Need-slice-read-masks
-slice-read-masks c = search needs
-
-slice-write-masks : tie.Need-slice-write-masks
-slice-write-masks c = search needs
-
-same-length : tie.Need-same-length
-same-length c = search needs
 
 returns-3 : tie.Need-returns-3
 unfolding inserted
@@ -60,12 +39,12 @@ insert-spec =
     tie.close
     (tie.spec
     returns
-    sub-if2
+    (λ c. search needs)
     returns-2
-    add-i
-    shl-masks
-    mul-masks
-    slice-read-masks
-    slice-write-masks
-    same-length
+    (λ c. search needs)
+    (λ c. search needs)
+    (λ c. search needs)
+    (λ c. search needs)
+    (λ c. search needs)
+    (λ c. search needs)
     returns-3)

@@ -1,4 +1,4 @@
-use mathlib.Core.Path.{_≡_, refl, sym, _∙_, subst}
+use mathlib.Core.Path.{_≡_, refl, sym, subst}
 use mathlib.Core.Bool.{true≢false}
 use Prim.Native.Nat.{ℕ, _+_, _-_, _≤_, _<_, zero-le}
 use native.Mathlib.Omega.{arith}
@@ -19,9 +19,6 @@ abbrev μ-loop : tie.MeasureT-loop
 returns : tie.Need-returns Inv-loop μ-loop
 returns c = (sym (lt-leb _ _ (let l : length (c .before .args .masks .now) < c .before .args .first + length (c .before .args .other .now) = omega arith in l)), ((λ e. absurd (true≢false (sym e))), λ e. refl))
 
-sub-if2 : tie.Need-sub-if2 Inv-loop μ-loop
-sub-if2 c = search needs
-
 returns-2 : tie.Need-returns-2 Inv-loop μ-loop
 returns-2 c = (sym (lt-leb _ _ (let l : length (c .before .before .args .masks .now) < c .before .before .args .first + length (c .before .before .args .other .now) = omega arith in l)), ((λ e. absurd (true≢false (sym e))), λ e. refl))
 
@@ -30,38 +27,11 @@ loop-holds c =
     let a = c .before .before .args in
     (zero-le, refl, omega arith, united-none (a .masks .now) (a .first) (a .other .now))
 
-mul-masks : tie.Need-mul-masks Inv-loop μ-loop
-mul-masks c = search needs
-
-shared-slice-read-masks : tie.Need-shared-slice-read-masks Inv-loop μ-loop
-shared-slice-read-masks c = search needs
-
-add-masks : tie.Need-add-masks Inv-loop μ-loop
-add-masks c = search needs
-
-mul-masks-2 : tie.Need-mul-masks-2 Inv-loop μ-loop
-mul-masks-2 c = search needs
-
-slice-read-masks : tie.Need-slice-read-masks Inv-loop μ-loop
-slice-read-masks c = search needs
-
-slice-write-masks : tie.Need-slice-write-masks Inv-loop μ-loop
-slice-write-masks c = search needs
-
-add-i : tie.Need-add-i Inv-loop μ-loop
-add-i c = search needs
-
-loop-less : tie.Need-loop-less Inv-loop μ-loop
-loop-less c = search needs
-
 loop-again : tie.Need-loop-again Inv-loop μ-loop
 loop-again c =
     let a = c .before .before .before .before .before .before .args in
     let l = c .before .before .before .loop in
     (omega arith, refl, omega arith, united-more (a .masks .now) (a .first) (a .other .now) (l .i) (l .masks) (let e = l .inv .3 .size in omega arith) (l .inv .3))
-
-same-length : tie.Need-same-length Inv-loop μ-loop
-same-length c = search needs
 
 returns-3 : tie.Need-returns-3 Inv-loop μ-loop
 returns-3 c =
@@ -77,17 +47,17 @@ unite-spec =
     Inv-loop
     μ-loop
     returns
-    sub-if2
+    (λ c. search needs)
     returns-2
     loop-holds
-    mul-masks
-    shared-slice-read-masks
-    add-masks
-    mul-masks-2
-    slice-read-masks
-    slice-write-masks
-    add-i
-    loop-less
+    (λ c. search needs)
+    (λ c. search needs)
+    (λ c. search needs)
+    (λ c. search needs)
+    (λ c. search needs)
+    (λ c. search needs)
+    (λ c. search needs)
+    (λ c. search needs)
     loop-again
-    same-length
+    (λ c. search needs)
     returns-3)

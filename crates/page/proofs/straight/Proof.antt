@@ -24,12 +24,6 @@ tested c =
 on : (c : tie.Else1) → AllOn (cells (c .before .before .before))
 on c = clear (cells (c .before .before .before)) (tested (c .before) ∙ c .if1 .left)
 
-off-page-requires : tie.Need-off-page-requires
-off-page-requires c κs = search needs
-
-off-page-requires-2 : tie.Need-off-page-requires-2
-off-page-requires-2 c κs = search needs
-
 returns : tie.Need-returns
 returns c = refuse _ (tested (c .before) ∙ c .if1 .taken)
 
@@ -51,8 +45,8 @@ pub straight-spec : {M : Type 1} → statement M
 straight-spec =
     tie.close
     (tie.spec
-    off-page-requires
-    off-page-requires-2
+    (λ c κs. search needs)
+    (λ c κs. search needs)
     returns
     point-at-requires
     point-at-requires-2

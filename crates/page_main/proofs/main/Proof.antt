@@ -17,73 +17,40 @@ numbers w = ap (λ (a : Answer). a .number) (w .answer)
 begins : {cs : List Cell} {r : Polyline} (x y : Float) → Answers cs r → beginsAt (answerOf r .points) x y ≡ beginsAt (answerFor cs .points) x y
 begins x y w = ap (λ (a : Answer). beginsAt (a .points) x y) (w .answer)
 
-straight-requires : tie.Need-straight-requires
-straight-requires c κs = search needs
-
-begins-at-requires : tie.Need-begins-at-requires
-begins-at-requires c κs = search needs
-
 expect-requires : tie.Need-expect-requires
 unfolding toPoints round eq ofBits
 expect-requires c κs = c .begins-at .ensures ∙ begins _ _ (c .before .straight .ensures)
-
-bent-requires : tie.Need-bent-requires
-bent-requires c κs = search needs
-
-begins-at-requires-2 : tie.Need-begins-at-requires-2
-begins-at-requires-2 c κs = search needs
 
 expect-requires-2 : tie.Need-expect-requires-2
 unfolding toPoints round eq ofBits
 expect-requires-2 c κs = c .begins-at2 .ensures ∙ begins _ _ (c .before .bent .ensures)
 
-straight-requires-2 : tie.Need-straight-requires-2
-straight-requires-2 c κs = search needs
-
-number-requires : tie.Need-number-requires
-number-requires c κs = search needs
-
 expect-requires-3 : tie.Need-expect-requires-3
 expect-requires-3 c κs = eq-eqb (c .number .result) 10 (c .number .ensures ∙ numbers (c .before .straight2 .ensures))
-
-bent-requires-2 : tie.Need-bent-requires-2
-bent-requires-2 c κs = search needs
-
-number-requires-2 : tie.Need-number-requires-2
-number-requires-2 c κs = search needs
 
 expect-requires-4 : tie.Need-expect-requires-4
 expect-requires-4 c κs = eq-eqb (c .number2 .result) 10 (c .number2 .ensures ∙ numbers (c .before .bent2 .ensures))
 
-side-requires : tie.Need-side-requires
-side-requires c κs = search needs
-
-number-requires-3 : tie.Need-number-requires-3
-number-requires-3 c κs = search needs
-
 expect-requires-5 : tie.Need-expect-requires-5
 expect-requires-5 c κs = eq-eqb (c .number3 .result) 0 (c .number3 .ensures ∙ numbers (c .before .side .ensures))
-
-returns : tie.Need-returns
-returns c = search needs
 
 pub main-spec : {M : Type 1} → statement M
 main-spec =
     tie.close
     (tie.spec
-    straight-requires
-    begins-at-requires
+    (λ c κs. search needs)
+    (λ c κs. search needs)
     expect-requires
-    bent-requires
-    begins-at-requires-2
+    (λ c κs. search needs)
+    (λ c κs. search needs)
     expect-requires-2
-    straight-requires-2
-    number-requires
+    (λ c κs. search needs)
+    (λ c κs. search needs)
     expect-requires-3
-    bent-requires-2
-    number-requires-2
+    (λ c κs. search needs)
+    (λ c κs. search needs)
     expect-requires-4
-    side-requires
-    number-requires-3
+    (λ c κs. search needs)
+    (λ c κs. search needs)
     expect-requires-5
-    returns)
+    (λ c. search needs))

@@ -4,18 +4,6 @@ use borrow.Author.Needs.{needs}
 use Rattle.planning.proofs.chained.Statement.{statement}
 use Rattle.planning.proofs.chained.Tie as tie
 
-capped-requires : tie.Need-capped-requires
-capped-requires c κs = search needs
-
-matched-requires : tie.Need-matched-requires
-matched-requires c κs = search needs
-
-slice-aggregate-chains : tie.Need-slice-aggregate-chains
-slice-aggregate-chains c = search needs
-
-chains-requires : tie.Need-chains-requires
-chains-requires c κs = search needs
-
 returns : tie.Need-returns
 returns c =
     let m = c .before .before in
@@ -25,8 +13,8 @@ pub chained-spec : {M : Type 1} → statement M
 chained-spec =
     tie.close
     (tie.spec
-    capped-requires
-    matched-requires
-    slice-aggregate-chains
-    chains-requires
+    (λ c κs. search needs)
+    (λ c κs. search needs)
+    (λ c. search needs)
+    (λ c κs. search needs)
     returns)

@@ -16,17 +16,8 @@ Inv-loop predecessor n successor channel₀ position₀ count₀ v₀ channel po
 abbrev μ-loop : tie.MeasureT-loop
 μ-loop predecessor n successor channel₀ position₀ count₀ v₀ channel position count v = n - v
 
-successors-requires : tie.Need-successors-requires Inv-loop μ-loop
-successors-requires c κs = search needs
-
 loop-holds : tie.Need-loop-holds Inv-loop μ-loop
 loop-holds c = laid-none _ _ _ (arranged-none 0)
-
-shared-slice-read-p : tie.Need-shared-slice-read-p Inv-loop μ-loop
-shared-slice-read-p c = search needs
-
-add-next : tie.Need-add-next Inv-loop μ-loop
-add-next c = search needs
 
 slice-aggregate-with-chain : tie.Need-slice-aggregate-with-chain Inv-loop μ-loop
 slice-aggregate-with-chain c = sym (c .before .before .before .before .loop .inv .arranged .sizes .0)
@@ -68,9 +59,6 @@ loop-again c =
     laid-chain _ _ (f .before .before .pre .0) _ (f .successors .ensures) _ _ (o .loop .inv) (l .loop-test .taken) (i .if1 .taken)
     _ (w .with-chain .ensures)
 
-loop-less-2 : tie.Need-loop-less-2 Inv-loop μ-loop
-loop-less-2 c = search needs
-
 loop-again-2 : tie.Need-loop-again-2 Inv-loop μ-loop
 loop-again-2 c =
     let o = c .before .before .before in
@@ -95,10 +83,10 @@ chains-spec =
     (tie.spec
     Inv-loop
     μ-loop
-    successors-requires
+    (λ c κs. search needs)
     loop-holds
-    shared-slice-read-p
-    add-next
+    (λ c. search needs)
+    (λ c. search needs)
     slice-aggregate-with-chain
     slice-aggregate-with-chain-2
     slice-aggregate-with-chain-3
@@ -106,7 +94,7 @@ chains-spec =
     add-count
     loop-less
     loop-again
-    loop-less-2
+    (λ c. search needs)
     loop-again-2
     cast-t21
     returns)

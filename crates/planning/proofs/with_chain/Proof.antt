@@ -52,9 +52,6 @@ shared-slice-read-wide c =
     let a = t .before .before .before .before .before in
     omega (arith, a .pre .0, a .pre .1, t .loop-test .taken)
 
-wide-requires : tie.Need-wide-requires Inv-loop μ-loop
-wide-requires c κs = search needs
-
 loop-less : tie.Need-loop-less Inv-loop μ-loop
 loop-less c =
     let o = c .before .before .before in
@@ -97,7 +94,7 @@ with-chain-spec =
     slice-write-position
     add-p
     shared-slice-read-wide
-    wide-requires
+    (λ c κs. search needs)
     loop-less
     loop-again
     same-length

@@ -8,19 +8,13 @@ returns : tie.Need-returns
 unfolding advanced
 returns c = simp (le-ltb _ _ (c .if1 .taken))
 
-shared-slice-read-if2 : tie.Need-shared-slice-read-if2
-shared-slice-read-if2 c = search needs
-
 returns-2 : tie.Need-returns-2
 unfolding advanced
 returns-2 c = simp (lt-ltb _ _ (c .before .before .if1 .left), ne-eqb _ _ (c .if2 .taken))
-
-add-result : tie.Need-add-result
-add-result c = search needs
 
 returns-3 : tie.Need-returns-3
 unfolding advanced
 returns-3 c = simp (lt-ltb _ _ (c .before .before .if1 .left), eq-eqb _ _ (c .if2 .left))
 
 pub advance-spec : {M : Type 1} → statement M
-advance-spec = tie.close (tie.spec returns shared-slice-read-if2 returns-2 add-result returns-3)
+advance-spec = tie.close (tie.spec returns (λ c. search needs) returns-2 (λ c. search needs) returns-3)

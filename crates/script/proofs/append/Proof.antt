@@ -16,21 +16,6 @@ returns-2 : tie.Need-returns-2
 unfolding appended digit?
 returns-2 c = simp (le-leb _ _ (c .before .if1 .left), lt-leb _ _ (c .if2 .taken))
 
-capped-requires : tie.Need-capped-requires
-capped-requires c κs = search needs
-
-mul-capped : tie.Need-mul-capped
-mul-capped c = search needs
-
-cast-capped : tie.Need-cast-capped
-cast-capped c = search needs
-
-add-capped : tie.Need-add-capped
-add-capped c = search needs
-
-capped-requires-2 : tie.Need-capped-requires-2
-capped-requires-2 c κs = search needs
-
 returns-3 : tie.Need-returns-3
 unfolding appended digit?
 returns-3 c =
@@ -43,9 +28,9 @@ append-spec =
     (tie.spec
     returns
     returns-2
-    capped-requires
-    mul-capped
-    cast-capped
-    add-capped
-    capped-requires-2
+    (λ c κs. search needs)
+    (λ c. search needs)
+    (λ c. search needs)
+    (λ c. search needs)
+    (λ c κs. search needs)
     returns-3)

@@ -8,9 +8,6 @@ use Rattle.search.proofs.Open.{open-low, open-high, open-none}
 use Rattle.search.proofs.first_open.Statement.{statement}
 use Rattle.search.proofs.first_open.Tie as tie
 
-shared-slice-read-x : tie.Need-shared-slice-read-x
-shared-slice-read-x c = search needs
-
 cast-result : tie.Need-cast-result
 cast-result c = let a = c .before .before .args in omega (arith, trailing-le 64 (without (a .low) (getD (a .visited .now) 0 0)))
 
@@ -18,9 +15,6 @@ returns : tie.Need-returns
 returns c =
     let o = c .before .before in
     open-low _ (o .args .high) _ (λ i. c .before .shared-slice-known .given i .fits) (o .fits .low .fits) (o .fits .high .fits) (c .if1 .taken)
-
-shared-slice-read-y : tie.Need-shared-slice-read-y
-shared-slice-read-y c = search needs
 
 cast-result-2 : tie.Need-cast-result-2
 cast-result-2 c = let a = c .before .before .before .before .args in omega (arith, trailing-le 64 (without (a .high) (getD (a .visited .now) 1 0)))
@@ -44,10 +38,10 @@ pub first-open-spec : {M : Type 1} → statement M
 first-open-spec =
     tie.close
     (tie.spec
-    shared-slice-read-x
+    (λ c. search needs)
     cast-result
     returns
-    shared-slice-read-y
+    (λ c. search needs)
     cast-result-2
     add-result
     returns-2

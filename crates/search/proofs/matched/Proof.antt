@@ -16,32 +16,14 @@ Inv-loop table n most predecessor₀ h₀ predecessor h = (h ≤ most) × (lengt
 abbrev μ-loop : tie.MeasureT-loop
 μ-loop table n most predecessor₀ h₀ predecessor h = most - h
 
-capped-requires : tie.Need-capped-requires Inv-loop μ-loop
-capped-requires c κs = search needs
-
 loop-holds : tie.Need-loop-holds Inv-loop μ-loop
 loop-holds c =
     (omega arith, refl, ask-none _ _)
-
-wide-requires : tie.Need-wide-requires Inv-loop μ-loop
-wide-requires c κs = search needs
-
-slice-aggregate-augment : tie.Need-slice-aggregate-augment Inv-loop μ-loop
-slice-aggregate-augment c = search needs
-
-slice-aggregate-augment-2 : tie.Need-slice-aggregate-augment-2 Inv-loop μ-loop
-slice-aggregate-augment-2 c = search needs
 
 augment-requires : tie.Need-augment-requires Inv-loop μ-loop
 augment-requires c κs =
     let o = c .before .before .before .before in
     (omega arith, o .loop .inv .1, refl)
-
-add-h : tie.Need-add-h Inv-loop μ-loop
-add-h c = search needs
-
-loop-less : tie.Need-loop-less Inv-loop μ-loop
-loop-less c = search needs
 
 loop-again : tie.Need-loop-again Inv-loop μ-loop
 loop-again c =
@@ -60,13 +42,13 @@ matched-spec =
     (tie.spec
     Inv-loop
     μ-loop
-    capped-requires
+    (λ c κs. search needs)
     loop-holds
-    wide-requires
-    slice-aggregate-augment
-    slice-aggregate-augment-2
+    (λ c κs. search needs)
+    (λ c. search needs)
+    (λ c. search needs)
     augment-requires
-    add-h
-    loop-less
+    (λ c. search needs)
+    (λ c. search needs)
     loop-again
     returns)

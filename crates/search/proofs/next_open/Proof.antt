@@ -4,24 +4,6 @@ use Rattle.search.proofs.Open.{row-open, code-row}
 use Rattle.search.proofs.next_open.Statement.{statement}
 use Rattle.search.proofs.next_open.Tie as tie
 
-wide-requires : tie.Need-wide-requires
-wide-requires c κs = search needs
-
-mul-row : tie.Need-mul-row
-mul-row c = search needs
-
-mask-of-requires : tie.Need-mask-of-requires
-mask-of-requires c κs = search needs
-
-add-mask-of : tie.Need-add-mask-of
-add-mask-of c = search needs
-
-mask-of-requires-2 : tie.Need-mask-of-requires-2
-mask-of-requires-2 c κs = search needs
-
-first-open-requires : tie.Need-first-open-requires
-first-open-requires c κs = search needs
-
 returns : tie.Need-returns
 returns c =
     let m2 = c .before in
@@ -35,10 +17,10 @@ pub next-open-spec : {M : Type 1} → statement M
 next-open-spec =
     tie.close
     (tie.spec
-    wide-requires
-    mul-row
-    mask-of-requires
-    add-mask-of
-    mask-of-requires-2
-    first-open-requires
+    (λ c κs. search needs)
+    (λ c. search needs)
+    (λ c κs. search needs)
+    (λ c. search needs)
+    (λ c κs. search needs)
+    (λ c κs. search needs)
     returns)

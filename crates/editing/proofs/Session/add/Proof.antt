@@ -6,9 +6,6 @@ use Rattle.editing.proofs.Sessions.{add-refused, add-accepted}
 use Rattle.editing.proofs.Session.add.Statement.{statement}
 use Rattle.editing.proofs.Session.add.Tie as tie
 
-refusal-of-requires : tie.Need-refusal-of-requires
-refusal-of-requires c κs = search needs
-
 returns : tie.Need-returns
 returns c =
     let a = c .before .before .args in
@@ -23,9 +20,6 @@ slice-aggregate-insert c = search needs
 
 mul-insert : tie.Need-mul-insert
 mul-insert c = omega (arith, free (c .before .before) .0)
-
-insert-requires : tie.Need-insert-requires
-insert-requires c κs = search needs
 
 slice-aggregate-link : tie.Need-slice-aggregate-link
 slice-aggregate-link c = search needs
@@ -50,11 +44,11 @@ pub add-spec : {M : Type 1} → statement M
 add-spec =
     tie.close
     (tie.spec
-    refusal-of-requires
+    (λ c κs. search needs)
     returns
     slice-aggregate-insert
     mul-insert
-    insert-requires
+    (λ c κs. search needs)
     slice-aggregate-link
     link-requires
     add-t11

@@ -5,9 +5,6 @@ use Rattle.editing.proofs.Sessions.{outside-tail, outside-head, inside,
 use Rattle.editing.proofs.Session.leads.Statement.{statement}
 use Rattle.editing.proofs.Session.leads.Tie as tie
 
-capped-requires : tie.Need-capped-requires
-capped-requires c κs = search needs
-
 returns : tie.Need-returns
 returns c =
     let a = c .before .before .args in
@@ -20,14 +17,8 @@ returns-2 c =
     let k = c .before .before .capped .ensures in
     leads-outside (a .self) (a .tail) (a .head) (outside-head (a .self) (a .tail) (a .head) (omega arith))
 
-slice-aggregate-contains : tie.Need-slice-aggregate-contains
-slice-aggregate-contains c = search needs
-
 mul-contains : tie.Need-mul-contains
 mul-contains c = let k = c .before .before .before .before .capped .ensures in omega arith
-
-contains-requires : tie.Need-contains-requires
-contains-requires c κs = search needs
 
 returns-3 : tie.Need-returns-3
 unfolding at
@@ -39,4 +30,4 @@ returns-3 c =
 pub leads-spec : {M : Type 1} → statement M
 leads-spec =
     tie.close
-    (tie.spec capped-requires returns returns-2 slice-aggregate-contains mul-contains contains-requires returns-3)
+    (tie.spec (λ c κs. search needs) returns returns-2 (λ c. search needs) mul-contains (λ c κs. search needs) returns-3)

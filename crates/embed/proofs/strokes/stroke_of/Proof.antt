@@ -4,32 +4,8 @@ use Rattle.embed.proofs.Stroking.{straight-case, bent-case, side-case, 
 use Rattle.embed.proofs.strokes.stroke_of.Statement.{statement}
 use Rattle.embed.proofs.strokes.stroke_of.Tie as tie
 
-nowhere-requires : tie.Need-nowhere-requires
-nowhere-requires c κs = search needs
-
-enum-known-p : tie.Need-enum-known-p
-enum-known-p c = search needs
-
-joined-requires : tie.Need-joined-requires
-joined-requires c κs = search needs
-
-enum-known-p-2 : tie.Need-enum-known-p-2
-enum-known-p-2 c = search needs
-
-joined-requires-2 : tie.Need-joined-requires-2
-joined-requires-2 c κs = search needs
-
-enum-known-p-3 : tie.Need-enum-known-p-3
-enum-known-p-3 c = search needs
-
-joined-requires-3 : tie.Need-joined-requires-3
-joined-requires-3 c κs = search needs
-
 enum-told : tie.Need-enum-told
 enum-told c = search needs
-
-joined-requires-4 : tie.Need-joined-requires-4
-joined-requires-4 c κs = search needs
 
 returns : tie.Need-returns
 returns c = let st = c .before .before in straight-case _ _ (st .before .before .nowhere .ensures) _ _ _ (st .p .given .1) (c .joined .ensures)
@@ -47,15 +23,15 @@ pub stroke-of-spec : {M : Type 1} → statement M
 stroke-of-spec =
     tie.close
     (tie.spec
-    nowhere-requires
-    enum-known-p
-    joined-requires
-    enum-known-p-2
-    joined-requires-2
-    enum-known-p-3
-    joined-requires-3
+    (λ c κs. search needs)
+    (λ c. search needs)
+    (λ c κs. search needs)
+    (λ c. search needs)
+    (λ c κs. search needs)
+    (λ c. search needs)
+    (λ c κs. search needs)
     enum-told
-    joined-requires-4
+    (λ c κs. search needs)
     returns
     returns-2
     returns-3

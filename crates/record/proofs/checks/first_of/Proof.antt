@@ -11,9 +11,6 @@ returns c = let a = c .before .before .args in first-low (a .k) (a .given) (unkn
 returns-2 : tie.Need-returns-2
 returns-2 c = let a = c .before .before .before .args in first-high (a .k) (a .given) (unknown? (a .n) (verticesOf (a .field .now))) (c .if2 .taken)
 
-unknown-requires : tie.Need-unknown-requires
-unknown-requires c κs = search needs
-
 returns-3 : tie.Need-returns-3
 returns-3 c =
     let given = c .before .before in
@@ -28,4 +25,4 @@ returns-5 : tie.Need-returns-5
 returns-5 c = first-bare _ _ _ (c .before .before .if1 .left) (c .before .if2 .left) (c .if3 .left)
 
 pub first-of-spec : {M : Type 1} → statement M
-first-of-spec = tie.close (tie.spec returns returns-2 unknown-requires returns-3 returns-4 returns-5)
+first-of-spec = tie.close (tie.spec returns returns-2 (λ c κs. search needs) returns-3 returns-4 returns-5)

@@ -8,12 +8,9 @@ returns : tie.Need-returns
 unfolding afterEdges
 returns c = simp (eq-eqb _ _ (c .if1 .taken))
 
-with-lines-requires : tie.Need-with-lines-requires
-with-lines-requires c κs = search needs
-
 returns-2 : tie.Need-returns-2
 unfolding afterEdges
 returns-2 c = simp (ne-eqb _ _ (c .before .if1 .left)) (c .with-lines .ensures)
 
 pub after-edges-spec : {M : Type 1} → statement M
-after-edges-spec = tie.close (tie.spec returns with-lines-requires returns-2)
+after-edges-spec = tie.close (tie.spec returns (λ c κs. search needs) returns-2)

@@ -17,26 +17,11 @@ abbrev μ-loop : tie.MeasureT-loop
 loop-holds : tie.Need-loop-holds Inv-loop μ-loop
 loop-holds c = (zero-le, omega arith, refl)
 
-add-next : tie.Need-add-next Inv-loop μ-loop
-add-next c = search needs
-
-shared-slice-read-wide : tie.Need-shared-slice-read-wide Inv-loop μ-loop
-shared-slice-read-wide c = search needs
-
-wide-requires : tie.Need-wide-requires Inv-loop μ-loop
-wide-requires c κs = search needs
-
 returns : tie.Need-returns Inv-loop μ-loop
 returns c =
     let b = c .before .before .before .before .before .before .before .args .b .now in
     let l = c .before .before .before .before .before .loop in
     sym (sym (l .inv .2) ∙ ap (λ (k : ℕ). lined k (drop (l .i) b)) (c .before .before .before .if1 .taken) ∙ lined-empty b (l .i) (c .before .before .before .before .loop-test .taken) (sym (c .before .wide .ensures .0) ∙ c .if2 .taken))
-
-sub-left : tie.Need-sub-left Inv-loop μ-loop
-sub-left c = search needs
-
-loop-less : tie.Need-loop-less Inv-loop μ-loop
-loop-less c = search needs
 
 loop-again : tie.Need-loop-again Inv-loop μ-loop
 loop-again c =
@@ -48,9 +33,6 @@ loop-again c =
       ap (λ (k : ℕ). lined k (drop (l .i + 1) b)) (c .before .wide .ensures .0) ∙ sym (lined-begins b (l .i) h (λ e. c .if2 .left (c .before .wide .ensures .0 ∙ e)))
           ∙ ap (λ (k : ℕ). lined k (drop (l .i) b)) (sym (c .before .before .before .if1 .taken)) ∙ l .inv .2,
     )
-
-loop-less-2 : tie.Need-loop-less-2 Inv-loop μ-loop
-loop-less-2 c = search needs
 
 loop-again-2 : tie.Need-loop-again-2 Inv-loop μ-loop
 loop-again-2 c =
@@ -68,13 +50,13 @@ is-lined-spec =
     Inv-loop
     μ-loop
     loop-holds
-    add-next
-    shared-slice-read-wide
-    wide-requires
+    (λ c. search needs)
+    (λ c. search needs)
+    (λ c κs. search needs)
     returns
-    sub-left
-    loop-less
+    (λ c. search needs)
+    (λ c. search needs)
     loop-again
-    loop-less-2
+    (λ c. search needs)
     loop-again-2
     returns-2)

@@ -22,12 +22,6 @@ found c = sym (c .before .before .before .field-at .ensures) ∙ c .before .fiel
 inside : (c : tie.After-known-told) → Inside (c .before .before .before .before .before .before .args .b .now) 0 (c .before .field .given .0 .0) (c .before .field .given .0 .1 .0)
 inside c = found-inside 1 _ _ _ _ (found c)
 
-field-at-requires : tie.Need-field-at-requires
-field-at-requires c κs = search needs
-
-enum-known-field : tie.Need-enum-known-field
-enum-known-field c = search needs
-
 enum-told : tie.Need-enum-told
 enum-told c = search needs
 
@@ -49,9 +43,6 @@ returns-3 c =
 
 shared-slice-read-wide : tie.Need-shared-slice-read-wide
 shared-slice-read-wide c = omega (arith, inside (c .before .before) .ends)
-
-wide-requires : tie.Need-wide-requires
-wide-requires c κs = search needs
 
 add-with-edges : tie.Need-add-with-edges
 add-with-edges c = omega (arith, inside (c .before .before .before) .ends)
@@ -77,13 +68,13 @@ layout-of-spec =
     tie.close
     (tie.spec
     returns
-    field-at-requires
-    enum-known-field
+    (λ c κs. search needs)
+    (λ c. search needs)
     enum-told
     returns-2
     returns-3
     shared-slice-read-wide
-    wide-requires
+    (λ c κs. search needs)
     add-with-edges
     with-edges-requires
     returns-4)

@@ -16,12 +16,6 @@ found c = sym (c .before .before .before .field-at .ensures) ∙ c .before .fiel
 inside : (c : tie.After-known-told) → Inside (c .before .before .before .before .before .args .b .now) (c .before .before .before .before .before .args .at) (c .before .field .given .0 .0) (c .before .field .given .0 .1 .0)
 inside c = found-inside 2 _ _ _ _ (found c)
 
-field-at-requires : tie.Need-field-at-requires
-field-at-requires c κs = search needs
-
-enum-known-field : tie.Need-enum-known-field
-enum-known-field c = search needs
-
 enum-told : tie.Need-enum-told
 enum-told c = search needs
 
@@ -57,8 +51,8 @@ pub with-edges-spec : {M : Type 1} → statement M
 with-edges-spec =
     tie.close
     (tie.spec
-    field-at-requires
-    enum-known-field
+    (λ c κs. search needs)
+    (λ c. search needs)
     enum-told
     returns
     returns-2

@@ -19,12 +19,6 @@ found c = sym (c .before .before .before .field-at .ensures) ∙ c .before .fiel
 inside : (c : tie.After-known-told) → Inside (c .before .before .before .before .before .args .b .now) (c .before .before .before .before .before .args .at) (c .before .field .given .0 .0) (c .before .field .given .0 .1 .0)
 inside c = found-inside 3 _ _ _ _ (found c)
 
-field-at-requires : tie.Need-field-at-requires
-field-at-requires c κs = search needs
-
-enum-known-field : tie.Need-enum-known-field
-enum-known-field c = search needs
-
 enum-told : tie.Need-enum-told
 enum-told c = search needs
 
@@ -45,17 +39,8 @@ returns-2 c =
     let bad : Bad ≡ withLines (a .b .now) (a .n) (a .edges) (a .m) (Found (f .0 .0) (f .0 .1 .0)) = simp (ne-eqb _ _ (c .if1 .taken)) in
     bad ∙ ap (withLines (a .b .now) (a .n) (a .edges) (a .m)) (sym (found (c .before)))
 
-sub-is-lined : tie.Need-sub-is-lined
-sub-is-lined c = search needs
-
-part-is-lined-start : tie.Need-part-is-lined-start
-part-is-lined-start c = omega arith
-
 part-is-lined-end : tie.Need-part-is-lined-end
 part-is-lined-end c = omega (arith, c .if1 .left)
-
-is-lined-requires : tie.Need-is-lined-requires
-is-lined-requires c κs = search needs
 
 returns-3 : tie.Need-returns-3
 unfolding withLines
@@ -85,15 +70,15 @@ pub with-lines-spec : {M : Type 1} → statement M
 with-lines-spec =
     tie.close
     (tie.spec
-    field-at-requires
-    enum-known-field
+    (λ c κs. search needs)
+    (λ c. search needs)
     enum-told
     returns
     add-end
     returns-2
-    sub-is-lined
-    part-is-lined-start
+    (λ c. search needs)
+    (λ c. omega arith)
     part-is-lined-end
-    is-lined-requires
+    (λ c κs. search needs)
     returns-3
     returns-4)

@@ -8,15 +8,6 @@ use Rattle.script.proofs.Scanner.finish.Tie as tie
 enum-told : tie.Need-enum-told
 enum-told c = search needs
 
-enum-known-first : tie.Need-enum-known-first
-enum-known-first c = search needs
-
-finish-one-requires : tie.Need-finish-one-requires
-finish-one-requires c κs = search needs
-
-enum-told-2 : tie.Need-enum-told-2
-enum-told-2 c = search needs
-
 returns : tie.Need-returns
 unfolding finished
 returns c = rw (c .enum-told .given .1)
@@ -34,9 +25,9 @@ finish-spec =
     tie.close
     (tie.spec
     enum-told
-    enum-known-first
-    finish-one-requires
-    enum-told-2
+    (λ c. search needs)
+    (λ c κs. search needs)
+    (λ c. search needs)
     returns
     returns-2
     returns-3)

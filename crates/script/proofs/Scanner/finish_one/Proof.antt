@@ -21,15 +21,6 @@ returns-3 c = rw (ne-eqb _ _ (c .before .before .if1 .left), ne-eqb _ _ (c .if3 
 enum-told : tie.Need-enum-told
 enum-told c = search needs
 
-enum-known-second : tie.Need-enum-known-second
-enum-known-second c = search needs
-
-finish-two-requires : tie.Need-finish-two-requires
-finish-two-requires c κs = search needs
-
-enum-told-2 : tie.Need-enum-told-2
-enum-told-2 c = search needs
-
 returns-4 : tie.Need-returns-4
 unfolding finishedOne
 returns-4 c = rw (ne-eqb _ _ (c .before .before .before .before .if1 .left), eq-eqb _ _ (c .before .before .if3 .left), c .enum-told .given .1)
@@ -53,9 +44,9 @@ finish-one-spec =
     returns-2
     returns-3
     enum-told
-    enum-known-second
-    finish-two-requires
-    enum-told-2
+    (λ c. search needs)
+    (λ c κs. search needs)
+    (λ c. search needs)
     returns-4
     returns-5
     returns-6)

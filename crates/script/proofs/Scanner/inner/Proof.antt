@@ -4,24 +4,6 @@ use borrow.Author.Needs.{needs}
 use Rattle.script.proofs.Scanner.inner.Statement.{statement}
 use Rattle.script.proofs.Scanner.inner.Tie as tie
 
-slice-aggregate-advance : tie.Need-slice-aggregate-advance
-slice-aggregate-advance c = search needs
-
-advance-requires : tie.Need-advance-requires
-advance-requires c κs = search needs
-
-slice-aggregate-advance-2 : tie.Need-slice-aggregate-advance-2
-slice-aggregate-advance-2 c = search needs
-
-advance-requires-2 : tie.Need-advance-requires-2
-advance-requires-2 c κs = search needs
-
-slice-aggregate-advance-3 : tie.Need-slice-aggregate-advance-3
-slice-aggregate-advance-3 c = search needs
-
-advance-requires-3 : tie.Need-advance-requires-3
-advance-requires-3 c κs = search needs
-
 returns : tie.Need-returns
 unfolding within
 returns c =
@@ -32,21 +14,9 @@ returns c =
       eq-eqb _ _ (c .before .before .before .before .before .before .if1 .taken),
     )
 
-extend-requires : tie.Need-extend-requires
-extend-requires c κs = search needs
-
-with-numbers-requires : tie.Need-with-numbers-requires
-with-numbers-requires c κs = search needs
-
 returns-2 : tie.Need-returns-2
 unfolding within
 returns-2 c = rw (c .with-numbers .ensures, c .before .extend .ensures, ne-eqb _ _ (c .before .before .before .if1 .left), eq-eqb _ _ (c .before .before .if2 .taken))
-
-extend-requires-2 : tie.Need-extend-requires-2
-extend-requires-2 c κs = search needs
-
-with-numbers-requires-2 : tie.Need-with-numbers-requires-2
-with-numbers-requires-2 c κs = search needs
 
 returns-3 : tie.Need-returns-3
 unfolding within
@@ -67,17 +37,17 @@ pub inner-spec : {M : Type 1} → statement M
 inner-spec =
     tie.close
     (tie.spec
-    slice-aggregate-advance
-    advance-requires
-    slice-aggregate-advance-2
-    advance-requires-2
-    slice-aggregate-advance-3
-    advance-requires-3
+    (λ c. search needs)
+    (λ c κs. search needs)
+    (λ c. search needs)
+    (λ c κs. search needs)
+    (λ c. search needs)
+    (λ c κs. search needs)
     returns
-    extend-requires
-    with-numbers-requires
+    (λ c κs. search needs)
+    (λ c κs. search needs)
     returns-2
-    extend-requires-2
-    with-numbers-requires-2
+    (λ c κs. search needs)
+    (λ c κs. search needs)
     returns-3
     returns-4)

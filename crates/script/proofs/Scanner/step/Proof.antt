@@ -7,15 +7,9 @@ use borrow.Author.Needs.{needs}
 use Rattle.script.proofs.Scanner.step.Statement.{statement}
 use Rattle.script.proofs.Scanner.step.Tie as tie
 
-inner-requires : tie.Need-inner-requires
-inner-requires c κs = search needs
-
 returns : tie.Need-returns
 unfolding scanned
 returns c = rw (ne-eqb _ _ (c .before .if1 .taken)) (c .inner .ensures)
-
-add-next : tie.Need-add-next
-add-next c = search needs
 
 returns-2 : tie.Need-returns-2
 unfolding scanned nextPart
@@ -30,4 +24,4 @@ returns-3 c =
     let e : min (p + 1) 3 ≡ 3 = omega arith in rw (eq-eqb _ _ (c .before .before .if1 .left), e)
 
 pub step-spec : {M : Type 1} → statement M
-step-spec = tie.close (tie.spec inner-requires returns add-next returns-2 returns-3)
+step-spec = tie.close (tie.spec (λ c κs. search needs) returns (λ c. search needs) returns-2 returns-3)
