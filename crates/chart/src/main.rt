@@ -5,7 +5,7 @@ ghost use lib.ListN.{length};
 use flat::ChartCounts;
 use libc::STDIN_FILENO;
 use libc::STDOUT_FILENO;
-use record::layout::Layout;
+use fields::Layout;
 
 // Room for any line but the first.
 const LINE: usize = 36;
@@ -268,7 +268,7 @@ fn lesser(a: usize, b: usize) -> usize
 
 // The bytes of a record's edges, tail and head in turn; none where it is not laid out as it must be.
 fn edges_of(b: &[u8]) -> &[u8] {
-    let layout = record::layout::layout_of(b);
+    let layout = fields::layout_of(b);
     let Layout::Good(fields) = layout else {
         return &b[..0];
     };

@@ -9,14 +9,14 @@ use Rattle.counting.proofs.Zeros.{zeros}
 use Rattle.masks.specs.Sets.{member?}
 use Rattle.reach.proofs.Ends.{tail-at, head-at}
 use Rattle.record.specs.Checks.{Content, edgesOf, refusalOf}
-use Rattle.record.specs.Layout.{layoutOf}
+use Rattle.fields.specs.Layout.{layoutOf}
 use Rattle.record.specs.Reading.{nothing}
-use Rattle.record.specs.declared.layout.Fields.{Fields}
-use Rattle.record.specs.declared.layout.Layout.the-variants.{Good, Bad}
+use Rattle.fields.specs.declared.Fields.{Fields}
+use Rattle.fields.specs.declared.Layout.the-variants.{Good, Bad}
 use Rattle.outline.specs.Chart.{planOf, tailOf, headOf, kindBetween, transitiveEdge?, vertexEntry, edgeEntry, bundleEntry}
 use Rattle.outline.specs.declared.Kind.{Kind}
 use Rattle.kinds.specs.Codes.{codeOf, kindOf}
-use Rattle.kinds.specs.Prefixes.{lastSet, Prefixes}
+use Rattle.prefixes.specs.Prefixes.{lastSet, Prefixes}
 use Rattle.kinds.specs.declared.Code.{Code}
 use Rattle.kinds.proofs.Coding.{kind-coded}
 use Rattle.drawing.specs.Drawn.{Drawn, graphContent, graphDrawn, short?, lent, refusedBy}
@@ -117,7 +117,7 @@ module _ (n : ℕ) (ends : List ℕ) (given : Bool) (field : List ℕ) (p : Plan
   unfolding graphContent
   bundles-low = let f = few in omega (arith, bundles-few c p t l)
 
-  -- `left` is made of the channels by `kinds::prefixes`
+  -- `left` is made of the channels by `prefixes::prefixes`
   module _ (left : List ℕ) (lefts : Prefixes 2 (min (min n 128) (length (p .channel))) (λ v. getD (p .channel) v 0)
       (lastSet (p .channels) 258) left) (long : length (t .used) ≡ 128) where
     abbrev sheet : Sheet

@@ -7,15 +7,15 @@ use lib.ListN.{length, getD, take, drop, replicate}
 use Rattle.counting.specs.Count.{count}
 use Rattle.lists.specs.Filled.{Filled}
 use Rattle.record.specs.Checks.{Content, edgesOf}
-use Rattle.record.specs.Layout.{layoutOf}
-use Rattle.record.specs.declared.layout.Layout.{Layout}
-use Rattle.record.specs.declared.layout.Layout.the-variants.{Good, Bad}
+use Rattle.fields.specs.Layout.{layoutOf}
+use Rattle.fields.specs.declared.Layout.{Layout}
+use Rattle.fields.specs.declared.Layout.the-variants.{Good, Bad}
 use Rattle.outline.specs.Chart as chart
 use Rattle.outline.specs.Chart.{planOf, rowCount, widthOf, tracksIn, vertexEntry, edgeEntry, bundleEntry}
 use Rattle.outline.specs.declared.VertexEntry.{VertexEntry}
 use Rattle.outline.specs.declared.EdgeEntry.{EdgeEntry}
 use Rattle.outline.specs.declared.BundleEntry.{BundleEntry}
-use Rattle.kinds.specs.Prefixes.{lastSet, Prefixes}
+use Rattle.prefixes.specs.Prefixes.{lastSet, Prefixes}
 use Rattle.drawing.specs.Drawn.{Drawn, graphDrawn, recordDrawn, lent}
 use Rattle.drawing.specs.Laid.{Lists}
 use Rattle.drawing.specs.declared.Plan.{Plan}

@@ -18,7 +18,7 @@ use outline::BundleEntry;
 use outline::EdgeEntry;
 use outline::Kind;
 use outline::VertexEntry;
-use record::layout::Layout;
+use fields::Layout;
 
 // Document 01's number, or 0; how many entries each list got; the other counts, and the tracks (document 01: side columns) of each
 // channel, 0 past the last. Every number but the first is 0 where the chart is refused.
@@ -264,7 +264,7 @@ fn drafted(
     let row = p.row;
     let descendants = p.descendants;
     let mut left = [0; 258];
-    kinds::prefixes(&channel, n, wide(p.channels), &mut left);
+    prefixes::prefixes(&channel, n, wide(p.channels), &mut left);
     Sheet {
         refusal: 0,
         vertices: n,
@@ -363,7 +363,7 @@ fn sheet_of_graph<'a>(
 fn sheet_of_record(bytes: &[u8], vertices: usize, edges: usize, bundles: usize) -> Sheet
     ensures { λ r. ⌜ RecordSheet (now (bytes .entry)) vertices edges bundles r ⌝ }
 {
-    let layout = record::layout::layout_of(bytes);
+    let layout = fields::layout_of(bytes);
     let Layout::Good(f) = layout else {
         return blank(1);
     };
@@ -386,7 +386,7 @@ fn sheet_of_record(bytes: &[u8], vertices: usize, edges: usize, bundles: usize) 
 fn edges_of(bytes: &[u8]) -> &[u8]
     ensures { λ r. ⌜ now r ≡ endsOf (now (bytes .entry)) ⌝ }
 {
-    let layout = record::layout::layout_of(bytes);
+    let layout = fields::layout_of(bytes);
     let Layout::Good(f) = layout else {
         return &bytes[..0];
     };

@@ -32,7 +32,7 @@ use Rattle.outline.proofs.Leading.{edge-there}
 use Rattle.outline.proofs.Channels.{channels-few, channel-below}
 use Rattle.outline.proofs.Rows.{row-counted}
 use Rattle.outline.proofs.Bundling.{side-edge, side-number}
-use Rattle.kinds.specs.Prefixes.{lastSet, Prefixes}
+use Rattle.prefixes.specs.Prefixes.{lastSet, Prefixes}
 use Rattle.kinds.specs.Kinds.{kindIn, kindAmong}
 use Rattle.kinds.proofs.Candidates.{Ready, kind-candidates}
 use Rattle.drawing.specs.Drawn.{graphContent}
@@ -157,7 +157,7 @@ module _ (c : Content) (p : Plan) (t : Lists) (l : Laid c p t) where
   unfolding columnIn
   column-own v h = getD-take n (t .column) v 0 h ∙ l .column v h ∙ ap (ownColumn (widths planned)) (sym (l .channels v))
 
-  -- `left` is what `kinds::prefixes` makes of the channels in a list of so many masks, where there are more than two
+  -- `left` is what `prefixes::prefixes` makes of the channels in a list of so many masks, where there are more than two
   abbrev pub LeftOf : ℕ → List ℕ → Type 0
   LeftOf size left =
       2 < p .channels → Prefixes 2 (min (min n 128) (length (p .channel))) (λ v. getD (p .channel) v 0) (lastSet (p .channels) size) left

@@ -8,11 +8,11 @@ use lib.ListN.{take, drop}
 use borrow.Author.Tests.{ne-eqb}
 use Rattle.counting.specs.Count.{choose}
 use Rattle.record.specs.Checks.{refusalOf}
-use Rattle.record.specs.Layout.{layoutOf}
+use Rattle.fields.specs.Layout.{layoutOf}
 use Rattle.record.specs.Reading.{nothing, contentOf, contentIn, refusalIn, recordRefusal, said}
-use Rattle.record.specs.declared.layout.Fields.{Fields}
-use Rattle.record.specs.declared.layout.Layout.{Layout}
-use Rattle.record.specs.declared.layout.Layout.the-variants.{Good, Bad}
+use Rattle.fields.specs.declared.Fields.{Fields}
+use Rattle.fields.specs.declared.Layout.{Layout}
+use Rattle.fields.specs.declared.Layout.the-variants.{Good, Bad}
 use Rattle.drawing.specs.Drawn.{Drawn, judged, graphContent, graphDrawn, recordDrawn, refusedBy}
 
 module _ (n : ℕ) (ends : List ℕ) (given : Bool) (field : List ℕ) where

@@ -10,10 +10,10 @@ use lib.ListN.{length}
 use borrow.Author.Tests.{eqb-true, eqb-false, ne-eqb}
 use Rattle.counting.specs.Count.{choose}
 use Rattle.record.specs.Checks.{Content, edgesOf, size?, stranger?, double?, ring?, repeated?, lacking?, unled?, looseChecks, laterChecks, firstOf, refusalOf}
-use Rattle.record.specs.Layout.{layoutOf}
+use Rattle.fields.specs.Layout.{layoutOf}
 use Rattle.record.specs.Reading.{nothing, contentOf, refusalIn, recordRefusal, said}
-use Rattle.record.specs.declared.layout.Layout.{Layout}
-use Rattle.record.specs.declared.layout.Layout.the-variants.{Good, Bad}
+use Rattle.fields.specs.declared.Layout.{Layout}
+use Rattle.fields.specs.declared.Layout.the-variants.{Good, Bad}
 use Rattle.outline.specs.Chart.{planOf}
 use Rattle.drawing.specs.Drawn.{Drawn, judged, graphContent, recordDrawn, graphDrawn, short?, lent}
 use Rattle.drawing.proofs.Nothing.{empty}

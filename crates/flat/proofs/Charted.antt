@@ -133,7 +133,7 @@ module _ (n : ℕ) (ends : List ℕ) (given : Bool) (field : List ℕ) (p : Plan
       q ∙ count-ext m (λ e. not (implied? here e)) (λ e. not (transitiveEdge? c e)) (λ e h. ap not (mark-same e h))
       ∙ ap (λ k. count k (λ e. not (transitiveEdge? c e))) (sym counted)
 
-  -- `left` is made of the channels by `kinds::prefixes`
+  -- `left` is made of the channels by `prefixes::prefixes`
   module _ (size : ℕ) (room : 2 * min n 128 + 2 ≤ size) (lefts : LeftFor n (p .channels) (p .channel) size left) where
     kind-same : (e : ℕ) → e < m → kindAt here e ≡ kindBetween c (planOf c) (tailOf c e) (headOf c e)
     unfolding kindAt graphContent

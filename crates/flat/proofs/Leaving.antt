@@ -13,10 +13,10 @@ use Rattle.counting.proofs.Zeros.{zeros}
 use Rattle.counting.proofs.Truth.{or-neither}
 use Rattle.lists.proofs.Stores.{filled-none, filled-to}
 use Rattle.record.specs.Checks.{Content, edgesOf}
-use Rattle.record.specs.Layout.{layoutOf}
+use Rattle.fields.specs.Layout.{layoutOf}
 use Rattle.record.specs.Reading.{nothing}
-use Rattle.record.specs.declared.layout.Fields.{Fields}
-use Rattle.record.specs.declared.layout.Layout.the-variants.{Good}
+use Rattle.fields.specs.declared.Fields.{Fields}
+use Rattle.fields.specs.declared.Layout.the-variants.{Good}
 use Rattle.outline.specs.Chart.{planOf}
 use Rattle.drawing.specs.Drawn.{Drawn, graphContent, graphDrawn, short?, lent, refusedBy}
 use Rattle.drawing.specs.Laid.{Lists, Laid, Roomy, Plans}

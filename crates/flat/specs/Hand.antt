@@ -12,7 +12,7 @@ use Rattle.outline.specs.Chart.{planOf, reducedEdges, vertexEntry, edgeEntry, b
 use Rattle.drawing.specs.Drawn.{graphContent}
 use Rattle.drawing.specs.Laid.{lists, Laid}
 use Rattle.drawing.specs.declared.Plan.{Plan}
-use Rattle.kinds.specs.Prefixes.{lastSet, Prefixes}
+use Rattle.prefixes.specs.Prefixes.{lastSet, Prefixes}
 use Rattle.flat.specs.declared.ChartCounts.{ChartCounts}
 use Rattle.flat.specs.Chart.{words, arrows, bundles}
 use Rattle.flat.specs.Numbers.{Given, given, wordFrom, bundleFrom}
@@ -134,7 +134,7 @@ pub record Charts (c : Content) (ws es bs : List ℕ) (firm : ℕ) (ws′ es′ 
   pub reduced : firm ≡ reducedEdges c
   pub bundle-list : Filled bs (bundles (bundleEntry (planOf c))) (length (planOf c .bundles) * 4) bs′
 
--- `left`, as long as `size`, is what `kinds::prefixes` makes of the channels, where there are more than two
+-- `left`, as long as `size`, is what `prefixes::prefixes` makes of the channels, where there are more than two
 abbrev pub LeftFor : ℕ → ℕ → List ℕ → ℕ → List ℕ → Type 0
 LeftFor n count channel size left =
     2 < count → Prefixes 2 (min (min n 128) (length channel)) (λ v. getD channel v 0) (lastSet count size) left

@@ -57,7 +57,7 @@ fn make_left(channel: &[u8], n: usize, count: usize, left: &mut [u64])
     ensures { λ _. ⌜ LeftFor n count (now (channel .entry)) (length (now (left .entry))) (now (left .exit)) × (length (now (left .exit)) ≡ length (now (left .entry))) ⌝ }
 {
     if 2 < count {
-        kinds::prefixes(channel, n, count, left);
+        prefixes::prefixes(channel, n, count, left);
     }
 }
 

@@ -15,7 +15,7 @@ use entries::ARROW_NUMBERS;
 use entries::BUNDLE_NUMBERS;
 use entries::WORD_NUMBERS;
 use hand::hand_over;
-use record::layout::Layout;
+use fields::Layout;
 
 // For so many vertices there are smaller work lists.
 const FEW: usize = 16;
@@ -298,7 +298,7 @@ pub fn of_record(
 ) -> ChartCounts
     ensures { λ r. ⌜ HandedFlat (now (bytes .entry)) (now (words .entry)) (now (arrows .entry)) (now (bundles .entry)) r (now (words .exit)) (now (arrows .exit)) (now (bundles .exit)) ⌝ }
 {
-    let layout = record::layout::layout_of(bytes);
+    let layout = fields::layout_of(bytes);
     let Layout::Good(f) = layout else {
         return refused(1);
     };

@@ -17,7 +17,7 @@ use Rattle.geometry.proofs.Segments.{inside-low, inside-high, column-past, colu
 use Rattle.geometry.proofs.Blocks.{lower-or-higher, own-apart}
 use Rattle.geometry.proofs.Among.{among-enough}
 use Rattle.outline.specs.Chart.{crossing}
-use Rattle.kinds.specs.Prefixes.{Prefixes}
+use Rattle.prefixes.specs.Prefixes.{Prefixes}
 use Rattle.kinds.specs.Kinds.{kindIn, strictly?, candidate?, kindAmong}
 use Rattle.kinds.proofs.Coding.{across, within, between-across}
 

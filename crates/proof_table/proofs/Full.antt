@@ -16,9 +16,9 @@ use Rattle.reach.specs.Graph.{Reaches, one, more, edgeCount, Edge}
 use Rattle.reach.specs.Refusal.{outsized?, strange?}
 use Rattle.reach.specs.Closure.{reachable?}
 use Rattle.reach.proofs.Decide.{reachable-decided}
-use Rattle.record.specs.declared.layout.Fields.{Fields}
-use Rattle.record.specs.declared.layout.Layout.the-variants.{Good}
-use Rattle.record.specs.Layout.{sizeAt, fieldAt, afterEdges, withEdges, withVertices, layoutOf}
+use Rattle.fields.specs.declared.Fields.{Fields}
+use Rattle.fields.specs.declared.Layout.the-variants.{Good}
+use Rattle.fields.specs.Layout.{sizeAt, fieldAt, afterEdges, withEdges, withVertices, layoutOf}
 use Rattle.reach.specs.Ends.{alternate, tailsOf, headsOf}
 use Rattle.reach.specs.Ends.{alike?, duplicate?}
 use Rattle.record.specs.Checks.{edgesOf, size?, stranger?, double?, ring?, repeated?, lacking?, unled?, looseChecks, laterChecks, firstOf, refusalOf}

@@ -14,7 +14,7 @@ use Rattle.matching.specs.Search.{seen, candidate, predecessorOf, marked, taken
 use Rattle.matching.specs.Chains.{successorFrom, successor, chain, begins, begun, planned}
 use Rattle.matching.specs.Lists.{has, placeFrom, linked, every, channelFrom, channelOf, positionOf}
 use Rattle.channels.specs.Given.{front, lines, filled, linesOf, unknown?, repeats?, lacks?, broken?}
-use Rattle.record.specs.Layout.{sizeAt, fieldAt, lined, withLines, afterEdges, withEdges, withVertices, layoutOf}
+use Rattle.fields.specs.Layout.{sizeAt, fieldAt, lined, withLines, afterEdges, withEdges, withVertices, layoutOf}
 use Rattle.reach.specs.Ends.{alternate, tailsOf, headsOf}
 use Rattle.reach.specs.Ends.{alike?, duplicate?}
 use Rattle.record.specs.Checks.{Content, edgesOf, size?, stranger?, double?, ring?, repeated?, lacking?, unled?, looseChecks, laterChecks, firstOf, refusalOf}

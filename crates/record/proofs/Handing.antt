@@ -9,11 +9,11 @@ use Rattle.masks.specs.Sets.{at}
 use Rattle.reach.specs.Closure.{Reachable}
 use Rattle.reach.specs.Ends.{tailsOf, headsOf}
 use Rattle.descent.specs.Promise.{Sized}
-use Rattle.record.specs.declared.layout.Fields.{Fields}
-use Rattle.record.specs.declared.layout.Layout.the-variants.{Good}
+use Rattle.fields.specs.declared.Fields.{Fields}
+use Rattle.fields.specs.declared.Layout.the-variants.{Good}
 use Rattle.record.specs.declared.checks.Checked.{Checked}
 use Rattle.record.specs.declared.reading.Reading.{Reading}
-use Rattle.record.specs.Layout.{layoutOf}
+use Rattle.fields.specs.Layout.{layoutOf}
 use Rattle.record.specs.Checks.{Content, refusalOf}
 use Rattle.record.specs.Checked.{Checks}
 use Rattle.record.specs.Reading.{contentOf, unreadBy, Reads}

@@ -1,7 +1,4 @@
-pub mod Lining
-pub mod Placing
 pub mod Judging
-pub mod Standing
 pub mod Readings
 pub mod Soundness
 pub mod Accepted

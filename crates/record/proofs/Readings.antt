@@ -13,10 +13,10 @@ use Rattle.masks.proofs.Tables.{at-zeros}
 use Rattle.reach.specs.Ends.{tailsOf, headsOf}
 use Rattle.reach.specs.Refusal.{refusal, verdict, outsized?}
 use Rattle.reach.specs.Closure.{Reachable}
-use Rattle.record.specs.declared.layout.Fields.{Fields}
-use Rattle.record.specs.declared.layout.Layout.the-variants.{Good, Bad}
+use Rattle.fields.specs.declared.Fields.{Fields}
+use Rattle.fields.specs.declared.Layout.the-variants.{Good, Bad}
 use Rattle.record.specs.declared.reading.Reading.{Reading}
-use Rattle.record.specs.Layout.{layoutOf}
+use Rattle.fields.specs.Layout.{layoutOf}
 use Rattle.record.specs.Checks.{Content, content, refusalOf}
 use Rattle.record.specs.Reading.{contentOf, nothing, refusalIn, recordRefusal, contentIn, said, unreadBy, Reads}
 

@@ -23,10 +23,10 @@ use Rattle.channels.specs.Given.{linesOf, verticesOf, unknown?, broken?}
 use Rattle.channels.proofs.Checks.{unknown-within, repeats-once, once-repeats, lacks-has, has-lacks, broken-linked}
 use Rattle.reach.specs.Ends.{alike?, duplicate?}
 use Rattle.record.specs.Checks.{Content, edgesOf, size?, stranger?, double?, ring?, repeated?, lacking?, unled?, looseChecks, laterChecks, firstOf, refusalOf}
-use Rattle.record.specs.declared.layout.Layout.{Layout}
-use Rattle.record.specs.declared.layout.Layout.the-variants.{Good, Bad}
+use Rattle.fields.specs.declared.Layout.{Layout}
+use Rattle.fields.specs.declared.Layout.the-variants.{Good, Bad}
 use Rattle.record.specs.declared.reading.Reading.{Reading}
-use Rattle.record.specs.Layout.{layoutOf}
+use Rattle.fields.specs.Layout.{layoutOf}
 use Rattle.record.specs.Reading.{contentOf, refusalIn, recordRefusal, Reads}
 use Rattle.record.specs.Sound.{Sound, SoundRecord}
 

@@ -1,4 +1,3 @@
-pub mod Layout
 pub mod Checks
 pub mod Checked
 pub mod Reading

@@ -10,11 +10,11 @@ use Rattle.counting.specs.Count.{choose}
 use Rattle.masks.specs.Sets.{at}
 use Rattle.reach.specs.Ends.{tailsOf, headsOf}
 use Rattle.reach.specs.Closure.{Reachable}
-use Rattle.record.specs.declared.layout.Fields.{Fields}
-use Rattle.record.specs.declared.layout.Layout.{Layout}
-use Rattle.record.specs.declared.layout.Layout.the-variants.{Good, Bad}
+use Rattle.fields.specs.declared.Fields.{Fields}
+use Rattle.fields.specs.declared.Layout.{Layout}
+use Rattle.fields.specs.declared.Layout.the-variants.{Good, Bad}
 use Rattle.record.specs.declared.reading.Reading.{Reading}
-use Rattle.record.specs.Layout.{layoutOf}
+use Rattle.fields.specs.Layout.{layoutOf}
 use Rattle.record.specs.Checks.{Content, content, refusalOf}
 
 -- the vertices, edges and given channels of a record whose fields stand as they must

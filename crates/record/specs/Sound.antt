@@ -8,9 +8,9 @@ use lib.ListN.{length, getD}
 use Rattle.matching.specs.Lists.{times}
 use Rattle.reach.specs.Graph.{Reaches, Edge}
 use Rattle.channels.specs.Given.{linesOf, verticesOf}
-use Rattle.record.specs.declared.layout.Fields.{Fields}
-use Rattle.record.specs.declared.layout.Layout.the-variants.{Good}
-use Rattle.record.specs.Layout.{layoutOf}
+use Rattle.fields.specs.declared.Fields.{Fields}
+use Rattle.fields.specs.declared.Layout.the-variants.{Good}
+use Rattle.fields.specs.Layout.{layoutOf}
 use Rattle.record.specs.Checks.{Content, edgesOf}
 use Rattle.record.specs.Reading.{contentOf}
 

@@ -1,7 +1,7 @@
 use mathlib.Core.Path.{sym, _∙_}
 use native.Mathlib.Omega.{arith}
 use borrow.Author.Needs.{needs}
-use Rattle.record.proofs.Standing.{LaidOut, layout-good}
+use Rattle.fields.proofs.Standing.{LaidOut, layout-good}
 use Rattle.chart.proofs.edges_of.Statement.{statement}
 use Rattle.chart.proofs.edges_of.Tie as tie
 

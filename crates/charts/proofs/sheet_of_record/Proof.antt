@@ -1,7 +1,7 @@
 -- `charts::sheet_of_record` meets its contract, from what `sheet_of_graph` ensures. Assumes nothing.
 use mathlib.Core.Path.{sym, _∙_}
 use native.Mathlib.Omega.{arith}
-use Rattle.record.proofs.Standing.{layout-good}
+use Rattle.fields.proofs.Standing.{layout-good}
 use Rattle.drawing.proofs.Judging.{record-bad}
 use Rattle.charts.proofs.Sheets.{refused-sheet, record-sheet}
 use borrow.Author.Needs.{needs}

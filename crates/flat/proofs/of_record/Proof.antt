@@ -1,7 +1,7 @@
 -- `flat::of_record` meets its contract: a record is its parts, or refused with 1 (`Leaving.antt`). Assumes nothing.
 use mathlib.Core.Path.{sym, _∙_}
 use native.Mathlib.Omega.{arith}
-use Rattle.record.proofs.Standing.{layout-good}
+use Rattle.fields.proofs.Standing.{layout-good}
 use Rattle.drawing.proofs.Judging.{record-bad}
 use Rattle.flat.proofs.Leaving.{refused-left, record-left}
 use borrow.Author.Needs.{needs}

@@ -2,7 +2,7 @@ use mathlib.Core.Path.{refl, subst}
 use Prim.Native.Nat.{ℕ, min}
 use native.Mathlib.Omega.{arith}
 use lib.ListN.{length, getD}
-use Rattle.kinds.specs.Prefixes.{Prefixes}
+use Rattle.prefixes.specs.Prefixes.{Prefixes}
 use borrow.Author.Needs.{needs}
 use Rattle.flat.proofs.hand.make_left.Statement.{statement}
 use Rattle.flat.proofs.hand.make_left.Tie as tie

@@ -1,8 +1,8 @@
 use mathlib.Core.Path.{_≡_, refl, sym, _∙_}
 use native.Mathlib.Omega.{arith}
-use Rattle.record.specs.declared.layout.Layout.the-variants.{Good}
-use Rattle.record.specs.Layout.{layoutOf}
-use Rattle.record.proofs.Standing.{LaidOut, layout-good}
+use Rattle.fields.specs.declared.Layout.the-variants.{Good}
+use Rattle.fields.specs.Layout.{layoutOf}
+use Rattle.fields.proofs.Standing.{LaidOut, layout-good}
 use Rattle.record.proofs.Readings.{bad-refusal, unread-reads}
 use Rattle.record.proofs.Handing.{read-refused, read-passed}
 use borrow.Author.Needs.{needs}

@@ -1,0 +1,32 @@
+-- A field that is found lies within the record. Assumes nothing.
+use mathlib.Core.Path.{_≡_, refl, sym}
+use mathlib.Core.Bool.{Bool, true, false, _&&_}
+use mathlib.Core.List.{List}
+use Prim.Native.Nat.{ℕ, _+_, _≤_}
+use native.Mathlib.Omega.{arith}
+use borrow.Author.Tests.{leb-true}
+use lib.Dec.{eqb, leb}
+use lib.ListN.{length, getD}
+use Rattle.counting.specs.Count.{choose}
+use Rattle.counting.proofs.Truth.{and-elim}
+use Rattle.fields.specs.declared.Field.the-variants.{Found, Missing}
+use Rattle.fields.specs.Layout.{sizeAt, fieldAt}
+
+-- where a found field stands
+pub record Inside (b : List ℕ) (at start size : ℕ) : Type 0 where
+  pub begins : start ≡ at + 3
+  pub ends : start + size ≤ length b
+
+pub found-inside : (tag : ℕ) (b : List ℕ) (at start size : ℕ) → fieldAt tag b at ≡ Found start size → Inside b at start size
+unfolding fieldAt
+found-inside tag b at start size = go ((leb (at + 3) (length b) && eqb (getD b at 0) tag) && leb (at + 3 + sizeAt b at) (length b)) refl
+  where
+    go : (t : Bool) → ((leb (at + 3) (length b) && eqb (getD b at 0) tag) && leb (at + 3 + sizeAt b at) (length b)) ≡ t
+        → choose t (λ _. Found (at + 3) (sizeAt b at)) (λ _. Missing) ≡ Found start size → Inside b at start size
+    go true p e =
+        let q = and-elim (leb (at + 3) (length b) && eqb (getD b at 0) tag) (leb (at + 3 + sizeAt b at) (length b)) p in
+        let s : at + 3 ≡ start = cc in
+        let l : sizeAt b at ≡ size = cc in
+        let h : at + 3 + sizeAt b at ≤ length b = leb-true _ _ (q .1) in
+        record { begins = sym s; ends = omega arith }
+    go false p e = absurd (let z : _≡_ {A = ℕ} 0 1 = cc in omega arith)

@@ -1,0 +1,62 @@
+use mathlib.Core.Path.{_≡_, refl, sym, ap, _∙_}
+use Prim.Native.Nat.{ℕ, _+_, _-_, _≤_, _<_, zero-le}
+use native.Mathlib.Omega.{arith}
+use lib.ListN.{length, drop}
+use Rattle.fields.specs.Layout.{lined}
+use Rattle.fields.proofs.Lining.{lined-empty, lined-begins, lined-goes, lined-ends}
+use borrow.Author.Needs.{needs}
+use Rattle.fields.proofs.is_lined.Statement.{statement}
+use Rattle.fields.proofs.is_lined.Tie as tie
+
+abbrev Inv-loop : tie.InvT-loop
+Inv-loop b left₀ i₀ left i = (i ≤ length b) × (left < 256) × (lined left (drop i b) ≡ lined 0 b)
+
+abbrev μ-loop : tie.MeasureT-loop
+μ-loop b left₀ i₀ left i = length b - i
+
+loop-holds : tie.Need-loop-holds Inv-loop μ-loop
+loop-holds c = (zero-le, omega arith, refl)
+
+returns : tie.Need-returns Inv-loop μ-loop
+returns c =
+    let b = c .before .before .before .before .before .before .before .args .b .now in
+    let l = c .before .before .before .before .before .loop in
+    sym (sym (l .inv .2) ∙ ap (λ (k : ℕ). lined k (drop (l .i) b)) (c .before .before .before .if1 .taken) ∙ lined-empty b (l .i) (c .before .before .before .before .loop-test .taken) (sym (c .before .wide .ensures .0) ∙ c .if2 .taken))
+
+loop-again : tie.Need-loop-again Inv-loop μ-loop
+loop-again c =
+    let b = c .before .before .before .before .before .before .before .args .b .now in
+    let l = c .before .before .before .before .before .loop in
+    let h = c .before .before .before .before .loop-test .taken in (
+      omega arith,
+      c .before .wide .ensures .1,
+      ap (λ (k : ℕ). lined k (drop (l .i + 1) b)) (c .before .wide .ensures .0) ∙ sym (lined-begins b (l .i) h (λ e. c .if2 .left (c .before .wide .ensures .0 ∙ e)))
+          ∙ ap (λ (k : ℕ). lined k (drop (l .i) b)) (sym (c .before .before .before .if1 .taken)) ∙ l .inv .2,
+    )
+
+loop-again-2 : tie.Need-loop-again-2 Inv-loop μ-loop
+loop-again-2 c =
+    let b = c .before .before .before .before .args .b .now in
+    let l = c .before .before .loop in
+    (omega arith, omega arith, sym (lined-goes (l .left) b (l .i) (c .before .loop-test .taken) (c .if1 .left)) ∙ l .inv .2)
+
+returns-2 : tie.Need-returns-2 Inv-loop μ-loop
+returns-2 c = sym (lined-ends (c .before .loop .left) (c .before .before .before .args .b .now) (c .before .loop .i) (omega arith)) ∙ c .before .loop .inv .2
+
+pub is-lined-spec : {M : Type 1} → statement M
+is-lined-spec =
+    tie.close
+    (tie.spec
+    Inv-loop
+    μ-loop
+    loop-holds
+    (λ c. search needs)
+    (λ c. search needs)
+    (λ c κs. search needs)
+    returns
+    (λ c. search needs)
+    (λ c. search needs)
+    loop-again
+    (λ c. search needs)
+    loop-again-2
+    returns-2)

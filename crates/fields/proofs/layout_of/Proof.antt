@@ -1,0 +1,80 @@
+use mathlib.Core.Path.{_≡_, sym, ap, _∙_}
+use Prim.Native.Nat.{ℕ, _+_}
+use native.Mathlib.Omega.{arith}
+use borrow.Author.Tests.{eq-eqb, ne-eqb, le-leb, lt-leb}
+use lib.ListN.{getD}
+use Rattle.fields.specs.declared.Field.the-variants.{Found}
+use Rattle.fields.specs.declared.Layout.the-variants.{Bad}
+use Rattle.fields.specs.Layout.{fieldAt, withEdges, withVertices, layoutOf}
+use Rattle.fields.proofs.Placing.{Inside, found-inside}
+use borrow.Author.Needs.{needs}
+use Rattle.fields.proofs.layout_of.Statement.{statement}
+use Rattle.fields.proofs.layout_of.Tie as tie
+
+returns : tie.Need-returns
+unfolding layoutOf
+returns c = simp (lt-leb _ _ (c .if1 .taken))
+
+-- the field that was found, and where it lies
+found : (c : tie.After-known-told) → fieldAt 1 (c .before .before .before .before .before .before .args .b .now) 0 ≡ Found (c .before .field .given .0 .0) (c .before .field .given .0 .1 .0)
+found c = sym (c .before .before .before .field-at .ensures) ∙ c .before .field .given .1
+
+inside : (c : tie.After-known-told) → Inside (c .before .before .before .before .before .before .args .b .now) 0 (c .before .field .given .0 .0) (c .before .field .given .0 .1 .0)
+inside c = found-inside 1 _ _ _ _ (found c)
+
+enum-told : tie.Need-enum-told
+enum-told c = search needs
+
+returns-2 : tie.Need-returns-2
+unfolding layoutOf withVertices
+returns-2 c =
+    let b = c .before .before .before .before .before .args .b .now in
+    let short : layoutOf b ≡ withVertices b (fieldAt 1 b 0) = simp (le-leb _ _ (c .before .before .before .if1 .left)) in
+    sym (short ∙ ap (withVertices b) (sym (c .before .before .field-at .ensures) ∙ c .enum-told .given .1))
+
+returns-3 : tie.Need-returns-3
+unfolding layoutOf withVertices
+returns-3 c =
+    let b = c .before .before .before .before .before .before .before .args .b .now in
+    let short : layoutOf b ≡ withVertices b (fieldAt 1 b 0) = simp (le-leb _ _ (c .before .before .before .before .before .if1 .left)) in
+    let f = c .before .before .field .given in
+    let bad : Bad ≡ withVertices b (Found (f .0 .0) (f .0 .1 .0)) = simp (ne-eqb _ _ (c .if2 .taken)) in
+    bad ∙ sym (short ∙ ap (withVertices b) (found (c .before)))
+
+shared-slice-read-wide : tie.Need-shared-slice-read-wide
+shared-slice-read-wide c = omega (arith, inside (c .before .before) .ends)
+
+add-with-edges : tie.Need-add-with-edges
+add-with-edges c = omega (arith, inside (c .before .before .before) .ends)
+
+with-edges-requires : tie.Need-with-edges-requires
+with-edges-requires c κs = omega (arith, inside (c .before .before .before) .ends)
+
+returns-4 : tie.Need-returns-4
+unfolding layoutOf withVertices
+returns-4 c =
+    let b = c .before .before .before .before .before .before .before .before .before .before .args .b .now in
+    let short : layoutOf b ≡ withVertices b (fieldAt 1 b 0) = simp (le-leb _ _ (c .before .before .before .before .before .before .before .before .if1 .left)) in
+    let f = c .before .before .before .before .before .field .given in
+    let start = f .0 .0 in
+    let size = f .0 .1 .0 in
+    let read : c .with-edges .result ≡ withEdges b (getD b start 0) (fieldAt 2 b (start + size)) =
+    c .with-edges .ensures ∙ ap (λ (n : ℕ). withEdges b n (fieldAt 2 b (start + size))) (c .before .wide .ensures .0) in
+    let here : c .with-edges .result ≡ withVertices b (Found start size) = simp (eq-eqb _ _ (c .before .before .before .if2 .left)) read in
+    here ∙ sym (short ∙ ap (withVertices b) (found (c .before .before .before .before)))
+
+pub layout-of-spec : {M : Type 1} → statement M
+layout-of-spec =
+    tie.close
+    (tie.spec
+    returns
+    (λ c κs. search needs)
+    (λ c. search needs)
+    enum-told
+    returns-2
+    returns-3
+    shared-slice-read-wide
+    (λ c κs. search needs)
+    add-with-edges
+    with-edges-requires
+    returns-4)

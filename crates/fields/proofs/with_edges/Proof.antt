@@ -1,0 +1,61 @@
+use mathlib.Core.Path.{_≡_, sym, ap, _∙_}
+use native.Mathlib.Omega.{arith}
+use borrow.Author.Tests.{eq-eqb, ne-eqb}
+use Rattle.fields.specs.declared.Field.the-variants.{Found}
+use Rattle.fields.specs.declared.Layout.the-variants.{Bad}
+use Rattle.fields.specs.Layout.{fieldAt, withEdges}
+use Rattle.fields.proofs.Placing.{Inside, found-inside}
+use borrow.Author.Needs.{needs}
+use Rattle.fields.proofs.with_edges.Statement.{statement}
+use Rattle.fields.proofs.with_edges.Tie as tie
+
+-- the field that was found, and where it lies
+found : (c : tie.After-known-told) → fieldAt 2 (c .before .before .before .before .before .args .b .now) (c .before .before .before .before .before .args .at) ≡ Found (c .before .field .given .0 .0) (c .before .field .given .0 .1 .0)
+found c = sym (c .before .before .before .field-at .ensures) ∙ c .before .field .given .1
+
+inside : (c : tie.After-known-told) → Inside (c .before .before .before .before .before .args .b .now) (c .before .before .before .before .before .args .at) (c .before .field .given .0 .0) (c .before .field .given .0 .1 .0)
+inside c = found-inside 2 _ _ _ _ (found c)
+
+enum-told : tie.Need-enum-told
+enum-told c = search needs
+
+returns : tie.Need-returns
+unfolding withEdges
+returns c =
+    let a = c .before .before .before .before .args in
+    ap (withEdges (a .b .now) (a .n)) (sym (sym (c .before .before .field-at .ensures) ∙ c .enum-told .given .1))
+
+returns-2 : tie.Need-returns-2
+unfolding withEdges
+returns-2 c =
+    let a = c .before .before .before .before .before .before .args in
+    let f = c .before .before .field .given in
+    let bad : Bad ≡ withEdges (a .b .now) (a .n) (Found (f .0 .0) (f .0 .1 .0)) = simp (ne-eqb _ _ (c .if1 .taken)) in
+    bad ∙ ap (withEdges (a .b .now) (a .n)) (sym (found (c .before)))
+
+add-after-edges : tie.Need-add-after-edges
+add-after-edges c = omega (arith, inside (c .before) .ends)
+
+after-edges-requires : tie.Need-after-edges-requires
+after-edges-requires c κs = omega (arith, inside (c .before) .ends, c .before .before .before .before .before .before .pre .1)
+
+returns-3 : tie.Need-returns-3
+unfolding withEdges
+returns-3 c =
+    let a = c .before .before .before .before .before .before .before .args in
+    let f = c .before .before .before .field .given in
+    let good : c .after-edges .result ≡ withEdges (a .b .now) (a .n) (Found (f .0 .0) (f .0 .1 .0)) = simp (eq-eqb _ _ (c .before .if1 .left)) (c .after-edges .ensures) in
+    good ∙ ap (withEdges (a .b .now) (a .n)) (sym (found (c .before .before)))
+
+pub with-edges-spec : {M : Type 1} → statement M
+with-edges-spec =
+    tie.close
+    (tie.spec
+    (λ c κs. search needs)
+    (λ c. search needs)
+    enum-told
+    returns
+    returns-2
+    add-after-edges
+    after-edges-requires
+    returns-3)

@@ -1,0 +1,84 @@
+use mathlib.Core.Bool.{true, false}
+use mathlib.Core.Path.{_≡_, sym, ap, _∙_}
+use Prim.Native.Nat.{ℕ, _+_, _-_}
+use native.Mathlib.Omega.{arith}
+use borrow.Author.Tests.{eq-eqb, ne-eqb}
+use lib.ListN.{take, drop}
+use Rattle.fields.specs.declared.Field.the-variants.{Found}
+use Rattle.fields.specs.declared.Layout.the-variants.{Good, Bad}
+use Rattle.fields.specs.Layout.{fieldAt, lined, withLines}
+use Rattle.fields.proofs.Placing.{Inside, found-inside}
+use borrow.Author.Needs.{needs}
+use Rattle.fields.proofs.with_lines.Statement.{statement}
+use Rattle.fields.proofs.with_lines.Tie as tie
+
+-- the field that was found, and where it lies
+found : (c : tie.After-known-told) → fieldAt 3 (c .before .before .before .before .before .args .b .now) (c .before .before .before .before .before .args .at) ≡ Found (c .before .field .given .0 .0) (c .before .field .given .0 .1 .0)
+found c = sym (c .before .before .before .field-at .ensures) ∙ c .before .field .given .1
+
+inside : (c : tie.After-known-told) → Inside (c .before .before .before .before .before .args .b .now) (c .before .before .before .before .before .args .at) (c .before .field .given .0 .0) (c .before .field .given .0 .1 .0)
+inside c = found-inside 3 _ _ _ _ (found c)
+
+enum-told : tie.Need-enum-told
+enum-told c = search needs
+
+returns : tie.Need-returns
+unfolding withLines
+returns c =
+    let a = c .before .before .before .before .args in
+    ap (withLines (a .b .now) (a .n) (a .edges) (a .m)) (sym (sym (c .before .before .field-at .ensures) ∙ c .enum-told .given .1))
+
+add-end : tie.Need-add-end
+add-end c = omega (arith, inside c .ends)
+
+returns-2 : tie.Need-returns-2
+unfolding withLines
+returns-2 c =
+    let a = c .before .before .before .before .before .before .args in
+    let f = c .before .before .field .given in
+    let bad : Bad ≡ withLines (a .b .now) (a .n) (a .edges) (a .m) (Found (f .0 .0) (f .0 .1 .0)) = simp (ne-eqb _ _ (c .if1 .taken)) in
+    bad ∙ ap (withLines (a .b .now) (a .n) (a .edges) (a .m)) (sym (found (c .before)))
+
+part-is-lined-end : tie.Need-part-is-lined-end
+part-is-lined-end c = omega (arith, c .if1 .left)
+
+returns-3 : tie.Need-returns-3
+unfolding withLines
+returns-3 c =
+    let a = c .before .before .before .before .before .before .before .before .before .args in
+    let f = c .before .before .before .before .before .field .given in
+    let start = f .0 .0 in
+    let size = f .0 .1 .0 in
+    let part : lined 0 (take size (drop start (a .b .now))) ≡ true =
+    ap (λ (k : ℕ). lined 0 (take k (drop start (a .b .now)))) (let e : size ≡ (start + size) - start = omega arith in e) ∙ sym (c .before .is-lined .ensures) ∙ c .if2 .taken in
+    let here : Good (record { vertices = a .n; edges = a .edges; count = a .m; given = true; lines = start; size = size }) ≡ withLines (a .b .now) (a .n) (a .edges) (a .m) (Found start size) = simp (eq-eqb _ _ (c .before .before .before .if1 .left), part) in
+    here ∙ ap (withLines (a .b .now) (a .n) (a .edges) (a .m)) (sym (found (c .before .before .before .before)))
+
+returns-4 : tie.Need-returns-4
+unfolding withLines
+returns-4 c =
+    let a = c .before .before .before .before .before .before .before .before .before .args in
+    let f = c .before .before .before .before .before .field .given in
+    let start = f .0 .0 in
+    let size = f .0 .1 .0 in
+    let part : lined 0 (take size (drop start (a .b .now))) ≡ false =
+    ap (λ (k : ℕ). lined 0 (take k (drop start (a .b .now)))) (let e : size ≡ (start + size) - start = omega arith in e) ∙ sym (c .before .is-lined .ensures) ∙ c .if2 .left in
+    let here : Bad ≡ withLines (a .b .now) (a .n) (a .edges) (a .m) (Found start size) = simp (eq-eqb _ _ (c .before .before .before .if1 .left), part) in
+    here ∙ ap (withLines (a .b .now) (a .n) (a .edges) (a .m)) (sym (found (c .before .before .before .before)))
+
+pub with-lines-spec : {M : Type 1} → statement M
+with-lines-spec =
+    tie.close
+    (tie.spec
+    (λ c κs. search needs)
+    (λ c. search needs)
+    enum-told
+    returns
+    add-end
+    returns-2
+    (λ c. search needs)
+    (λ c. omega arith)
+    part-is-lined-end
+    (λ c κs. search needs)
+    returns-3
+    returns-4)

@@ -1,0 +1,152 @@
+// Where the fields of a record stand (document 01: 'The record').
+ghost use mathlib.Core.Path.{_≡_};
+ghost use Prim.Native.Nat.{_≤_, _<_};
+ghost use lib.ListN.{length};
+ghost use Rattle.fields.specs.Layout.{fieldAt, layoutOf, lined, withLines, afterEdges, withEdges};
+// The most bytes of a record.
+const MOST_BYTES: usize = 65535;
+
+// A tagged field: its bytes begin at `start`, and there are `size` of them.
+pub enum Field {
+    Found { start: usize, size: usize },
+    Missing,
+}
+
+// Where the fields of a record stand. Edge i has its tail at edges + 2 i and its head after it, and there are `count` of them. The given
+// channels (document 01: house lines) are the `size` bytes from `lines` on, where `given` says so.
+pub struct Fields {
+    pub vertices: usize,
+    pub edges: usize,
+    pub count: usize,
+    pub given: bool,
+    pub lines: usize,
+    pub size: usize,
+}
+
+pub enum Layout {
+    Good(Fields),
+    Bad,
+}
+
+// A byte as a usize: asks nothing of the byte, where a cast of an element asks that it fits.
+fn wide(x: u8) -> usize
+    ensures { λ r. ⌜ (r ≡ x) × (r < 256) ⌝ }
+{
+    x as usize
+}
+
+// The field with this tag at a place.
+fn field_at(b: &[u8], tag: u8, at: usize) -> Field
+    requires { ⌜ at ≤ 65535 ⌝ }
+    ensures { λ r. ⌜ r ≡ fieldAt tag (now (b .entry)) at ⌝ }
+{
+    if b.len() < at + 3 {
+        return Field::Missing;
+    }
+    if b[at] != tag {
+        return Field::Missing;
+    }
+    let size = wide(b[at + 1]) * 256 + wide(b[at + 2]);
+    let start = at + 3;
+    if b.len() - start < size {
+        return Field::Missing;
+    }
+    Field::Found { start, size }
+}
+
+// Whether bytes are lines, each a byte k of at least 1 and then k bytes, ending exactly.
+fn is_lined(b: &[u8]) -> bool
+    ensures { λ r. ⌜ r ≡ lined 0 (now (b .entry)) ⌝ }
+{
+    let mut left: usize = 0;
+    let mut i: usize = 0;
+    while i < b.len() {
+        let next = i + 1;
+        if left == 0 {
+            left = wide(b[i]);
+            if left == 0 {
+                return false;
+            }
+        } else {
+            left -= 1;
+        }
+        i = next;
+    }
+    left == 0
+}
+
+// Tag 3 at a place: the given channels, to the end of the record.
+fn with_lines(b: &[u8], n: usize, edges: usize, m: usize, at: usize) -> Layout
+    requires { ⌜ at ≤ 65535 ⌝ }
+    ensures { λ r. ⌜ r ≡ withLines (now (b .entry)) n edges m (fieldAt 3 (now (b .entry)) at) ⌝ }
+{
+    let field = field_at(b, 3, at);
+    let Field::Found { start, size } = field else {
+        return Layout::Bad;
+    };
+    let end = start + size;
+    if end != b.len() {
+        return Layout::Bad;
+    }
+    if is_lined(&b[start..end]) {
+        return Layout::Good(Fields {
+            vertices: n,
+            edges,
+            count: m,
+            given: true,
+            lines: start,
+            size,
+        });
+    }
+    Layout::Bad
+}
+
+// After the edges: the end of the record, or tag 3.
+fn after_edges(b: &[u8], n: usize, edges: usize, m: usize, end: usize) -> Layout
+    requires { ⌜ end ≤ 65535 ⌝ }
+    ensures { λ r. ⌜ r ≡ afterEdges (now (b .entry)) n edges m end ⌝ }
+{
+    if end == b.len() {
+        return Layout::Good(Fields {
+            vertices: n,
+            edges,
+            count: m,
+            given: false,
+            lines: 0,
+            size: 0,
+        });
+    }
+    with_lines(b, n, edges, m, end)
+}
+
+// Tag 2 at a place: the edges, two bytes each.
+fn with_edges(b: &[u8], n: usize, at: usize) -> Layout
+    requires { ⌜ (at ≤ 65535) × (length (now b) ≤ 65535) ⌝ }
+    ensures { λ r. ⌜ r ≡ withEdges (now (b .entry)) n (fieldAt 2 (now (b .entry)) at) ⌝ }
+{
+    let field = field_at(b, 2, at);
+    let Field::Found { start, size } = field else {
+        return Layout::Bad;
+    };
+    if size % 2 != 0 {
+        return Layout::Bad;
+    }
+    after_edges(b, n, start, size / 2, start + size)
+}
+
+// Where the fields of a record stand, or that they do not stand as they must.
+pub fn layout_of(b: &[u8]) -> Layout
+    ensures { λ r. ⌜ r ≡ layoutOf (now (b .entry)) ⌝ }
+{
+    if MOST_BYTES < b.len() {
+        return Layout::Bad;
+    }
+    let field = field_at(b, 1, 0);
+    let Field::Found { start, size } = field else {
+        return Layout::Bad;
+    };
+    if size != 1 {
+        return Layout::Bad;
+    }
+    with_edges(b, wide(b[start]), start + size)
+}

@@ -1,0 +1,68 @@
+-- `kinds::join` meets its contract: the sets passed have all they are to have. Assumes nothing.
+use mathlib.Core.Path.{_≡_, refl, _∙_, subst}
+use Prim.Native.Nat.{ℕ, _+_, _-_, _*_, _≤_, zero-le}
+use native.Mathlib.Omega.{arith}
+use lib.ListN.{length, getD, length-set}
+use Rattle.prefixes.specs.Prefixes.{Stage}
+use Rattle.prefixes.proofs.Stages.{stage-pair, stage-all, twice-length}
+use borrow.Author.Needs.{needs}
+use Rattle.prefixes.proofs.join.Statement.{statement}
+use Rattle.prefixes.proofs.join.Tie as tie
+
+abbrev Inv-loop : tie.InvT-loop
+Inv-loop sets₀ top k₀ sets k =
+    (k ≤ top) × (length sets ≡ length sets₀) × ((n : ℕ) (key : ℕ → ℕ) → Stage 2 n key top 0 sets₀ → Stage 2 n key top k sets)
+
+abbrev μ-loop : tie.MeasureT-loop
+μ-loop sets₀ top k₀ sets k = top - k
+
+loop-holds : tie.Need-loop-holds Inv-loop μ-loop
+loop-holds c = (zero-le, refl, λ n key g. g)
+
+slice-read-sets-2 : tie.Need-slice-read-sets-2 Inv-loop μ-loop
+slice-read-sets-2 c = simp length-set (omega arith)
+
+slice-write-sets-2 : tie.Need-slice-write-sets-2 Inv-loop μ-loop
+slice-write-sets-2 c = simp length-set (omega arith)
+
+loop-again : tie.Need-loop-again Inv-loop μ-loop
+loop-again c =
+    let l = c .before .before .before .before .before .loop in (
+      omega arith,
+      twice-length (l .sets) (2 * l .k + 2) (2 * l .k + 3) (getD (l .sets) (2 * l .k) 0) (getD (l .sets) (2 * l .k + 1) 0) ∙ l .inv .1,
+      λ n key g. stage-pair _ _ _ _ _ _ (omega arith) refl (l .inv .2 n key g),
+    )
+
+returns : tie.Need-returns Inv-loop μ-loop
+returns c =
+    let l = c .before .loop in
+    let a = c .before .before .args in
+    let e : l .k ≡ a .top = omega arith in
+    λ n key g. stage-all 2 key (a .top) n (l .sets) (subst (λ (k : ℕ). Stage 2 n key (a .top) k (l .sets)) e (l .inv .2 n key g))
+
+pub join-spec : {M : Type 1} → statement M
+join-spec =
+    tie.close
+    (tie.spec
+    Inv-loop
+    μ-loop
+    loop-holds
+    (λ c. search needs)
+    (λ c. search needs)
+    (λ c. search needs)
+    (λ c. search needs)
+    (λ c. search needs)
+    (λ c. search needs)
+    (λ c. search needs)
+    (λ c. search needs)
+    (λ c. search needs)
+    (λ c. search needs)
+    (λ c. search needs)
+    (λ c. search needs)
+    slice-read-sets-2
+    slice-write-sets-2
+    (λ c. search needs)
+    (λ c. search needs)
+    loop-again
+    (λ c. search needs)
+    returns)

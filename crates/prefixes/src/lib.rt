@@ -1,0 +1,70 @@
+// Sets of vertices by a key, each holding those of all lower keys, so that what lies between two keys is a difference of two sets.
+ghost use mathlib.Core.Path.{_≡_};
+ghost use Prim.Native.Nat.{ℕ, _≤_, _<_, min};
+ghost use lib.ListN.{length, getD, replicate};
+ghost use Rattle.prefixes.specs.Prefixes.{lastSet, Prefixes, Stage};
+
+// A byte as a usize.
+fn wide(x: u8) -> usize
+    ensures { λ r. ⌜ (r ≡ x) × (r < 256) ⌝ }
+{
+    x as usize
+}
+
+fn least(a: usize, b: usize) -> usize
+    ensures { λ r. ⌜ r ≡ min a b ⌝ }
+{
+    if a < b {
+        return a;
+    }
+    b
+}
+
+// Sets every mask to 0.
+fn clear(sets: &mut [u64])
+    ensures { λ _. ⌜ now (sets .exit) ≡ replicate (length (now (sets .entry))) 0 ⌝ }
+{
+    for i in 0..sets.len() {
+        sets[i] = 0;
+    }
+}
+
+// The last set that is filled, of sets 0 to `top`, at most 128, in so many masks.
+fn last_set(top: usize, masks: usize) -> usize
+    ensures { λ r. ⌜ r ≡ lastSet top masks ⌝ }
+{
+    let room = masks / 2;
+    if room == 0 {
+        return 0;
+    }
+    least(least(top, 128), room - 1)
+}
+
+// Puts each set of two masks into the next, from set 0 to set `top`.
+fn join(sets: &mut [u64], top: usize)
+    requires { ⌜ top ≤ lastSet 128 (length (now sets)) ⌝ }
+    ensures { λ _. ⌜ ((n : ℕ) (key : ℕ → ℕ) → Stage 2 n key top 0 (now (sets .entry)) → Prefixes 2 n key top (now (sets .exit))) ⌝ }
+{
+    for k in 0..top {
+        let i = 2 * k;
+        let a = sets[i];
+        let b = sets[i + 1];
+        sets[i + 2] |= a;
+        sets[i + 3] |= b;
+    }
+}
+
+// Fills a list with sets of vertices by their keys, two masks a set: set k has the vertices whose key is below k, for k up to `top`, at
+// most 128 and no more than the list has room for; gives the last. The vertices are the first n entries of the keys, and at most 128.
+pub fn prefixes(keys: &[u8], n: usize, top: usize, sets: &mut [u64]) -> usize
+    ensures { λ r. ⌜ (r ≡ lastSet top (length (now (sets .entry)))) × Prefixes 2 (min (min n 128) (length (now (keys .entry)))) (λ v. getD (now (keys .entry)) v 0) r (now (sets .exit)) × (length (now (sets .exit)) ≡ length (now (sets .entry))) ⌝ }
+{
+    let m = least(least(n, 128), keys.len());
+    let last = last_set(top, sets.len());
+    clear(sets);
+    for v in 0..m {
+        masks::insert(sets, 2 * (wide(keys[v]) + 1), v);
+    }
+    join(sets, last);
+    last
+}
