@@ -1,9 +1,9 @@
 -- The state stands for the bundles made so far: at the start, after a bundle, and at the end. Assumes nothing.
-use mathlib.Core.Path.{_≡_, refl, sym, ap, ap₂, _∙_, subst}
+use mathlib.Core.Path.{_≡_, refl, sym, ap, ap₂, _∙_}
 use mathlib.Core.Logic.{_≢_, _⊎_, inl, inr, ⊎-elim}
 use mathlib.Core.Bool.{Bool, true, false, true≢false, not, _&&_}
 use mathlib.Core.List.{List, [], _∷_, _++_}
-use Prim.Native.Nat.{ℕ, _+_, _*_, _≤_, _<_, min, max}
+use Prim.Native.Nat.{ℕ, zero, suc, _+_, _*_, _≤_, _<_, min, max}
 use native.Mathlib.Decide.{ℕ-discrete}
 use native.Mathlib.Omega.{arith}
 use borrow.Author.Tests.{eq-eqb, ne-eqb, lt-ltb, ltb-true}
@@ -11,10 +11,12 @@ use lib.Dec.{eqb, ltb}
 use lib.ListN.{length, getD, set, length-set, length-append, List·getD-append, List·getD-eq-default}
 use lib.Seq.{getD-set-same, getD-set-other, getD-append-seam}
 use Rattle.counting.specs.Count.{indicator, count}
+use Rattle.counting.specs.Quads.{quad}
 use Rattle.counting.proofs.Truth.{true-or-false, lt-or-le, and-elim, two-cases}
 use Rattle.counting.proofs.Falsity.{not-true}
 use Rattle.counting.proofs.Sums.{sum-ext, sum-less}
 use Rattle.counting.proofs.Classes.{sum-term}
+use Rattle.counting.proofs.Quads.{quad-same, quad-other, quad-zero}
 use Rattle.masks.specs.Sets.{member, member?}
 use Rattle.masks.proofs.Sets.{member-lt}
 use Rattle.bundles.specs.Bundles.{Bundle, gathers, taken, along, waits, waitsAt, lowest, highest, made}
@@ -30,8 +32,9 @@ use Rattle.bundles.specs.Steps.{
   state,
   AsLong,
   Room,
+  stored,
   Added,
-  Column,
+  part,
   Holds,
   Stands,
   Blank,
@@ -83,6 +86,15 @@ module _ (n : ℕ) (small : n ≤ 128) (sets : List ℕ) where
 blank-value : (l : List ℕ) → Filled 0 (length l) l → (b : ℕ) → getD l b 0 ≡ 0
 blank-value l f b = ⊎-elim (λ h. f .value b h) (λ h. List·getD-eq-default l 0 h) (lt-or-le b (length l))
 
+part-empty : (k : ℕ) → part k empty ≡ 0
+part-empty zero = refl
+part-empty (suc zero) = refl
+part-empty (suc (suc zero)) = refl
+part-empty (suc (suc (suc k))) = refl
+
+blank-entry : (l : List ℕ) → Filled 0 (length l) l → (k b : ℕ) → quad k l b ≡ part k empty
+blank-entry l f k b = quad-zero l (blank-value l f) k b ∙ sym (part-empty k)
+
 indicator-member : (x : ℕ) → x < 2 → x ≡ indicator (eqb x 1)
 indicator-member x l = ⊎-elim (λ e. rw e) (λ e. rw e) (two-cases x l)
 
@@ -97,16 +109,14 @@ module _ (n : ℕ) (small : n ≤ 128) (side : ℕ → ℕ → Bool) (inside : (
   nothing-taken false v w = sym (and-yes (side v w))
 
   -- no bundle yet
-  pub stands-none : (sets load of first last number : List ℕ) → Sets n side sets → Loaded n sets load → Blank n of first last number
-      → Stands n side [] (state 0 of first last number load)
+  pub stands-none : (sets load spans number : List ℕ) → Sets n side sets → Loaded n sets load → Blank n spans number
+      → Stands n side [] (state 0 spans number load)
   unfolding numberFrom count
-  stands-none sets load of first last number s l b = record {
+  stands-none sets load spans number s l b = record {
     holds = record {
-      sized = record { channel = b .channel .0; first = b .first .0; last = b .last .0; number = b .number .0; load = l .size };
+      sized = record { spans = b .entry .0; number = b .number .0; load = l .size };
       counted = refl;
-      channel = record { value = blank-value of (b .channel .1) };
-      first = record { value = blank-value first (b .first .1) };
-      last = record { value = blank-value last (b .last .1) };
+      entry = λ k i h. blank-entry spans (b .entry .1) k i;
       number = λ d v h. b .number .1 .value (endOf d v) (let q = end-below d n v h in let r = b .number .0 in omega arith);
       past = λ e h k. b .number .1 .value e k;
     };
@@ -120,42 +130,65 @@ module _ (n : ℕ) (small : n ≤ 128) (side : ℕ → ℕ → Bool) (inside : (
 
 -- ---- after a bundle
 
-pub column-more : (f : Bundle → ℕ) → f empty ≡ 0 → (bs : List Bundle) (values : List ℕ) (b : Bundle) → length bs < length values
-    → Column f bs values → Column f (bs ++ (b ∷ [])) (set values (length bs) (f b))
-column-more f z bs values b h c = record { value = value }
-  where
-    value : (i : ℕ) → getD (set values (length bs) (f b)) i 0 ≡ f (getD (bs ++ (b ∷ [])) i empty)
-    value i =
-        ⊎-elim
-        (λ l. getD-set-other values (length bs) i (f b) 0 (λ e. omega arith) ∙ c .value i
-        ∙ ap f (sym (List·getD-append bs (b ∷ []) empty i l)))
-        (λ l. past (ℕ-discrete i (length bs)) l)
-        (lt-or-le i (length bs))
-      where
-        past : Dec (i ≡ length bs) → length bs ≤ i → getD (set values (length bs) (f b)) i 0 ≡ f (getD (bs ++ (b ∷ [])) i empty)
-        past (yes q) l = rw q (getD-set-same values (length bs) (f b) 0 h ∙ ap f (sym (getD-append-seam bs b [] empty)))
-        past (no q) l =
-            getD-set-other values (length bs) i (f b) 0 q ∙ c .value i
-            ∙ ap f (List·getD-eq-default bs empty l ∙ sym
-            (List·getD-eq-default (bs ++ (b ∷ [])) empty (let e = length-append bs (b ∷ []) in omega arith)))
+module _ (bs : List Bundle) (was : List ℕ) (x : Bundle) (room : 4 * length bs + 4 ≤ length was)
+    (h : (k b : ℕ) → k < 4 → quad k was b ≡ part k (getD bs b empty)) where
+  abbrev one : List ℕ
+  one = set was (4 * length bs) (x .channel)
+
+  abbrev two : List ℕ
+  two = set one (4 * length bs + 1) (x .first)
+
+  abbrev three : List ℕ
+  three = set two (4 * length bs + 2) (x .last)
+
+  abbrev more : List Bundle
+  more = bs ++ (x ∷ [])
+
+  entry-other : (k b : ℕ) → k < 4 → b ≢ length bs → quad k three b ≡ quad k was b
+  entry-other k b l ne =
+      quad-other two b k (length bs) 2 (x .last) l (omega arith) (λ e q. ne e)
+      ∙ quad-other one b k (length bs) 1 (x .first) l (omega arith) (λ e q. ne e)
+      ∙ quad-other was b k (length bs) 0 (x .channel) l (omega arith) (λ e q. ne e)
+
+  entry-here : (k : ℕ) → k < 4 → quad k three (length bs) ≡ part k x
+  entry-here zero l =
+      quad-other two (length bs) 0 (length bs) 2 (x .last) l (omega arith) (λ e q. omega arith)
+      ∙ quad-other one (length bs) 0 (length bs) 1 (x .first) l (omega arith) (λ e q. omega arith)
+      ∙ quad-same was (length bs) 0 (x .channel) (omega arith)
+  entry-here (suc zero) l =
+      quad-other two (length bs) 1 (length bs) 2 (x .last) l (omega arith) (λ e q. omega arith)
+      ∙ quad-same one (length bs) 1 (x .first) (simp length-set (omega arith))
+  entry-here (suc (suc zero)) l = quad-same two (length bs) 2 (x .last) (simp length-set (omega arith))
+  entry-here (suc (suc (suc zero))) l =
+      quad-other two (length bs) 3 (length bs) 2 (x .last) l (omega arith) (λ e q. omega arith)
+      ∙ quad-other one (length bs) 3 (length bs) 1 (x .first) l (omega arith) (λ e q. omega arith)
+      ∙ quad-other was (length bs) 3 (length bs) 0 (x .channel) l (omega arith) (λ e q. omega arith)
+      ∙ h 3 (length bs) l
+  entry-here (suc (suc (suc (suc k)))) l = absurd (omega arith)
+
+  -- the entries with the new bundle's
+  entry-more : (k b : ℕ) → k < 4 → quad k three b ≡ part k (getD more b empty)
+  entry-more k b l = ⊎-elim
+      (λ i. entry-other k b l (λ e. omega arith) ∙ h k b l ∙ ap (part k) (sym (List·getD-append bs (x ∷ []) empty b i)))
+      (λ i. past (ℕ-discrete b (length bs)) i)
+      (lt-or-le b (length bs))
+    where
+      past : Dec (b ≡ length bs) → length bs ≤ b → quad k three b ≡ part k (getD more b empty)
+      past (yes q) i = rw q (entry-here k l ∙ ap (part k) (sym (getD-append-seam bs x [] empty)))
+      past (no q) i =
+          entry-other k b l q ∙ h k b l
+          ∙ ap (part k) (List·getD-eq-default bs empty i ∙ sym
+          (List·getD-eq-default more empty (let e = length-append bs (x ∷ []) in omega arith)))
 
 pub as-long : (s : State) → AsLong s s
-as-long s = record { channel = refl; first = refl; last = refl; number = refl; load = refl }
+as-long s = record { spans = refl; number = refl; load = refl }
 
 pub as-long-then : (s t r : State) → AsLong s t → AsLong t r → AsLong s r
-as-long-then s t r a b = record {
-  channel = b .channel ∙ a .channel;
-  first = b .first ∙ a .first;
-  last = b .last ∙ a .last;
-  number = b .number ∙ a .number;
-  load = b .load ∙ a .load;
-}
+as-long-then s t r a b = record { spans = b .spans ∙ a .spans; number = b .number ∙ a .number; load = b .load ∙ a .load }
 
 pub added-long : (sets rows : List ℕ) (c : ℕ) (d : Bool) (v : ℕ) (s r : State) → Added sets rows c d v s r → AsLong s r
 added-long sets rows c d v s r a = record {
-  channel = ap length (a .channel) ∙ length-set (s .channel) (s .count) _;
-  first = ap length (a .first) ∙ length-set (s .first) (s .count) _;
-  last = ap length (a .last) ∙ length-set (s .last) (s .count) _;
+  spans = ap length (a .spans) ∙ simp length-set;
   number = ap length (a .number) ∙ length-set (s .number) (endOf d v) _;
   load = a .size;
 }
@@ -247,11 +280,13 @@ module _ (n : ℕ) (small : n ≤ 128) (side : ℕ → ℕ → Bool) (inside : (
     unfolding made
     channel-is = refl
 
-    -- a column with the value of the new bundle
-    column : (f : Bundle → ℕ) → f empty ≡ 0 → (values is : List ℕ) (x : ℕ) → 2 * n ≤ length values → Column f bs values → x ≡ f b
-        → is ≡ set values (st .count) x → Column f (bs ++ (b ∷ [])) is
-    column f z values is x l k e q =
-        subst (Column f (bs ++ (b ∷ []))) (sym (q ∙ ap₂ (set values) (o .holds .counted) e)) (column-more f z bs values b (omega arith) k)
+    entry : (k i : ℕ) → k < 4 → quad k (r .spans) i ≡ part k (getD (bs ++ (b ∷ [])) i empty)
+    entry k i l =
+        ap (λ (x : List ℕ). quad k x i) stores
+        ∙ entry-more bs (st .spans) b (let e = o .holds .sized .spans in omega arith) (o .holds .entry) k i l
+      where
+        stores : r .spans ≡ stored (st .spans) (length bs) (b .channel) (b .first) (b .last)
+        stores = cc (a .spans, o .holds .counted, first-is, last-is, channel-is)
 
     number : (t : Bool) (u : ℕ) → u < n → getD (r .number) (endOf t u) 0 ≡ numberFrom 0 (bs ++ (b ∷ [])) t u
     number t u l = ap (λ (x : List ℕ). getD x (endOf t u) 0) (a .number)
@@ -306,17 +341,12 @@ module _ (n : ℕ) (small : n ≤ 128) (side : ℕ → ℕ → Bool) (inside : (
         record {
           holds = record {
             sized = record {
-              channel = let x = l .channel in let y = h .sized .channel in omega arith;
-              first = let x = l .first in let y = h .sized .first in omega arith;
-              last = let x = l .last in let y = h .sized .last in omega arith;
+              spans = let x = l .spans in let y = h .sized .spans in omega arith;
               number = let x = l .number in let y = h .sized .number in omega arith;
               load = let x = l .load in let y = h .sized .load in omega arith;
             };
             counted = (let e = length-append bs (b ∷ []) in let p = a .count in let q = h .counted in omega arith);
-            channel = column (λ x. x .channel) refl (st .channel) (r .channel) c (h .sized .channel) (h .channel) (sym channel-is)
-                (a .channel);
-            first = column (λ x. x .first) refl (st .first) (r .first) _ (h .sized .first) (h .first) first-is (a .first);
-            last = column (λ x. x .last) refl (st .last) (r .last) _ (h .sized .last) (h .last) last-is (a .last);
+            entry = entry;
             number = number;
             past = past;
           };
@@ -326,28 +356,31 @@ module _ (n : ℕ) (small : n ≤ 128) (side : ℕ → ℕ → Bool) (inside : (
 -- ---- at the end
 
 pub holds-listed : (n : ℕ) (bs : List Bundle) (s : State) → length bs ≤ 2 * n → Holds n bs s
-    → Listed n bs (s .count) (s .channel) (s .first) (s .last) (s .number)
+    → Listed n bs (s .count) (s .spans) (s .number)
 holds-listed n bs s few h = record {
   counted = h .counted;
   few = few;
-  channel = h .channel .value;
-  first = h .first .value;
-  last = h .last .value;
+  channel = λ b. h .entry 0 b (omega arith);
+  first = λ b. h .entry 1 b (omega arith);
+  last = λ b. h .entry 2 b (omega arith);
   into = h .number true;
   out-of = h .number false;
   past = h .past;
 }
 
 -- no bundle at all
-pub nothing-listed : (n : ℕ) (of first last number : List ℕ) → Blank n of first last number → Listed n [] 0 of first last number
+pub nothing-listed : (n : ℕ) (spans number : List ℕ) → Blank n spans number → Listed n [] 0 spans number
 unfolding numberFrom
-nothing-listed n of first last number b = record {
+nothing-listed n spans number b = record {
   counted = refl;
   few = omega arith;
-  channel = blank-value of (b .channel .1);
-  first = blank-value first (b .first .1);
-  last = blank-value last (b .last .1);
+  channel = blank-entry spans (b .entry .1) 0;
+  first = blank-entry spans (b .entry .1) 1;
+  last = blank-entry spans (b .entry .1) 2;
   into = λ v l. b .number .1 .value (2 * v) (let r = b .number .0 in omega arith);
   out-of = λ v l. b .number .1 .value (2 * v + 1) (let r = b .number .0 in omega arith);
   past = λ e h k. b .number .1 .value e k;
 }
+
+pub nothing-fourth : (n : ℕ) (spans number : List ℕ) → Blank n spans number → (b : ℕ) → quad 3 spans b ≡ 0
+nothing-fourth n spans number b = quad-zero spans (blank-value spans (b .entry .1)) 3

@@ -4,17 +4,18 @@ use mathlib.Core.Path.{_≡_}
 use mathlib.Core.Logic.{_≢_, _⊎_}
 use mathlib.Core.Bool.{Bool, true, false, not, _&&_, _||_}
 use mathlib.Core.List.{List}
-use Prim.Native.Nat.{ℕ, suc, _+_, _-_, _*_, _≤_, _<_, min, max}
+use Prim.Native.Nat.{ℕ, zero, suc, _+_, _-_, _*_, _≤_, _<_, min, max}
 use lib.Dec.{eqb, ltb}
 use lib.ListN.{length, getD, set}
 use Rattle.counting.specs.Count.{choose, indicator, sum, count}
+use Rattle.counting.specs.Quads.{quad}
 use Rattle.masks.specs.Bits.{bit}
 use Rattle.masks.specs.Sets.{member, member?}
 use Rattle.sorting.specs.Sorted.{Sorted}
 use Rattle.bundles.specs.Bundles.{Bundle, along, waitsAt, best, lowest, highest, rounds, bundles}
 use Rattle.bundles.specs.Choice.{live}
 use Rattle.bundles.specs.Sides.{adjacent?, tableSide?}
-use Rattle.bundles.specs.Promise.{noBundle, empty, numberFrom}
+use Rattle.bundles.specs.Promise.{noBundle, empty, numberFrom, Listed, bundlesIn}
 use Rattle.bundles.specs.declared.Span.{Span}
 
 -- the number of an end: of the edges into v, or out of v
@@ -181,38 +182,25 @@ Gathers mask base number rows into was s is r =
     → Gathered test rows into row base start was (s .first) (s .last) → Gathered test rows into row (base + 64) start is (r .first)
     (r .last)
 
--- the bundles so far, and of each end the number of its bundle, or `noBundle`, and how many edges still wait at it
+-- the bundles so far, four numbers each, and of each end the number of its bundle, or `noBundle`, and how many edges still wait at it
 pub record State : Type 0 where
   pub count : ℕ
-  pub channel : List ℕ
-  pub first : List ℕ
-  pub last : List ℕ
+  pub spans : List ℕ
   pub number : List ℕ
   pub load : List ℕ
 
-abbrev pub state : ℕ → List ℕ → List ℕ → List ℕ → List ℕ → List ℕ → State
-state count channel first last number load = record {
-  count = count;
-  channel = channel;
-  first = first;
-  last = last;
-  number = number;
-  load = load;
-}
+abbrev pub state : ℕ → List ℕ → List ℕ → List ℕ → State
+state count spans number load = record { count = count; spans = spans; number = number; load = load }
 
 -- room for n vertices
 pub record Sized (n : ℕ) (s : State) : Type 0 where
-  pub channel : 2 * n ≤ length (s .channel)
-  pub first : 2 * n ≤ length (s .first)
-  pub last : 2 * n ≤ length (s .last)
+  pub spans : 8 * n ≤ length (s .spans)
   pub number : 2 * n ≤ length (s .number)
   pub load : 2 * n ≤ length (s .load)
 
 -- r's lists are as long as those of s
 pub record AsLong (s r : State) : Type 0 where
-  pub channel : length (r .channel) ≡ length (s .channel)
-  pub first : length (r .first) ≡ length (s .first)
-  pub last : length (r .last) ≡ length (s .last)
+  pub spans : length (r .spans) ≡ length (s .spans)
   pub number : length (r .number) ≡ length (s .number)
   pub load : length (r .load) ≡ length (s .load)
 
@@ -228,12 +216,16 @@ pub record Room (sets rows : List ℕ) (into : Bool) (v : ℕ) (s : State) : Typ
   pub inside : (w : ℕ) → w < 128 → member? sets (2 * endOf into v) w ≡ true → w < n
   pub counted : (w : ℕ) → w < 128 → openAt sets (s .number) into v w ≡ true → 0 < getD (s .load) (endOf (not into) w) 0
 
+-- the first three numbers of entry b are stored
+abbrev pub stored : List ℕ → ℕ → ℕ → ℕ → ℕ → List ℕ
+stored spans b channel first last = set (set (set spans (4 * b) channel) (4 * b + 1) first) (4 * b + 2) last
+
 -- r is s with the open edges of an end as the next bundle
 pub record Added (sets rows : List ℕ) (c : ℕ) (into : Bool) (v : ℕ) (s r : State) : Type 0 where
   pub count : r .count ≡ s .count + 1
-  pub channel : r .channel ≡ set (s .channel) (s .count) c
-  pub first : r .first ≡ set (s .first) (s .count) (min (lowest 128 (openAt sets (s .number) into v) (λ w. getD rows w 0)) (getD rows v 0))
-  pub last : r .last ≡ set (s .last) (s .count) (max (highest 128 (openAt sets (s .number) into v) (λ w. getD rows w 0)) (getD rows v 0))
+  pub spans : r .spans ≡ stored (s .spans) (s .count) c
+      (min (lowest 128 (openAt sets (s .number) into v) (λ w. getD rows w 0)) (getD rows v 0))
+      (max (highest 128 (openAt sets (s .number) into v) (λ w. getD rows w 0)) (getD rows v 0))
   pub number : r .number ≡ set (s .number) (endOf into v) (s .count)
   pub size : length (r .load) ≡ length (s .load)
   pub gone : getD (r .load) (endOf into v) 0 ≡ 0
@@ -243,17 +235,18 @@ pub record Added (sets rows : List ℕ) (c : ℕ) (into : Bool) (v : ℕ) (s r :
 
 -- ---- the state
 
--- the values of f for the bundles, 0 past the last
-pub record Column (f : Bundle → ℕ) (bs : List Bundle) (values : List ℕ) : Type 0 where
-  pub value : (b : ℕ) → getD values b 0 ≡ f (getD bs b empty)
+-- number k of a bundle's entry: its channel, its first row, its last row, and 0
+abbrev pub part : ℕ → Bundle → ℕ
+part zero b = b .channel
+part (suc zero) b = b .first
+part (suc (suc zero)) b = b .last
+part (suc (suc (suc k))) b = 0
 
 -- s has the bundles bs of n vertices
 pub record Holds (n : ℕ) (bs : List Bundle) (s : State) : Type 0 where
   pub sized : Sized n s
   pub counted : s .count ≡ length bs
-  pub channel : Column (λ b. b .channel) bs (s .channel)
-  pub first : Column (λ b. b .first) bs (s .first)
-  pub last : Column (λ b. b .last) bs (s .last)
+  pub entry : (k b : ℕ) → k < 4 → quad k (s .spans) b ≡ part k (getD bs b empty)
   pub number : (into : Bool) (v : ℕ) → v < n → getD (s .number) (endOf into v) 0 ≡ numberFrom 0 bs into v
   pub past : (e : ℕ) → 2 * n ≤ e → e < length (s .number) → getD (s .number) e 0 ≡ noBundle
 
@@ -284,7 +277,38 @@ pub record Taking (c : ℕ) (into : Bool) (most : ℕ) (order : List ℕ) (len :
   pub underway : Underway n sets channel position rows c s
   pub level : Level order len most into 0 (s .load)
 
+-- n vertices with an entry each, and masks of their edges
+pub record Ready (n : ℕ) (sets position rows : List ℕ) : Type 0 where
+  pub small : n ≤ 128
+  pub long-position : n ≤ length position
+  pub long-rows : n ≤ length rows
+  pub masks : Sets n (sideIn n sets) sets
+
+-- the state after c channels
+pub record Planned (n : ℕ) (channel position rows sets : List ℕ) (c : ℕ) (s : State) : Type 0 where
+  pub stands : Stands n (sideIn n sets) (bundles n (sideIn n sets) (λ v. getD channel v 0) (λ v. getD position v 0)
+      (λ v. getD rows v 0) c) s
+
+-- before the bundles of channel c, for n vertices by their channels: two masks have those of this one
+pub record Turn (c low high : ℕ) (sets position rows : List ℕ) (s : State) : Type 0 where
+  pub n : ℕ
+  pub channel : List ℕ
+  pub ready : Ready n sets position rows
+  pub lower : Part n channel c low 0
+  pub upper : Part n channel c high 64
+  pub planned : Planned n channel position rows sets c s
+
 -- ---- before the first bundle
+
+-- n vertices by their channels, so many, with room for their order: two masks a channel have its vertices
+pub record Starting (channels : ℕ) (own sets position rows order : List ℕ) (s : State) : Type 0 where
+  pub n : ℕ
+  pub channel : List ℕ
+  pub ready : Ready n sets position rows
+  pub room : n ≤ length order
+  pub low : channels ≤ 128
+  pub owned : Owned channels channel n own
+  pub planned : Planned n channel position rows sets 0 s
 
 -- n vertices in so many channels, with an entry each
 pub record Vertices (n channels : ℕ) (channel position rows : List ℕ) : Type 0 where
@@ -295,8 +319,13 @@ pub record Vertices (n channels : ℕ) (channel position rows : List ℕ) : Type
   pub long-rows : n ≤ length rows
 
 -- lists with room for the bundles of n vertices, and none in them
-pub record Blank (n : ℕ) (of firsts lasts numbers : List ℕ) : Type 0 where
-  pub channel : (2 * n ≤ length of) × Filled 0 (length of) of
-  pub first : (2 * n ≤ length firsts) × Filled 0 (length firsts) firsts
-  pub last : (2 * n ≤ length lasts) × Filled 0 (length lasts) lasts
+pub record Blank (n : ℕ) (spans numbers : List ℕ) : Type 0 where
+  pub entry : (8 * n ≤ length spans) × Filled 0 (length spans) spans
   pub number : (2 * n ≤ length numbers) × Filled noBundle (length numbers) numbers
+
+-- ---- the answer
+
+-- the bundles of the edges that a table has, by the rule; the fourth number of an entry is 0
+pub record Answer (n : ℕ) (edges : List ℕ) (channels : ℕ) (channel position rows : List ℕ) (r : ℕ) (spans numbers : List ℕ) : Type 0 where
+  pub listed : Listed n (bundlesIn n edges channels (λ v. getD channel v 0) (λ v. getD position v 0) (λ v. getD rows v 0)) r spans numbers
+  pub fourth : (b : ℕ) → quad 3 spans b ≡ 0

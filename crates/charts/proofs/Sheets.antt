@@ -200,8 +200,8 @@ module _ (n : ℕ) (ends : List ℕ) (given : Bool) (field : List ℕ) (p : Plan
 
 -- the lists that are lent to the planner
 abbrev cleared : Lists
-cleared = lists (replicate 256 0) (replicate 258 0) (replicate 256 0) (replicate 256 0) (replicate 256 0) (replicate 256 0)
-    (replicate 256 0) (replicate 256 0) (replicate 256 0) (replicate 128 0) (replicate 128 0)
+cleared = lists (replicate 256 0) (replicate 258 0) (replicate 256 0) (replicate 256 0) (replicate 1024 0) (replicate 256 0)
+    (replicate 128 0) (replicate 128 0)
 
 -- .. have room for every graph
 roomy : (n : ℕ) → Roomy n cleared
@@ -209,14 +209,12 @@ roomy n =
     let one : min n 128 ≤ 128 = omega arith in
     let two : 2 * min n 128 ≤ 256 = omega arith in
     let more : 2 * min n 128 + 2 ≤ 258 = omega arith in
+    let eight : 8 * min n 128 ≤ 1024 = omega arith in
     let all : 128 ≤ 128 = omega arith in
     record {
       masks = record { edges = two; below = more; table = two; longer = two };
-      of = two;
-      first = two;
-      last = two;
+      spans = eight;
       number = two;
-      track = two;
       used = all;
       column = one;
     }

@@ -3,6 +3,7 @@ use mathlib.Core.Bool.{Bool, not}
 use mathlib.Core.List.{List}
 use Prim.Native.Nat.{ℕ, _+_, _*_, min}
 use lib.ListN.{getD, take}
+use Rattle.counting.specs.Quads.{quad}
 use Rattle.masks.specs.Sets.{member?}
 use Rattle.outline.specs.declared.Kind.{Kind}
 use Rattle.outline.specs.declared.VertexEntry.{VertexEntry}
@@ -45,10 +46,10 @@ edgeAt d ends e = record {
 
 unfoldable pub bundleAt : Sheet → ℕ → BundleEntry
 bundleAt d b = record {
-  channel = getD (d .of) b 0;
-  «first_row» = getD (d .first) b 0;
-  «last_row» = getD (d .last) b 0;
-  track = getD (d .track) b 0;
+  channel = quad 0 (d .spans) b;
+  «first_row» = quad 1 (d .spans) b;
+  «last_row» = quad 2 (d .spans) b;
+  track = quad 3 (d .spans) b;
 }
 
 -- whether an edge's entry has it reduced

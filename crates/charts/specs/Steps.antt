@@ -45,10 +45,7 @@ blankOf k = record {
   below = replicate 258 0;
   left = replicate 258 0;
   number = replicate 256 0;
-  of = replicate 256 0;
-  first = replicate 256 0;
-  last = replicate 256 0;
-  track = replicate 256 0;
+  spans = replicate 1024 0;
 }
 
 -- the tables of a plan of n vertices and m edges
@@ -71,10 +68,7 @@ sheetOf n m p t left = record {
   below = t .below;
   left = left;
   number = t .number;
-  of = t .of;
-  first = t .first;
-  last = t .last;
-  track = t .track;
+  spans = t .spans;
 }
 
 -- .. and the sets of the vertices left of each channel

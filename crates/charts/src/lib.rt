@@ -12,13 +12,13 @@ ghost use Rattle.charts.specs.Promise.{HandedOver};
 ghost use Rattle.charts.specs.Entries.{vertexAt, kindBy, kindAt, transitive?, edgeAt, bundleAt, reduced?};
 ghost use Rattle.charts.specs.Steps.{blankOf, Drafted, Room, GraphSheet, RecordSheet, endsOf, summaryOf, Leaves};
 use drawing::Plan;
+use fields::Layout;
 use kinds::Code;
 use outline::Bend;
 use outline::BundleEntry;
 use outline::EdgeEntry;
 use outline::Kind;
 use outline::VertexEntry;
-use fields::Layout;
 
 // Document 01's number, or 0; how many entries each list got; the other counts, and the tracks (document 01: side columns) of each
 // channel, 0 past the last. Every number but the first is 0 where the chart is refused.
@@ -36,7 +36,7 @@ pub struct Chart {
 
 // What a chart's counts and entries are made of, but for the ends of the edges: the places of the vertices, the pairs with a vertex
 // between, the sets of the vertices below each row and left of each channel, the bundle of the edges into each vertex and of those out of
-// it, in turn, and the channel, rows and track of each bundle.
+// it, in turn, and the channel, first row, last row and track of each bundle, in turn.
 pub struct Sheet {
     pub refusal: u8,
     pub vertices: usize,
@@ -55,10 +55,7 @@ pub struct Sheet {
     pub below: [u64; 258],
     pub left: [u64; 258],
     pub number: [u16; 256],
-    pub of: [u8; 256],
-    pub first: [u8; 256],
-    pub last: [u8; 256],
-    pub track: [u8; 256],
+    pub spans: [u8; 1024],
 }
 
 // A byte as a usize: asks nothing of the byte, where a cast of an element asks that it fits.
@@ -203,10 +200,10 @@ fn bundle_at(d: Sheet, i: usize) -> BundleEntry
     ensures { λ r. ⌜ r ≡ bundleAt d i ⌝ }
 {
     BundleEntry {
-        channel: d.of[i],
-        first_row: d.first[i],
-        last_row: d.last[i],
-        track: d.track[i],
+        channel: d.spans[4 * i],
+        first_row: d.spans[4 * i + 1],
+        last_row: d.spans[4 * i + 2],
+        track: d.spans[4 * i + 3],
     }
 }
 
@@ -234,10 +231,7 @@ fn blank(refusal: u8) -> Sheet
         below: [0; 258],
         left: [0; 258],
         number: [0; 256],
-        of: [0; 256],
-        first: [0; 256],
-        last: [0; 256],
-        track: [0; 256],
+        spans: [0; 1024],
     }
 }
 
@@ -249,15 +243,12 @@ fn drafted(
     p: Plan,
     below: [u64; 258],
     longer: [u64; 256],
-    of: [u8; 256],
-    first: [u8; 256],
-    last: [u8; 256],
+    spans: [u8; 1024],
     number: [u16; 256],
-    track: [u8; 256],
     tracks: [u16; 128],
     column: [u16; 128],
 ) -> Sheet
-    ensures { λ r. ⌜ ((edges table : List ℕ) → Drafted n m p (lists edges below table longer of first last number track tracks column) r) ⌝ }
+    ensures { λ r. ⌜ ((edges table : List ℕ) → Drafted n m p (lists edges below table longer spans number tracks column) r) ⌝ }
 {
     let channel = p.channel;
     let position = p.position;
@@ -283,10 +274,7 @@ fn drafted(
         below,
         left,
         number,
-        of,
-        first,
-        last,
-        track,
+        spans,
     }
 }
 
@@ -306,11 +294,8 @@ fn sheet_of_graph<'a>(
     let mut below = [0; 258];
     let mut table = [0; 256];
     let mut longer = [0; 256];
-    let mut of = [0; 256];
-    let mut first = [0; 256];
-    let mut last = [0; 256];
+    let mut spans = [0; 1024];
     let mut number = [0; 256];
-    let mut track = [0; 256];
     let mut used = [0; 128];
     let mut column = [0; 128];
     let p = drawing::planned(
@@ -322,11 +307,8 @@ fn sheet_of_graph<'a>(
         &mut below,
         &mut table,
         &mut longer,
-        &mut of,
-        &mut first,
-        &mut last,
+        &mut spans,
         &mut number,
-        &mut track,
         &mut used,
         &mut column,
     );
@@ -343,20 +325,7 @@ fn sheet_of_graph<'a>(
     if bundles < p.bundles {
         return blank(8);
     }
-    drafted(
-        n,
-        m,
-        p,
-        below,
-        longer,
-        of,
-        first,
-        last,
-        number,
-        track,
-        used,
-        column,
-    )
+    drafted(n, m, p, below, longer, spans, number, used, column)
 }
 
 // Of a record.

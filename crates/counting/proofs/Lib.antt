@@ -9,3 +9,4 @@ pub mod Booleans
 pub mod Choosing
 pub mod Mapping
 pub mod Clearing
+pub mod Quads

@@ -1,29 +1,31 @@
 -- What the whole answers: the first check that fails, or the tables. Assumes nothing.
 use mathlib.Core.Path.{_≡_, refl, sym, ap, _∙_}
-use mathlib.Core.Logic.{_≢_, _↔_}
+use mathlib.Core.Logic.{_≢_, ⊎-elim, _↔_}
 use mathlib.Core.Bool.{Bool, true, false, true≢false, _&&_}
 use mathlib.Core.List.{List}
-use Prim.Native.Nat.{ℕ, _+_, _*_, _/_, _<_, min}
+use Prim.Native.Nat.{ℕ, _+_, _*_, _≤_, _<_, min}
+use native.Mathlib.Decide.{ℕ-discrete}
 use native.Mathlib.Omega.{arith}
-use borrow.Author.Tests.{eq-eqb, ne-eqb, le-leb, leb-true}
-use lib.Dec.{eqb, leb}
+use borrow.Author.Tests.{le-leb, leb-true}
+use lib.Dec.{leb}
 use lib.ListN.{length, replicate}
-use Rattle.counting.specs.Count.{choose}
-use Rattle.counting.proofs.Truth.{and-intro, and-elim}
-use Rattle.counting.proofs.Choosing.{choose-yes, choose-no}
+use Rattle.counting.specs.Count.{choose, some}
+use Rattle.counting.proofs.Truth.{true-or-false, and-intro, and-elim}
+use Rattle.counting.proofs.Choosing.{choose-yes}
 use Rattle.counting.proofs.Zeros.{zeros}
 use Rattle.masks.specs.Sets.{at}
 use Rattle.reach.specs.Graph.{edgeCount}
 use Rattle.reach.specs.Refusal.{outsized?, refusal}
 use Rattle.reach.specs.Ends.{tailsOf, headsOf}
-use Rattle.reach.specs.Closure.{Adjacent}
-use Rattle.reach.proofs.Ends.{ends-counted}
+use Rattle.reach.specs.Closure.{Adjacent, reachable?}
+use Rattle.scanning.specs.Scanned.{Blank, endsRefusal, Scanned, Scans}
+use Rattle.scanning.proofs.Scanning.{outsized-positive}
 use Rattle.descent.specs.declared.Descent.{Descent}
-use Rattle.descent.specs.Scanned.{Blank, endsRefusal, Scanned}
-use Rattle.descent.specs.Closed.{Inside, Laid, Closed}
-use Rattle.descent.specs.Promise.{edgesRefusal, noDescent, fits?, Sized, Descends}
+use Rattle.descent.specs.Closed.{Inside, Laid, Closed, Layered}
+use Rattle.descent.specs.Promise.{edgesRefusal, noDescent, fits?, Sized, Descended, Descends}
 use Rattle.descent.proofs.Refusals.{edges-in-turn, answer-ends, answer-cycle}
-use Rattle.descent.proofs.Graphs.{graph-inside, graph-cyclic, graph-rows, graph-used, graph-below, graph-closure, graph-composed}
+use Rattle.descent.proofs.Graphs.{graph-inside, graph-cyclic, graph-acyclic, graph-rows, graph-used, graph-below}
+use Rattle.descent.proofs.Graphs.{graph-closure, graph-composed}
 
 -- ---- the lengths
 
@@ -56,7 +58,7 @@ module _ (n : ℕ) (e b t l : List ℕ) where
       record { edges = leb-true _ _ (p .0); below = leb-true _ _ (q .0); table = leb-true _ _ (r .0); longer = leb-true _ _ (r .1) }
 
 -- the work lists are as long as they were
-abbrev pub Kept : (e b t l e′ b′ t′ l′ : List ℕ) → Type 0
+abbrev Kept : (e b t l e′ b′ t′ l′ : List ℕ) → Type 0
 Kept e b t l e′ b′ t′ l′ = (length e′ ≡ length e) × (length b′ ≡ length b) × (length t′ ≡ length t) × (length l′ ≡ length l)
 
 -- ---- what is returned
@@ -68,10 +70,10 @@ module _ (n : ℕ) (ends e b t l : List ℕ) where
   abbrev heads : List ℕ
   heads = headsOf ends
 
-  pub descends-misfit : (r : Descent) → fits? n (length e) (length b) (length t) (length l) ≡ false → r ≡ noDescent 8
-      → Descends n ends e b t l r e b t l
-  descends-misfit r f q = record {
-    answer = λ s. absurd (true≢false (sym (sized-fits n e b t l s) ∙ f));
+  pub descends-misfit : (r : Descent) (fit : Bool) → fit ≡ fits? n (length e) (length b) (length t) (length l) → fit ≡ false
+      → r ≡ noDescent 8 → Descends n ends e b t l r e b t l
+  descends-misfit r fit a f q = record {
+    answer = λ s. absurd (true≢false (sym (sized-fits n e b t l s) ∙ sym a ∙ f));
     short = λ s. (ap (λ (x : Descent). x .refusal) q, refl, refl, refl, refl);
     none = λ ne. q ∙ ap noDescent (sym (ap (λ (x : Descent). x .refusal) q));
     made = λ z. absurd (let w : r .refusal ≡ 8 = ap (λ (x : Descent). x .refusal) q in omega arith);
@@ -80,75 +82,111 @@ module _ (n : ℕ) (ends e b t l : List ℕ) where
 
   module _ (sized : Sized n e b t l) where
     -- refused with k
-    module _ (k : ℕ) (r : Descent) (q : r ≡ noDescent k) (e′ b′ t′ l′ : List ℕ) (long : Kept e b t l e′ b′ t′ l′) where
-      refused : k ≢ 0 → edgesRefusal n tails heads ≡ k → Descends n ends e b t l r e′ b′ t′ l′
-      refused ne a =
-          let w : r .refusal ≡ k = ap (λ (x : Descent). x .refusal) q in
-          record {
-            answer = λ s. w ∙ sym a;
-            short = λ s. absurd (s sized);
-            none = λ _. q ∙ ap noDescent (sym w);
-            made = λ z. absurd (ne (sym w ∙ z));
-            long = long;
-          }
+    refused : (k : ℕ) (r : Descent) → r ≡ noDescent k → k ≢ 0 → edgesRefusal n tails heads ≡ k
+        → (e′ b′ t′ l′ : List ℕ) → Kept e b t l e′ b′ t′ l′ → Descends n ends e b t l r e′ b′ t′ l′
+    refused k r q ne a e′ b′ t′ l′ long =
+        let w : r .refusal ≡ k = ap (λ (x : Descent). x .refusal) q in
+        record {
+          answer = λ s. w ∙ sym a;
+          short = λ s. absurd (s sized);
+          none = λ _. q ∙ ap noDescent (sym w);
+          made = λ z. absurd (ne (sym w ∙ z));
+          long = long;
+        }
 
-      pub descends-outsized : outsized? n (length ends / 2) ≡ true → k ≡ 2 → Descends n ends e b t l r e′ b′ t′ l′
-      descends-outsized o z =
-          refused (omega arith)
-          (edges-in-turn n tails heads ∙ choose-yes (outsized? n (edgeCount tails heads)) _ _ (ap (outsized? n) (ends-counted ends) ∙ o) ∙ sym z)
+    -- the edges are checked: the answer is k
+    module _ (k : ℕ) (e′ : List ℕ) (scans : Scans n ends e k e′) where
+      pub descends-ends : (r : Descent) → r ≡ noDescent k → k ≢ 0 → Descends n ends e b t l r e′ b t l
+      descends-ends r q ne =
+          refused k r q ne (⊎-elim by-size by-ends (true-or-false (outsized? n (edgeCount tails heads))))
+          e′ b t l (scans .long, refl, refl, refl)
+        where
+          by-size : outsized? n (edgeCount tails heads) ≡ true → edgesRefusal n tails heads ≡ k
+          by-size o =
+              edges-in-turn n tails heads ∙ choose-yes (outsized? n (edgeCount tails heads)) _ _ o
+              ∙ sym (scans .outsized (sized .edges) o .0)
 
-      pub descends-ends : outsized? n (length ends / 2) ≡ false → Scanned n ends e′ k → k ≢ 0 → Descends n ends e b t l r e′ b′ t′ l′
-      descends-ends o s ne =
-          refused ne
-          (answer-ends n tails heads (ap (outsized? n) (ends-counted ends) ∙ o) (λ z. ne (s .answer ∙ z)) ∙ sym (s .answer))
+          by-ends : outsized? n (edgeCount tails heads) ≡ false → edgesRefusal n tails heads ≡ k
+          by-ends o =
+              let a = scans .checked (sized .edges) o .answer in
+              answer-ends n tails heads o (λ z. ne (a ∙ z)) ∙ sym a
 
-    -- the edges are accepted
-    module _ (e′ : List ℕ) (k : ℕ) (size : outsized? n (length ends / 2) ≡ false) (scanned : Scanned n ends e′ k) (good : k ≡ 0) where
-      outsized : outsized? n (edgeCount tails heads) ≡ false
-      outsized = ap (outsized? n) (ends-counted ends) ∙ size
+      -- and they are accepted
+      module _ (good : k ≡ 0) where
+        outsized : outsized? n (edgeCount tails heads) ≡ false
+        outsized =
+            ⊎-elim (λ o. absurd (let z = scans .outsized (sized .edges) o .0 in omega arith)) (λ o. o)
+            (true-or-false (outsized? n (edgeCount tails heads)))
 
-      no-ends : endsRefusal n tails heads ≡ 0
-      no-ends = sym (scanned .answer) ∙ good
+        checked : Scanned n ends e′ k
+        checked = scans .checked (sized .edges) outsized
 
-      none-refused : refusal n tails heads ≡ 0
-      none-refused = answer-cycle n tails heads outsized no-ends .1
+        no-ends : endsRefusal n tails heads ≡ 0
+        no-ends = sym (checked .answer) ∙ good
 
-      edge-bits : (u v : ℕ) → u < 128 → v < 128 → at 2 e′ u v ≡ 1 ↔ Adjacent n tails heads u v
-      edge-bits u v hu hv =
-          let b = scanned .bits (λ z. omega arith) u v hu hv in
-          ((λ i. (none-refused, b .0 i)), λ a. b .1 (a .1))
+        none-refused : refusal n tails heads ≡ 0
+        none-refused = answer-cycle n tails heads outsized no-ends .1
 
-      pub descends-inside : Inside e′ n
-      descends-inside = graph-inside n tails heads e′ none-refused edge-bits
+        edge-bits : (u v : ℕ) → u < 128 → v < 128 → at 2 e′ u v ≡ 1 ↔ Adjacent n tails heads u v
+        edge-bits u v hu hv =
+            let b = checked .bits (λ z. omega arith) u v hu hv in
+            ((λ i. (none-refused, b .0 i)), λ a. b .1 (a .1))
 
-      module _ (top : ℕ) (rows b′ : List ℕ) (laid : Laid e′ n top (replicate 128 0) rows b′) where
-        cyclic : edgesRefusal n tails heads ≡ choose (eqb top 0) (λ _. 5) (λ _. 0)
-        cyclic =
-            answer-cycle n tails heads outsized no-ends .0
-            ∙ ap (λ (x : Bool). choose {A = ℕ} x (λ _. 5) (λ _. 0)) (graph-cyclic n tails heads e′ none-refused edge-bits top (replicate 128 0) rows b′ laid)
+        -- the edges join vertices, and the lists have room for these
+        pub descends-ready : (0 < n) × (2 * n ≤ length e′) × (2 * n + 2 ≤ length b) × (2 * n ≤ length t) × (2 * n ≤ length l) × Inside e′ n
+        descends-ready =
+            let size = outsized-positive n _ outsized in
+            let small = size .1 in (
+              size .0,
+              (let h = sized .edges in let q = scans .long in omega arith),
+              (let h = sized .below in omega arith),
+              (let h = sized .table in omega arith),
+              (let h = sized .longer in omega arith),
+              graph-inside n tails heads e′ none-refused edge-bits,
+            )
 
-        pub descends-cyclic : (r : Descent) (t′ l′ : List ℕ) → top ≡ 0 → r ≡ noDescent 5 → Kept e b t l e′ b′ t′ l′
+        pub descends-layered : (r : Descent) (b′ t′ l′ : List ℕ) → Layered e′ n r b′ t′ l′ → Kept e b t l e′ b′ t′ l′
             → Descends n ends e b t l r e′ b′ t′ l′
-        descends-cyclic r t′ l′ z q long = refused 5 r q e′ b′ t′ l′ long (omega arith) (cyclic ∙ choose-yes (eqb top 0) _ _ (eq-eqb _ _ z))
+        descends-layered r b′ t′ l′ f long = go (ℕ-discrete (r .refusal) 0)
+          where
+            made : r .refusal ≡ 0 → Descended n tails heads r e′ b′ t′ l′
+            made z =
+                let g = f .laid z in
+                let c = f .closed z .1 in
+                record {
+                  closure = graph-closure n tails heads e′ none-refused edge-bits (c .0) (c .1) (replicate 128 0) t′ l′ (r .counts) (c .4)
+                      (c .2 .zero) (c .3 .zero) (zeros 128) (f .closed z .0);
+                  longer = graph-composed n tails heads e′ none-refused edge-bits (c .0) (c .1) (replicate 128 0) t′ l′ (r .counts) (c .4)
+                      (c .2 .zero) (c .3 .zero) (zeros 128);
+                  rows = graph-rows n tails heads e′ none-refused edge-bits (r .used) (replicate 128 0) (r .rows) b′ (g .2) (g .0);
+                  past = λ v h. g .2 .past v h ∙ zeros 128 v;
+                  used = graph-used n tails heads e′ none-refused edge-bits (r .used) (replicate 128 0) (r .rows) b′ (g .2) (g .0);
+                  below = graph-below n tails heads e′ none-refused edge-bits (r .used) (replicate 128 0) (r .rows) b′ (g .2) (g .0);
+                  sizes = (g .1, f .closed z .0);
+                }
 
-        -- and no cycle
-        module _ (t₀ l₀ t′ l′ counts : List ℕ) (some : top ≢ 0) (blank : Blank t₀) (blank′ : Blank l₀) (closed : Closed e′ n t₀ l₀ (replicate 128 0) t′ l′ counts) where
-          pub descends-made : Kept e b t l e′ b′ t′ l′ → length rows ≡ 128 → length counts ≡ 128
-              → Descends n ends e b t l (record { refusal = 0; used = top; rows = rows; counts = counts }) e′ b′ t′ l′
-          descends-made long lr lc = record {
-            answer = λ s. sym (cyclic ∙ choose-no (eqb top 0) _ _ (ne-eqb _ _ some));
-            short = λ s. absurd (s sized);
-            none = λ ne. absurd (ne refl);
-            made = λ z. record {
-              closure = graph-closure n tails heads e′ none-refused edge-bits t₀ l₀ (replicate 128 0) t′ l′ counts closed
-                  (blank .zero) (blank′ .zero) (zeros 128) lc;
-              longer = graph-composed n tails heads e′ none-refused edge-bits t₀ l₀ (replicate 128 0) t′ l′ counts closed
-                  (blank .zero) (blank′ .zero) (zeros 128);
-              rows = graph-rows n tails heads e′ none-refused edge-bits top (replicate 128 0) rows b′ laid some;
-              past = λ v h. laid .past v h ∙ zeros 128 v;
-              used = graph-used n tails heads e′ none-refused edge-bits top (replicate 128 0) rows b′ laid some;
-              below = graph-below n tails heads e′ none-refused edge-bits top (replicate 128 0) rows b′ laid some;
-              sizes = (lr, lc);
-            };
-            long = long;
-          }
+            -- the last check
+            last : (x : Bool) → some 128 (λ u. reachable? n tails heads u u) ≡ x → edgesRefusal n tails heads ≡ choose x (λ _. 5) (λ _. 0)
+            last x q = answer-cycle n tails heads outsized no-ends .0 ∙ ap (λ (y : Bool). choose {A = ℕ} y (λ _. 5) (λ _. 0)) q
+
+            go : Dec (r .refusal ≡ 0) → Descends n ends e b t l r e′ b′ t′ l′
+            go (yes z) =
+                let a = last false (graph-acyclic n tails heads e′ none-refused edge-bits (f .laid z .2 .acyclic (f .laid z .0))) in
+                record { answer = λ _. z ∙ sym a; short = λ s. absurd (s sized); none = λ ne. absurd (ne z); made = made; long = long }
+            go (no d) =
+                let a = last true (graph-cyclic n tails heads e′ none-refused edge-bits (f .cyclic d .1)) in
+                refused 5 r (f .cyclic d .0) (omega arith) a e′ b′ t′ l′ long
+
+-- ---- the rows and what is reached
+
+module _ (e : List ℕ) (n top : ℕ) (rows b : List ℕ) (laid : Laid e n top (replicate 128 0) rows b) where
+  pub layered-cyclic : top ≡ 0 → (r : Descent) (t l : List ℕ) → r ≡ noDescent 5 → Layered e n r b t l
+  layered-cyclic z r t l q =
+      let w : r .refusal ≡ 5 = ap (λ (x : Descent). x .refusal) q in
+      record { cyclic = λ _. (q, laid .cyclic z); laid = λ i. absurd (omega arith); closed = λ i. absurd (omega arith) }
+
+  pub layered-made : top ≢ 0 → (t₀ l₀ t l counts : List ℕ) → Blank t₀ → Blank l₀ → Closed e n t₀ l₀ (replicate 128 0) t l counts
+      → length rows ≡ 128 → length counts ≡ 128
+      → Layered e n (record { refusal = 0; used = top; rows = rows; counts = counts }) b t l
+  layered-made used t₀ l₀ t l counts blank blank′ closed lr lc =
+      record { cyclic = λ ne. absurd (ne refl); laid = λ _. (used, lr, laid); closed = λ _. (lc, (t₀, l₀, blank, blank′, closed)) }

@@ -1,12 +1,12 @@
 -- The descent for the table of edges of a graph: its reachability, longer routes and rows. Assumes nothing.
 use mathlib.Core.Path.{_≡_, sym, ap₂, _∙_, subst}
 use mathlib.Core.Logic.{_≢_, ⊎-elim, _↔_}
+use mathlib.Core.Bool.{true, false}
 use mathlib.Core.List.{List}
 use Prim.Native.Nat.{ℕ, _+_, _*_, _≤_, _<_}
 use native.Mathlib.Nat.{lt-of-lt-of-le}
-use native.Mathlib.Decide.{ℕ-discrete}
 use native.Mathlib.Omega.{arith}
-use borrow.Author.Tests.{eq-eqb, ne-eqb, eqb-true}
+use borrow.Author.Tests.{eq-eqb, eqb-true}
 use lib.Dec.{eqb}
 use lib.ListN.{length, getD}
 use Rattle.counting.specs.Count.{count, some}
@@ -31,7 +31,8 @@ use Rattle.layers.proofs.Same.{row-same, used-same}
 use Rattle.descent.specs.Closed.{Arc, edgeIn, Inside, Laid, Closed}
 use Rattle.descent.proofs.Arcs.{reached-count}
 
-module _ (n : ℕ) (tails heads e : List ℕ) (accepted : refusal n tails heads ≡ 0) (edges : (u v : ℕ) → u < 128 → v < 128 → at 2 e u v ≡ 1 ↔ Adjacent n tails heads u v) where
+module _ (n : ℕ) (tails heads e : List ℕ) (accepted : refusal n tails heads ≡ 0)
+    (edges : (u v : ℕ) → u < 128 → v < 128 → at 2 e u v ≡ 1 ↔ Adjacent n tails heads u v) where
   within : Within n (edgeCount tails heads) tails heads
   within = accepted-within n tails heads accepted .0
 
@@ -55,20 +56,19 @@ module _ (n : ℕ) (tails heads e : List ℕ) (accepted : refusal n tails heads 
     head = λ u v a. head-below 2 tails heads n within u v (arc-edge u v a);
   }
 
-  -- 0 rows exactly where the graph has a cycle
-  pub graph-cyclic : (r : ℕ) (rows s below : List ℕ) → Laid e n r rows s below → some 128 (λ u. reachable? n tails heads u u) ≡ eqb r 0
-  graph-cyclic r rows s below g = go (ℕ-discrete r 0)
-    where
-      go : Dec (r ≡ 0) → some 128 (λ u. reachable? n tails heads u u) ≡ eqb r 0
-      go (yes z) =
-          let u = g .cyclic z in
-          let h = small in
-          some-found 128 (λ x. reachable? n tails heads x x) (u .0) (let l = u .1 in omega arith) (reachable-decided n tails heads (u .0) (u .0) .0 (accepted, reaches-mono arc-edge (u .2)))
-          ∙ sym (eq-eqb r 0 z)
-      go (no d) =
-          some-none 128 (λ x. reachable? n tails heads x x)
-          (λ x h. ⊎-elim (λ t. absurd (g .acyclic d x (reaches-mono edge-arc (reachable-decided n tails heads x x .1 t .1)))) (λ f. f) (true-or-false (reachable? n tails heads x x)))
-          ∙ sym (ne-eqb r 0 d)
+  -- a vertex that reaches itself, or none
+  pub graph-cyclic : ((u : ℕ) × (u < n) × Reaches (Arc e) u u) → some 128 (λ u. reachable? n tails heads u u) ≡ true
+  graph-cyclic c =
+      some-found 128 (λ x. reachable? n tails heads x x) (c .0) (let h = small in let l = c .1 in omega arith)
+      (reachable-decided n tails heads (c .0) (c .0) .0 (accepted, reaches-mono arc-edge (c .2)))
+
+  pub graph-acyclic : ((u : ℕ) → Reaches (Arc e) u u → ⊥) → some 128 (λ u. reachable? n tails heads u u) ≡ false
+  graph-acyclic none =
+      some-none 128 (λ x. reachable? n tails heads x x)
+      (λ x h. ⊎-elim
+      (λ t. absurd (none x (reaches-mono edge-arc (reachable-decided n tails heads x x .1 t .1))))
+      (λ f. f)
+      (true-or-false (reachable? n tails heads x x)))
 
   -- the rows are those of the graph's edges
   same-edges : (u v : ℕ) → u < n → v < n → edgeIn e u v ≡ edge? tails heads u v
@@ -95,7 +95,8 @@ module _ (n : ℕ) (tails heads e : List ℕ) (accepted : refusal n tails heads 
           λ p. m .1 (p .0, subst (λ (x : ℕ). x < k) (sym (same (p .0))) (p .1)),
         )
 
-  module _ (t l c t′ l′ c′ : List ℕ) (g : Closed e n t l c t′ l′ c′) (no-t : (i : ℕ) → getD t i 0 ≡ 0) (no-l : (i : ℕ) → getD l i 0 ≡ 0) (no-c : (i : ℕ) → getD c i 0 ≡ 0) where
+  module _ (t l c t′ l′ c′ : List ℕ) (g : Closed e n t l c t′ l′ c′)
+      (no-t : (i : ℕ) → getD t i 0 ≡ 0) (no-l : (i : ℕ) → getD l i 0 ≡ 0) (no-c : (i : ℕ) → getD c i 0 ≡ 0) where
     blank : (s : List ℕ) (u v : ℕ) → v < 128 → getD s (2 * u) 0 ≡ 0 → getD s (2 * u + 1) 0 ≡ 0 → at 2 s u v ≡ 0
     blank s u v h p q = sym (pair-at s u v h) ∙ ap₂ (λ (x y : ℕ). inPair x y v) p q ∙ pair-zero v h
 
@@ -148,7 +149,8 @@ module _ (n : ℕ) (tails heads e : List ℕ) (accepted : refusal n tails heads 
         (λ i. let p = longer-between .0 (graph-longer u v hu hv .0 i) in
             let hw = ends (p .1) in
             (p .0, hw, graph-bits u (p .0) hu hw .1 (accepted, p .1), graph-bits (p .0) v hw hv .1 (accepted, p .2))),
-        λ p. graph-longer u v hu hv .1 (longer-between .1 (p .0, graph-bits u (p .0) hu (p .1) .0 (p .2) .1, graph-bits (p .0) v (p .1) hv .0 (p .3) .1)),
+        λ p. graph-longer u v hu hv .1
+            (longer-between .1 (p .0, graph-bits u (p .0) hu (p .1) .0 (p .2) .1, graph-bits (p .0) v (p .1) hv .0 (p .3) .1)),
       );
     }
       where

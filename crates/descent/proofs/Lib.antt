@@ -1,5 +1,3 @@
-pub mod Duplicates
-pub mod Scanning
 pub mod Gathering
 pub mod Skipping
 pub mod Descending

@@ -1,19 +1,17 @@
 -- The answer, by the tests of its checks. Assumes nothing.
-use mathlib.Core.Path.{_≡_, refl, sym, _∙_}
+use mathlib.Core.Path.{_≡_, refl, _∙_}
 use mathlib.Core.Logic.{_≢_}
-use mathlib.Core.Bool.{Bool, true, false, true≢false, _||_}
+use mathlib.Core.Bool.{Bool, true, false, true≢false}
 use mathlib.Core.List.{List}
-use Prim.Native.Nat.{ℕ, _≤_, _<_}
+use Prim.Native.Nat.{ℕ}
 use native.Mathlib.Omega.{arith}
-use borrow.Author.Tests.{eqb-false, ltb-false}
-use lib.Dec.{eqb, ltb}
+use lib.Dec.{eqb}
 use Rattle.counting.specs.Count.{choose, some}
-use Rattle.counting.proofs.Truth.{or-neither}
 use Rattle.reach.specs.Graph.{edgeCount}
 use Rattle.reach.specs.Refusal.{outsized?, strange?, verdict, refusal}
 use Rattle.reach.specs.Ends.{duplicate?}
 use Rattle.reach.specs.Closure.{reachable?}
-use Rattle.descent.specs.Scanned.{endsRefusal}
+use Rattle.scanning.specs.Scanned.{endsRefusal}
 use Rattle.descent.specs.Promise.{edgesRefusal}
 
 -- the first that holds of the tests of size, strangers, duplicates and cycles
@@ -24,19 +22,12 @@ firstOf o s d c = choose o (λ _. 2) (λ _. choose s (λ _. 3) (λ _. choose d (
 abbrev ofEnds : Bool → Bool → ℕ
 ofEnds s d = choose s (λ _. 3) (λ _. choose d (λ _. 4) (λ _. 0))
 
-by-tests : (o s d c : Bool) → choose {A = ℕ} (eqb (verdict o s) 0) (λ _. choose d (λ _. 4) (λ _. choose c (λ _. 5) (λ _. 0))) (λ _. verdict o s) ≡ firstOf o s d c
+by-tests : (o s d c : Bool)
+    → choose {A = ℕ} (eqb (verdict o s) 0) (λ _. choose d (λ _. 4) (λ _. choose c (λ _. 5) (λ _. 0))) (λ _. verdict o s) ≡ firstOf o s d c
 unfolding verdict
 by-tests true s d c = refl
 by-tests false true d c = refl
 by-tests false false d c = refl
-
-none-first : (o s d c : Bool) → firstOf o s d c ≡ 0 → (verdict o s ≡ 0) × (d ≡ false) × (c ≡ false)
-unfolding verdict
-none-first true s d c e = absurd (let z : _≡_ {A = ℕ} 2 0 = e in omega arith)
-none-first false true d c e = absurd (let z : _≡_ {A = ℕ} 3 0 = e in omega arith)
-none-first false false true c e = absurd (let z : _≡_ {A = ℕ} 4 0 = e in omega arith)
-none-first false false false true e = absurd (let z : _≡_ {A = ℕ} 5 0 = e in omega arith)
-none-first false false false false e = (refl, refl, refl)
 
 ends-first : (o s d c : Bool) → o ≡ false → ofEnds s d ≢ 0 → firstOf o s d c ≡ ofEnds s d
 ends-first true s d c p ne = absurd (true≢false p)
@@ -65,28 +56,17 @@ module _ (n : ℕ) (tails heads : List ℕ) where
   cycle = some 128 (λ u. reachable? n tails heads u u)
 
   -- the four tests in turn
-  pub edges-in-turn : edgesRefusal n tails heads ≡ choose size (λ _. 2) (λ _. choose strange (λ _. 3) (λ _. choose double (λ _. 4) (λ _. choose cycle (λ _. 5) (λ _. 0))))
+  pub edges-in-turn : edgesRefusal n tails heads
+      ≡ choose size (λ _. 2) (λ _. choose strange (λ _. 3) (λ _. choose double (λ _. 4) (λ _. choose cycle (λ _. 5) (λ _. 0))))
   unfolding edgesRefusal refusal
   edges-in-turn = by-tests size strange double cycle
-
-  -- edges that are accepted: a graph that `reach` accepts, no edge twice, and no cycle
-  pub edges-accepted : edgesRefusal n tails heads ≡ 0 → (refusal n tails heads ≡ 0) × (double ≡ false) × (cycle ≡ false)
-  unfolding refusal
-  edges-accepted e = none-first size strange double cycle (sym edges-in-turn ∙ e)
 
   module _ (sized : size ≡ false) where
     pub answer-ends : endsRefusal n tails heads ≢ 0 → edgesRefusal n tails heads ≡ endsRefusal n tails heads
     unfolding endsRefusal
     answer-ends ne = edges-in-turn ∙ ends-first size strange double cycle sized ne
 
-    pub answer-cycle : endsRefusal n tails heads ≡ 0 → (edgesRefusal n tails heads ≡ choose cycle (λ _. 5) (λ _. 0)) × (refusal n tails heads ≡ 0)
+    pub answer-cycle : endsRefusal n tails heads ≡ 0
+        → (edgesRefusal n tails heads ≡ choose cycle (λ _. 5) (λ _. 0)) × (refusal n tails heads ≡ 0)
     unfolding endsRefusal refusal
     answer-cycle e = let p = cycle-first size strange double cycle sized e in (edges-in-turn ∙ p .0, p .1)
-
--- a number of vertices that is not refused
-pub outsized-positive : (n m : ℕ) → outsized? n m ≡ false → (0 < n) × (n ≤ 128)
-unfolding outsized?
-outsized-positive n m e =
-    let p = or-neither (eqb n 0) (ltb 128 n) (or-neither (eqb n 0 || ltb 128 n) (ltb 4096 m) e .0) in
-    let z = eqb-false n 0 (p .0) in
-    (omega arith, ltb-false 128 n (p .1))

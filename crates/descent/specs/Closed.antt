@@ -5,12 +5,15 @@ use mathlib.Core.Bool.{Bool, _&&_}
 use mathlib.Core.List.{List}
 use Prim.Native.Nat.{ℕ, _+_, _*_, _≤_, _<_}
 use lib.Dec.{eqb, ltb}
-use lib.ListN.{length, getD}
+use lib.ListN.{length, getD, replicate}
 use Rattle.counting.specs.Count.{sum, count}
 use Rattle.masks.specs.Bits.{bit}
 use Rattle.masks.specs.Sets.{at}
 use Rattle.reach.specs.Graph.{Reaches, Longer, reaches?}
+use Rattle.scanning.specs.Scanned.{Blank}
 use Rattle.layers.specs.Rows.{row, rowsUsed}
+use Rattle.descent.specs.declared.Descent.{Descent}
+use Rattle.descent.specs.Promise.{noDescent}
 
 -- the table e has an edge from u to v
 abbrev pub Arc : List ℕ → ℕ → ℕ → Type 0
@@ -84,3 +87,11 @@ pub record Closed (e : List ℕ) (n : ℕ) (t l c t′ l′ c′ : List ℕ) : T
   pub farther : (u v : ℕ) → u < n → v < 128 → at 2 l′ u v ≡ 1 ↔ Longer (Arc e) u v
   pub counted : (u : ℕ) → u < n → getD c′ u 0 ≡ count 128 (reaches? (arc? e) n u)
   pub others : (u : ℕ) → n ≤ u → Same u t l c t′ l′ c′
+
+-- the rows of n vertices and what each reaches, from lists of zeros: refused with 5 where a vertex reaches itself, and then what the lists
+-- hold is left free
+pub record Layered (e : List ℕ) (n : ℕ) (r : Descent) (b t l : List ℕ) : Type 0 where
+  pub cyclic : r .refusal ≢ 0 → (r ≡ noDescent 5) × ((u : ℕ) × (u < n) × Reaches (Arc e) u u)
+  pub laid : r .refusal ≡ 0 → (r .used ≢ 0) × (length (r .rows) ≡ 128) × Laid e n (r .used) (replicate 128 0) (r .rows) b
+  pub closed : r .refusal ≡ 0 → (length (r .counts) ≡ 128)
+      × ((t₀ l₀ : List ℕ) × Blank t₀ × Blank l₀ × Closed e n t₀ l₀ (replicate 128 0) t l (r .counts))

@@ -1,4 +1,3 @@
 pub mod Members
-pub mod Scanned
 pub mod Closed
 pub mod Promise

@@ -1,22 +1,17 @@
-// Layer 1: from the bytes of a graph's edges to its tables (document 01: 'Descent', 'Rows'). Rows are found by rounds; then, from the highest
-// row down, each vertex gets the union of its successors' sets. A table has two masks of 64 bits a vertex: bit v mod 64, lowest first, of
+// Layer 1: from the bytes of a graph's edges to its tables (document 01: 'Descent', 'Rows'). The crate `scanning` checks the edges and makes
+// their table. Rows are found by rounds; then, from the highest row down, each vertex gets the union of its successors' sets. A table has two masks of 64 bits a vertex: bit v mod 64, lowest first, of
 // mask 2 u + v / 64 says that v is in the set of u.
 ghost use mathlib.Core.Path.{_≡_};
 ghost use Prim.Native.Nat.{ℕ, _+_, _*_, _≤_, _<_, min};
 ghost use lib.ListN.{length};
-ghost use Rattle.counting.specs.Count.{choose};
 ghost use Rattle.masks.specs.Bits.{bit};
-ghost use Rattle.masks.specs.Sets.{member?, inserted};
-ghost use Rattle.reach.specs.Refusal.{outsized?};
+ghost use Rattle.scanning.specs.Scanned.{Blank};
 ghost use Rattle.descent.specs.Members.{Below, Long, Gathered, Pictured, Nested, Covered, Written};
-ghost use Rattle.descent.specs.Scanned.{Blank, Scanned};
-ghost use Rattle.descent.specs.Closed.{Arc, Ample, Reached, Finished, Vertex, Row, Inside, Prefixes, Laid, Closed};
+ghost use Rattle.descent.specs.Closed.{Arc, Ample, Reached, Finished, Vertex, Row, Inside, Prefixes, Laid, Closed, Layered};
 ghost use Rattle.descent.specs.Promise.{noDescent, fits?, Descends};
 
-// The most vertices and edges of a graph.
+// The most vertices of a graph.
 const MOST_VERTICES: usize = 128;
-
-const MOST_EDGES: usize = 4096;
 
 // Why the edges are refused, or 0; rows used, the row of each vertex, 0 past the last, and how many vertices each reaches.
 pub struct Descent {
@@ -30,61 +25,6 @@ pub struct Descent {
 struct Pair {
     low: u64,
     high: u64,
-}
-
-// A byte as a usize: asks nothing of the byte, where a cast of an element asks that it fits.
-fn wide(x: u8) -> usize
-    ensures { λ r. ⌜ (r ≡ x) × (r < 256) ⌝ }
-{
-    x as usize
-}
-
-// ---- the edges
-
-// No bit set in any mask.
-fn clear(masks: &mut [u64])
-    ensures { λ _. ⌜ Blank (now (masks .exit)) ⌝ }
-{
-    for i in 0..masks.len() {
-        masks[i] = 0;
-    }
-}
-
-// Puts v into the set of u: 4 where it stood there before, else what came in.
-fn mark(edges: &mut [u64], u: usize, v: usize, double: u8) -> u8
-    requires { ⌜ (u < 128) × (v < 128) × (2 * u + 2 ≤ length (now edges)) ⌝ }
-    ensures { λ r. ⌜ (r ≡ choose (member? (now (edges .entry)) (2 * u) v) (λ _. 4) (λ _. double)) × (now (edges .exit) ≡ inserted (now (edges .entry)) (2 * u) v) ⌝ }
-{
-    let w = 2 * u + v / 64;
-    let old = edges[w];
-    edges[w] = old | (1u64 << (v % 64));
-    if (old >> (v % 64)) & 1 == 1 {
-        return 4;
-    }
-    double
-}
-
-// The checks 3 and 4 of edges, two bytes each, among n vertices: the first that fails, else 0. Unless it answers 3, `edges` has the
-// edges' bits and no other.
-fn scan(ends: &[u8], n: usize, edges: &mut [u64]) -> u8
-    requires { ⌜ (n ≤ 128) × (2 * n ≤ length (now edges)) × Blank (now edges) ⌝ }
-    ensures { λ r. ⌜ Scanned n (now (ends .entry)) (now (edges .exit)) r ⌝ }
-{
-    let m = ends.len() / 2;
-    let mut double: u8 = 0;
-    for i in 0..m {
-        let at = 2 * i;
-        let u = wide(ends[at]);
-        let v = wide(ends[at + 1]);
-        if n <= u {
-            return 3;
-        }
-        if n <= v {
-            return 3;
-        }
-        double = mark(edges, u, v, double);
-    }
-    double
 }
 
 // ---- unions
@@ -293,6 +233,43 @@ fn no_descent(refusal: u8) -> Descent
     }
 }
 
+// No bit set in any mask.
+fn clear(masks: &mut [u64])
+    ensures { λ _. ⌜ Blank (now (masks .exit)) ⌝ }
+{
+    for i in 0..masks.len() {
+        masks[i] = 0;
+    }
+}
+
+// The rows of n vertices and what each reaches, by the table of their edges. Refused with 5 where a vertex reaches itself.
+fn layered(
+    n: usize,
+    edges: &[u64],
+    below: &mut [u64],
+    table: &mut [u64],
+    longer: &mut [u64],
+) -> Descent
+    requires { ⌜ (0 < n) × (2 * n ≤ length (now edges)) × (2 * n + 2 ≤ length (now below)) × (2 * n ≤ length (now table)) × (2 * n ≤ length (now longer)) × Inside (now edges) n ⌝ }
+    ensures { λ r. ⌜ Layered (now (edges .entry)) n r (now (below .exit)) (now (table .exit)) (now (longer .exit)) ⌝ }
+{
+    clear(table);
+    clear(longer);
+    let mut rows = [0u8; 128];
+    let top = grown(edges, n, &mut rows, below);
+    if top == 0 {
+        return no_descent(5);
+    }
+    let mut counts = [0u8; 128];
+    close(edges, below, n, top, table, longer, &mut counts);
+    Descent {
+        refusal: 0,
+        used: top as u8,
+        rows,
+        counts,
+    }
+}
+
 // How many masks the sets of n vertices have, of at most 128.
 fn room(n: usize) -> usize
     ensures { λ r. ⌜ r ≡ 2 * min n 128 ⌝ }
@@ -320,19 +297,6 @@ fn is_fit(n: usize, edges: usize, below: usize, table: usize, longer: usize) -> 
     least <= longer
 }
 
-// Whether n vertices and m edges are too few or too many.
-fn is_outsized(n: usize, m: usize) -> bool
-    ensures { λ r. ⌜ r ≡ outsized? n m ⌝ }
-{
-    if n == 0 {
-        return true;
-    }
-    if MOST_VERTICES < n {
-        return true;
-    }
-    MOST_EDGES < m
-}
-
 // The tables of n vertices and of edges of two bytes each, tail and head. Refused with 8 (a work list lacks room: nothing is changed),
 // 2 (no vertex, more than 128, or more than 4,096 edges), 3 (an end of n or more), 4 (an edge twice) or 5 (a cycle).
 pub fn descend(
@@ -348,27 +312,9 @@ pub fn descend(
     if !is_fit(n, edges.len(), below.len(), table.len(), longer.len()) {
         return no_descent(8);
     }
-    if is_outsized(n, ends.len() / 2) {
-        return no_descent(2);
-    }
-    clear(edges);
-    clear(table);
-    clear(longer);
-    let k = scan(ends, n, edges);
+    let k = scanning::scanned(n, ends, edges);
     if k != 0 {
         return no_descent(k);
     }
-    let mut rows = [0u8; 128];
-    let top = grown(edges, n, &mut rows, below);
-    if top == 0 {
-        return no_descent(5);
-    }
-    let mut counts = [0u8; 128];
-    close(edges, below, n, top, table, longer, &mut counts);
-    Descent {
-        refusal: 0,
-        used: top as u8,
-        rows,
-        counts,
-    }
+    layered(n, edges, below, table, longer)
 }

@@ -10,6 +10,7 @@ use lib.ListN.{length, getD, take}
 use lib.Seq.{getD-take, length-take-le}
 use borrow.Author.Tests.{eqb-true}
 use Rattle.counting.specs.Count.{choose}
+use Rattle.counting.specs.Quads.{quad}
 use Rattle.counting.proofs.Somes.{some-ext}
 use Rattle.masks.specs.Sets.{member?, at}
 use Rattle.matching.specs.Lists.{channelOf, positionOf}
@@ -109,10 +110,10 @@ module _ (c : Content) (p : Plan) (t : Lists) (l : Laid c p t) where
 
   pub bundle-drawn : (b : ℕ) → _≡_ {A = BundleEntry}
       (record {
-        channel = getD (t .of) b 0;
-        «first_row» = getD (t .first) b 0;
-        «last_row» = getD (t .last) b 0;
-        track = getD (t .track) b 0;
+        channel = quad 0 (t .spans) b;
+        «first_row» = quad 1 (t .spans) b;
+        «last_row» = quad 2 (t .spans) b;
+        track = quad 3 (t .spans) b;
       })
       (bundleEntry planned b)
   unfolding bundleEntry

@@ -1,16 +1,17 @@
 -- What the lower layers promise of a graph that passes the checks is what its chart is drawn from. Cites their promises alone. Assumes
 -- nothing.
 use mathlib.Core.Path.{_≡_, refl, sym, ap, _∙_, subst}
-use mathlib.Core.Logic.{_↔_}
-use mathlib.Core.Bool.{Bool, _&&_}
+use mathlib.Core.Logic.{_↔_, ⊎-elim}
+use mathlib.Core.Bool.{_&&_}
 use mathlib.Core.List.{List}
-use Prim.Native.Nat.{ℕ, _*_, _≤_, _<_, min}
+use Prim.Native.Nat.{ℕ, _*_, _/_, _≤_, _<_, min}
 use native.Mathlib.Omega.{arith}
 use lib.Dec.{eqb}
 use lib.ListN.{length, getD}
 use borrow.Author.Tests.{eq-eqb, eqb-true}
-use Rattle.counting.specs.Count.{choose, count}
-use Rattle.counting.proofs.Truth.{same-truth, and-intro, and-elim}
+use Rattle.counting.specs.Count.{choose}
+use Rattle.counting.specs.Quads.{quad}
+use Rattle.counting.proofs.Truth.{same-truth, lt-or-le, and-intro, and-elim}
 use Rattle.counting.proofs.Somes.{some-found, some-which}
 use Rattle.masks.specs.Sets.{member?, at}
 use Rattle.matching.specs.Lists.{channelOf, positionOf}
@@ -22,8 +23,7 @@ use Rattle.reach.proofs.Closures.{same-test}
 use Rattle.channels.specs.Given.{linesOf}
 use Rattle.planning.specs.Arranged.{Arranged}
 use Rattle.search.specs.Table.{leadsIn}
-use Rattle.record.specs.Checks.{Content, refusalOf}
-use Rattle.record.specs.Checked.{Passes}
+use Rattle.record.specs.Checks.{Content}
 use Rattle.record.specs.Sound.{Sound}
 use Rattle.record.specs.declared.checks.Checked.{Checked}
 use Rattle.record.proofs.Soundness.{accepted-sound}
@@ -37,7 +37,7 @@ use Rattle.tracks.specs.Promise.{Tracked, Assigned}
 use Rattle.tracks.specs.Tracks.{tracks, topIn}
 use Rattle.tracks.proofs.Extension.{tracks-ext}
 use Rattle.tracks.proofs.Different.{top-ext}
-use Rattle.tracks.proofs.Theorems.{tracked-rising}
+use Rattle.tracks.proofs.Theorems.{track-past, tracked-rising}
 use Rattle.geometry.specs.Placement.{evenGaps, blockStart, ownColumn}
 use Rattle.outline.specs.Chart as chart
 use Rattle.outline.specs.Chart.{leads?, channelsOf, planOf, rowOf, rowCount, descendantsOf, tracksIn, columnIn, widthOf, widths}
@@ -46,23 +46,56 @@ use Rattle.outline.proofs.Channels.{channels-few, channel-below, vertices-small
 use Rattle.outline.proofs.Bundling.{bundle-intervals}
 use Rattle.outline.proofs.Columns.{width-on-page}
 use Rattle.drawing.specs.Drawn.{graphContent}
-use Rattle.drawing.specs.Laid.{Lists, lists, Laid, Roomy}
-use Rattle.drawing.specs.Parts.{Spaceable, Spaced}
+use Rattle.drawing.specs.Laid.{Lists, lists, Laid}
+use Rattle.drawing.specs.Parts.{Spaceable, Spaced, Passed, Filled}
+use Rattle.drawing.specs.declared.Plan.{Plan}
 use Rattle.drawing.proofs.Spacing.{start-same, own-same}
 
-le-min : (a b c : ℕ) → a ≤ b → a ≤ c → a ≤ min b c
-le-min a b c l r = omega arith
+-- the plan of what the checks and the layers above them made
+abbrev planFrom : Checked → ℕ → ℕ → Plan
+planFrom k bs width = record {
+  refusal = 0;
+  rows = k .used;
+  row = k .rows;
+  descendants = k .counts;
+  channels = k .channels .count;
+  channel = k .channels .channel;
+  position = k .channels .position;
+  bundles = bs;
+  width = width;
+}
 
-module _ (n : ℕ) (ends : List ℕ) (given : Bool) (field : List ℕ) (accepted : refusalOf (graphContent n ends given field) ≡ 0)
-    (k : Checked) (e b t l : List ℕ) (p : Passes n ends given field k e b t l) where
+-- a list of m entries or more has as many as there are
+least : (m x : ℕ) → m ≤ 256 → 4 * m ≤ x → min m (min 256 (x / 4)) ≡ m
+least m x k l = omega arith
+
+module _ {n : ℕ} {k : Checked} {e spans number used column : List ℕ} (x : Passed n k e spans number used column) where
   abbrev c : Content
-  c = graphContent n ends given field
+  c = graphContent n (x .ends) (x .given) (x .field)
+
+  abbrev tails : List ℕ
+  tails = tailsOf (x .ends)
+
+  abbrev heads : List ℕ
+  heads = headsOf (x .ends)
+
+  abbrev t : List ℕ
+  t = x .table
 
   abbrev ls : List (List ℕ)
   ls = channelsOf c
 
+  abbrev channel : ℕ → ℕ
+  channel v = getD (k .channels .channel) v 0
+
+  abbrev position : ℕ → ℕ
+  position v = getD (k .channels .position) v 0
+
+  abbrev row : ℕ → ℕ
+  row v = getD (k .rows) v 0
+
   s : Sound c
-  s = accepted-sound c accepted
+  s = accepted-sound c (x .accepted)
 
   small : n ≤ 128
   unfolding graphContent
@@ -72,213 +105,237 @@ module _ (n : ℕ) (ends : List ℕ) (given : Bool) (field : List ℕ) (accepted
 
   table-same : (u v : ℕ) → u < 128 → v < 128 → eqb (at 2 t u v) 1 ≡ leads? c u v
   unfolding leads? graphContent
-  table-same u v hu hv = same-test n (tailsOf ends) (headsOf ends) t (p .descended .closure .bits) u v hu hv
+  table-same u v hu hv = same-test n tails heads t (x .passes .descended .closure .bits) u v hu hv
 
   table-leads : (u v : ℕ) → u < n → v < n → leadsIn t u v ≡ leads? c u v
   unfolding leadsIn
   table-leads u v hu hv = table-same u v (omega (arith, small)) (omega (arith, small))
 
-  edges-same : (u v : ℕ) → u < n → v < n → member? e (2 * u) v ≡ edge? (tailsOf ends) (headsOf ends) u v
+  edges-same : (u v : ℕ) → u < n → v < n → member? e (2 * u) v ≡ edge? tails heads u v
   unfolding at graphContent
   edges-same u v hu hv =
-      let bits = p .descended .closure .edge-bits u v (omega (arith, small)) (omega (arith, small)) in
-      let there = edge-decided (tailsOf ends) (headsOf ends) u v in
-      same-truth _ _ (λ x. there .0 (bits .0 (eqb-true _ 1 x) .1)) (λ x. eq-eqb _ 1 (bits .1 (graph-accepted c s, there .1 x)))
+      let bits = x .passes .descended .closure .edge-bits u v (omega (arith, small)) (omega (arith, small)) in
+      let there = edge-decided tails heads u v in
+      same-truth _ _ (λ y. there .0 (bits .0 (eqb-true _ 1 y) .1)) (λ y. eq-eqb _ 1 (bits .1 (graph-accepted c s, there .1 y)))
 
   -- a vertex between
-  longer-laid : (u v : ℕ) → u < n → v < n → member? l (2 * u) v ≡ transitive? (leads? c) n u v
+  longer-laid : (u v : ℕ) → u < n → v < n → member? (x .longer) (2 * u) v ≡ transitive? (leads? c) n u v
   unfolding at transitive? graphContent
   longer-laid u v hu hv =
-      let bits = p .descended .longer .bits u v (omega (arith, small)) (omega (arith, small)) in
+      let bits = x .passes .descended .longer .bits u v (omega (arith, small)) (omega (arith, small)) in
       same-truth _ _
-      (λ x.
-      let w = bits .0 (eqb-true _ 1 x) in
+      (λ y.
+      let w = bits .0 (eqb-true _ 1 y) in
       let to = sym (table-same u (w .0) (omega (arith, small)) (w .1)) ∙ eq-eqb _ 1 (w .2) in
       let from = sym (table-same (w .0) v (w .1) (omega (arith, small))) ∙ eq-eqb _ 1 (w .3) in
       some-found n (λ w. leads? c u w && leads? c w v) (w .0) (leads-ends c s u (w .0) to .1) (and-intro _ _ to from))
-      (λ x.
-      let w = some-which n (λ w. leads? c u w && leads? c w v) x in
+      (λ y.
+      let w = some-which n (λ w. leads? c u w && leads? c w v) y in
       let both = and-elim (leads? c u (w .0)) (leads? c (w .0) v) (w .2) in
       let hw : w .0 < 128 = (let h = w .1 in omega (arith, small)) in
-      eq-eqb _ 1 (bits .1 (w .0, hw, eqb-true _ 1 (table-same u (w .0) (omega (arith, small)) hw ∙ both .0), eqb-true _ 1 (table-same (w .0) v hw (omega (arith, small)) ∙ both .1))))
+      let to = eqb-true _ 1 (table-same u (w .0) (omega (arith, small)) hw ∙ both .0) in
+      let from = eqb-true _ 1 (table-same (w .0) v hw (omega (arith, small)) ∙ both .1) in
+      eq-eqb _ 1 (bits .1 (w .0, hw, to, from)))
 
   -- ---- channels
 
   arranged : Arranged ls (k .channels)
   unfolding channelsOf graphContent
   arranged =
-      subst (λ (x : List (List ℕ)). Arranged (choose given (λ _. linesOf field) (λ _. x)) (k .channels)) (planned-same n (leadsIn t) (leads? c) small table-leads) (p .arranged)
-
-  channels-small : k .channels .count ≤ 128
-  unfolding graphContent
-  channels-small = omega (arith, arranged .counted, channels-few c s, small)
-
-  channel-known : (v : ℕ) → v < n → getD (k .channels .channel) v 0 < k .channels .count
-  unfolding graphContent
-  channel-known v h = omega (arith, arranged .channel v, arranged .counted, channel-below c s v h)
+      subst (λ (y : List (List ℕ)). Arranged (choose (x .given) (λ _. linesOf (x .field)) (λ _. y)) (k .channels))
+      (planned-same n (leadsIn t) (leads? c) small table-leads) (x .passes .arranged)
 
   -- ---- rows
 
-  rows-laid : (v : ℕ) → v < n → getD (k .rows) v 0 ≡ rowOf c v
+  rows-laid : (v : ℕ) → v < n → row v ≡ rowOf c v
   unfolding rowOf graphContent
-  rows-laid v h = p .descended .rows v h
+  rows-laid v h = x .passes .descended .rows v h
 
   rows-counted : k .used ≡ rowCount c
   unfolding rowCount graphContent
-  rows-counted = p .descended .used
+  rows-counted = x .passes .descended .used
 
-  below-laid : (j v : ℕ) → j ≤ rowCount c → v < 128 → at 2 b j v ≡ 1 ↔ ((v < n) × (rowOf c v < j))
+  below-laid : (j v : ℕ) → j ≤ rowCount c → v < 128 → at 2 (x .below) j v ≡ 1 ↔ ((v < n) × (rowOf c v < j))
   unfolding rowOf graphContent
-  below-laid j v h hv = p .descended .below j v (let q = rows-counted in omega arith) hv
+  below-laid j v h hv = x .passes .descended .below j v (let q = rows-counted in omega arith) hv
 
   descendants-laid : (v : ℕ) → v < 128 → getD (k .counts) v 0 ≡ descendantsOf c v
   unfolding descendantsOf leads? graphContent
-  descendants-laid v h = p .descended .closure .counted v h
+  descendants-laid v h = x .passes .descended .closure .counted v h
 
-  -- ---- bundles and tracks
+  -- ---- bundles and tracks: m channels
 
-  module _ (r : Lists) (room : Roomy n r) (bs : ℕ) (of′ first′ last′ number′ : List ℕ)
-      (made : Bundled n e (k .channels .count) (k .channels .channel) (k .channels .position) (k .rows) (r .of) (r .first) (r .last) (r .number)
-      bs of′ first′ last′ number′) where
-    sides-same : (u v : ℕ) → u < n → v < n
-        → tableSide? n e (λ x. getD (k .channels .channel) x 0) (λ x. getD (k .channels .position) x 0) u v
-        ≡ side? n (tailsOf ends) (headsOf ends) (channelOf ls) (positionOf ls) u v
+  module _ {m bs : ℕ} {spans₁ number′ : List ℕ} (known : m ≡ k .channels .count)
+      (made : Bundled n e m (k .channels .channel) (k .channels .position) (k .rows) spans number bs spans₁ number′) where
+    channels-small : m ≤ 128
+    unfolding graphContent
+    channels-small = omega (arith, known, arranged .counted, channels-few c s, small)
+
+    channel-known : (v : ℕ) → v < n → channel v < m
+    unfolding graphContent
+    channel-known v h = omega (arith, known, arranged .channel v, arranged .counted, channel-below c s v h)
+
+    sides-same : (u v : ℕ) → u < n → v < n → tableSide? n e channel position u v ≡ side? n tails heads (channelOf ls) (positionOf ls) u v
     unfolding side? tableSide? apart?
-    sides-same u v hu hv = rw (edges-same u v hu hv, arranged .channel u, arranged .channel v, arranged .position u, arranged .position v) refl
+    sides-same u v hu hv =
+        let a = arranged in
+        rw (edges-same u v hu hv, a .channel u, a .channel v, a .position u, a .position v) refl
 
     abbrev counted : ℕ
-    counted = vertices n (k .channels .channel) (k .channels .position) (k .rows) (r .of) (r .first) (r .last) (r .number)
+    counted = vertices n (k .channels .channel) (k .channels .position) (k .rows) spans number
 
     all-of : counted ≡ n
     all-of =
         let a = arranged .sizes in
-        let b = room in
-        fitting-all n _ _ _ _ _ _ _ small (omega (arith, a .0, small)) (omega (arith, a .1, small)) (omega (arith, p .descended .sizes .0, small))
-        (omega (arith, b .of, small)) (omega (arith, b .first, small)) (omega (arith, b .last, small)) (omega (arith, b .number, small))
+        let r = x .room in
+        fitting-all n _ _ _ _ _ small (omega (arith, a .0, small)) (omega (arith, a .1, small))
+        (omega (arith, x .passes .descended .sizes .0, small)) (omega (arith, r .spans, small)) (omega (arith, r .number, small))
 
-    all-channels : min (k .channels .count) 128 ≡ length ls
-    all-channels = omega (arith, arranged .counted, channels-small)
+    all-channels : min m 128 ≡ length ls
+    all-channels = omega (arith, known, arranged .counted, channels-small)
 
-    bundles-same :
-        bundlesIn counted e (min (k .channels .count) 128) (λ v. getD (k .channels .channel) v 0) (λ v. getD (k .channels .position) v 0)
-        (λ v. getD (k .rows) v 0) ≡ planOf c .bundles
+    bundles-same : bundlesIn counted e (min m 128) channel position row ≡ planOf c .bundles
     unfolding planOf chart.bundled chart.tracked bundlesOf bundlesIn graphContent
     bundles-same =
         rw (all-of, all-channels)
-        (bundles-ext n (tableSide? n e (λ x. getD (k .channels .channel) x 0) (λ x. getD (k .channels .position) x 0))
-        (side? n (tailsOf ends) (headsOf ends) (channelOf ls) (positionOf ls)) (λ v. getD (k .channels .channel) v 0) (channelOf ls)
-        (λ v. getD (k .channels .position) v 0) (positionOf ls) (λ v. getD (k .rows) v 0) (rowOf c) sides-same (λ v h. arranged .channel v)
-        (λ v h. arranged .position v) rows-laid (length ls))
+        (bundles-ext n (tableSide? n e channel position) (side? n tails heads (channelOf ls) (positionOf ls)) channel (channelOf ls)
+        position (positionOf ls) row (rowOf c) sides-same (λ v h. arranged .channel v) (λ v h. arranged .position v) rows-laid (length ls))
 
-    bundles-laid : Listed n (planOf c .bundles) bs of′ first′ last′ number′
+    bundles-laid : Listed n (planOf c .bundles) bs spans₁ number′
     bundles-laid =
-        subst (λ (m : ℕ). Listed m (planOf c .bundles) bs of′ first′ last′ number′) all-of
-        (subst (λ (x : List Bundle). Listed counted x bs of′ first′ last′ number′) bundles-same (made .listed))
+        subst (λ (i : ℕ). Listed i (planOf c .bundles) bs spans₁ number′) all-of
+        (subst (λ (y : List Bundle). Listed counted y bs spans₁ number′) bundles-same (made .listed))
 
-    module _ (q : ℕ) (track′ used′ : List ℕ) (tracked : Tracked bs of′ first′ last′ (r .track) (r .used) q track′ used′) where
-      total-same : q ≡ length (planOf c .bundles)
-      total-same =
-          let few : bs ≤ 2 * n = omega (arith, bundles-laid .counted, bundles-laid .few) in
+    few : bs ≤ 256
+    few = omega (arith, bundles-laid .counted, bundles-laid .few, small)
+
+    module _ {q : ℕ} {spans′ used′ : List ℕ} (tracked : Tracked bs spans₁ used q spans′ used′) where
+      all-tracked : q ≡ bs
+      all-tracked =
           tracked .counted
-          ∙ least bs _ (omega (arith, few, small)) (le-min _ _ _ (omega (arith, few, small, made .long .0, room .of))
-          (le-min _ _ _ (omega (arith, few, small, made .long .1, room .first))
-          (le-min _ _ _ (omega (arith, few, small, made .long .2, room .last)) (omega (arith, few, small, room .track)))))
-          ∙ bundles-laid .counted
-        where
-          least : (m x : ℕ) → m ≤ 256 → m ≤ x → min m (min 256 x) ≡ m
-          least m x k l = omega arith
+          ∙ least bs _ few (omega (arith, bundles-laid .counted, bundles-laid .few, small, made .long .0, x .room .spans))
 
-      rising : Assigned q (λ i. getD of′ i 0) (λ i. getD first′ i 0) (λ i. getD last′ i 0) track′ used′
+      total-same : q ≡ length (planOf c .bundles)
+      total-same = all-tracked ∙ bundles-laid .counted
+
+      -- tracks are all that is put in
+      listed : Listed n (planOf c .bundles) bs spans′ number′
+      listed = record {
+        counted = bundles-laid .counted;
+        few = bundles-laid .few;
+        channel = λ i. tracked .kept 0 i (omega arith) ∙ bundles-laid .channel i;
+        first = λ i. tracked .kept 1 i (omega arith) ∙ bundles-laid .first i;
+        last = λ i. tracked .kept 2 i (omega arith) ∙ bundles-laid .last i;
+        into = bundles-laid .into;
+        out-of = bundles-laid .out-of;
+        past = bundles-laid .past;
+      }
+
+      rising : Assigned q (quad 0 spans₁) (quad 1 spans₁) (quad 2 spans₁) (quad 3 spans′) used′
       rising =
-          tracked-rising bs of′ first′ last′ (r .track) (r .used) q track′ used′ tracked
+          tracked-rising bs spans₁ used q spans′ used′ tracked
           (λ i h.
           let o = bundle-intervals c s .ordered i (let t = total-same in omega arith) in
           omega (arith, bundles-laid .first i, bundles-laid .last i))
 
-      tracks-same : tracks q (λ i. getD of′ i 0) (λ i. getD first′ i 0) (λ i. getD last′ i 0) ≡ planOf c .tracks
+      tracks-same : tracks q (quad 0 spans₁) (quad 1 spans₁) (quad 2 spans₁) ≡ planOf c .tracks
       unfolding planOf chart.bundled chart.tracked
       tracks-same =
           tracks-ext q _ _ _ _ _ _ (λ i h. bundles-laid .channel i) (λ i h. bundles-laid .first i) (λ i h. bundles-laid .last i)
           ∙ ap (λ m. tracks m (λ i. getD (planOf c .bundles) i empty .channel) (λ i. getD (planOf c .bundles) i empty .first)
           (λ i. getD (planOf c .bundles) i empty .last)) total-same
 
-      track-laid : (i : ℕ) → getD track′ i 0 ≡ getD (planOf c .tracks) i 0
-      track-laid i = rising .track i ∙ ap (λ (x : List ℕ). getD x i 0) tracks-same
+      track-laid : (i : ℕ) → quad 3 spans′ i ≡ getD (planOf c .tracks) i 0
+      track-laid i =
+          ⊎-elim (rising .track i)
+          (λ h. tracked .past i h ∙ made .fourth i ∙ sym (track-past q _ _ _ (omega (arith, all-tracked, few)) i h)) (lt-or-le i q)
+          ∙ ap (λ (y : List ℕ). getD y i 0) tracks-same
 
       used-laid : (i : ℕ) → i < 128 → getD used′ i 0 ≡ tracksIn (planOf c) i
       unfolding tracksIn
       used-laid i h =
-          rising .used i (omega (arith, tracked .long .1, room .used))
+          rising .used i (omega (arith, tracked .long .1, x .room .used))
           ∙ top-ext q _ (λ j. eqb (getD (planOf c .bundles) j empty .channel) i) _ (λ j. getD (planOf c .tracks) j 0)
-          (λ j w. ap (λ (x : ℕ). eqb x i) (bundles-laid .channel j)) (λ j w. ap (λ (x : List ℕ). getD x j 0) tracks-same)
+          (λ j w. ap (λ (y : ℕ). eqb y i) (bundles-laid .channel j)) (λ j w. ap (λ (y : List ℕ). getD y j 0) tracks-same)
           ∙ ap (λ (m : ℕ). topIn m (λ j. eqb (getD (planOf c .bundles) j empty .channel) i) (λ j. getD (planOf c .tracks) j 0)) total-same
 
       -- ---- columns
 
-      abbrev used : ℕ → ℕ
-      used i = getD used′ i 0
+      abbrev count : ℕ → ℕ
+      count i = getD used′ i 0
 
-      used-same : (i : ℕ) → i < k .channels .count → used i ≡ tracksIn (planOf c) i
-      used-same i h = used-laid i (omega (arith, channels-small))
+      count-same : (i : ℕ) → i < m → count i ≡ tracksIn (planOf c) i
+      count-same i h = used-laid i (omega (arith, channels-small))
 
-      width-same : blockStart (evenGaps used) (k .channels .count) ≡ widthOf (planOf c)
+      width-same : blockStart (evenGaps count) m ≡ widthOf (planOf c)
       unfolding widthOf planOf chart.bundled chart.tracked
       width-same =
-          start-same used (tracksIn (planOf c)) (k .channels .count) used-same
-          ∙ ap (blockStart (evenGaps (tracksIn (planOf c)))) (arranged .counted)
+          start-same count (tracksIn (planOf c)) m count-same ∙ ap (blockStart (evenGaps (tracksIn (planOf c)))) (known ∙ arranged .counted)
 
-      pub spaceable : Spaceable n (k .channels .count) (k .channels .channel) used′ (r .column)
+      pub spaceable : Spaceable n m (k .channels .channel) used′ column
       spaceable = record {
         few = small;
         few-channels = channels-small;
         known = channel-known;
         page = omega (arith, width-same, width-on-page c s);
-        sizes = (omega (arith, small, arranged .sizes .0), omega (arith, tracked .long .1, room .used), omega (arith, small, room .column));
+        sizes = (
+          omega (arith, small, arranged .sizes .0),
+          omega (arith, tracked .long .1, x .room .used),
+          omega (arith, small, x .room .column),
+        );
       }
 
-      module _ (column′ : List ℕ) (width : ℕ) (d : Spaced n (k .channels .count) (k .channels .channel) used′ (length (r .column)) column′ width)
-        where
-          column-laid : (v : ℕ) → v < n → getD column′ v 0 ≡ columnIn (planOf c) v
-          unfolding columnIn planOf chart.bundled chart.tracked
-          column-laid v h =
-              d .standing .made v h
-              ∙ d .owns .columns .made (getD (k .channels .channel) v 0) (channel-known v h)
-              ∙ own-same used (tracksIn (planOf c)) (k .channels .count) (getD (k .channels .channel) v 0) (channel-known v h) used-same
-              ∙ ap (ownColumn (widths (planOf c))) (arranged .channel v)
+      module _ {column′ : List ℕ} {width : ℕ} (d : Spaced n m (k .channels .channel) used′ (length column) column′ width) where
+        column-laid : (v : ℕ) → v < n → getD column′ v 0 ≡ columnIn (planOf c) v
+        unfolding columnIn planOf chart.bundled chart.tracked
+        column-laid v h =
+            d .standing .made v h
+            ∙ d .owns .columns .made (channel v) (channel-known v h)
+            ∙ own-same count (tracksIn (planOf c)) m (channel v) (channel-known v h) count-same
+            ∙ ap (ownColumn (widths (planOf c))) (arranged .channel v)
 
-          abbrev after : Lists
-          after = lists e b t l of′ first′ last′ number′ track′ used′ column′
+        abbrev after : Lists
+        after = lists e (x .below) t (x .longer) spans′ number′ used′ column′
 
-          -- THE PLAN: what the lower layers made is what the chart is drawn from
-          pub laid : Roomy n after → Laid c (record {
-            refusal = 0;
-            rows = k .used;
-            row = k .rows;
-            descendants = k .counts;
-            channels = k .channels .count;
-            channel = k .channels .channel;
-            position = k .channels .position;
-            bundles = bs;
-            width = width;
-          }) after
-          unfolding planOf chart.bundled chart.tracked graphContent
-          laid room′ = record {
-            sound = s;
-            row-count = rows-counted;
-            rows = rows-laid;
-            rows-past = p .descended .past;
-            descendants = descendants-laid;
-            channel-count = arranged .counted;
-            channels = arranged .channel;
-            positions = arranged .position;
-            bundles = bundles-laid;
-            track = track-laid;
-            used = used-laid;
-            column = column-laid;
-            column-past = d .standing .past;
-            width = d .owns .end ∙ width-same;
-            longer-pairs = longer-laid;
-            below-rows = below-laid;
-            tabled = (p .descended .sizes .0, p .descended .sizes .1, arranged .sizes .0, arranged .sizes .1);
-            room = room′;
-          }
+        -- THE PLAN: what the lower layers made is what the chart is drawn from
+        laid : Laid c (planFrom k bs width) after
+        unfolding planOf chart.bundled chart.tracked graphContent
+        laid = record {
+          sound = s;
+          row-count = rows-counted;
+          rows = rows-laid;
+          rows-past = x .passes .descended .past;
+          descendants = descendants-laid;
+          channel-count = arranged .counted;
+          channels = arranged .channel;
+          positions = arranged .position;
+          bundles = listed;
+          track = track-laid;
+          used = used-laid;
+          column = column-laid;
+          column-past = d .standing .past;
+          width = d .owns .end ∙ width-same;
+          longer-pairs = longer-laid;
+          below-rows = below-laid;
+          tabled = (x .passes .descended .sizes .0, x .passes .descended .sizes .1, arranged .sizes .0, arranged .sizes .1);
+          room = record {
+            masks = x .room .masks;
+            spans = omega (arith, tracked .long .0, made .long .0, x .room .spans);
+            number = omega (arith, made .long .1, x .room .number);
+            used = omega (arith, tracked .long .1, x .room .used);
+            column = omega (arith, d .standing .long, x .room .column);
+          };
+        }
+
+-- whatever graph passed
+module _ {n m bs q width : ℕ} {k : Checked} {e spans number used column spans₁ spans′ number′ used′ column′ : List ℕ}
+    (known : m ≡ k .channels .count)
+    (made : Bundled n e m (k .channels .channel) (k .channels .position) (k .rows) spans number bs spans₁ number′)
+    (tracked : Tracked bs spans₁ used q spans′ used′)
+    (d : Spaced n m (k .channels .channel) used′ (length column) column′ width) where
+  pub all-laid : Filled n k e spans number used column (planFrom k bs width) spans′ number′ used′ column′
+  all-laid = record {
+    refusal = refl;
+    laid = λ x. laid x known made tracked d;
+    long = (tracked .long .0 ∙ made .long .0, made .long .1, tracked .long .1, d .standing .long);
+  }

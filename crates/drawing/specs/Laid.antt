@@ -6,6 +6,7 @@ use mathlib.Core.List.{List}
 use Prim.Native.Nat.{ℕ, _*_, _≤_, _<_, min}
 use lib.Dec.{leb}
 use lib.ListN.{length, getD, replicate}
+use Rattle.counting.specs.Quads.{quad}
 use Rattle.masks.specs.Sets.{member?, at}
 use Rattle.matching.specs.Lists.{channelOf, positionOf}
 use Rattle.descent.specs.Promise.{Sized}
@@ -17,49 +18,39 @@ use Rattle.outline.specs.Chart.{leads?, rowOf, rowCount, descendantsOf, planOf,
 use Rattle.drawing.specs.Drawn.{graphContent}
 use Rattle.drawing.specs.declared.Plan.{Plan}
 
--- the lists that are lent: four of masks; the channel and the rows of each bundle; the bundle at each end of a vertex; the track of each
--- bundle; how many tracks each channel has; the column of each vertex
+-- the lists that are lent: four of masks; the channel, the first row, the last row and the track of each bundle, in turn; the bundle at each
+-- end of a vertex; how many tracks each channel has; the column of each vertex
 pub record Lists : Type 0 where
   pub edges : List ℕ
   pub below : List ℕ
   pub table : List ℕ
   pub longer : List ℕ
-  pub of : List ℕ
-  pub first : List ℕ
-  pub last : List ℕ
+  pub spans : List ℕ
   pub number : List ℕ
-  pub track : List ℕ
   pub used : List ℕ
   pub column : List ℕ
 
-abbrev pub lists : List ℕ → List ℕ → List ℕ → List ℕ → List ℕ → List ℕ → List ℕ → List ℕ → List ℕ → List ℕ → List ℕ → Lists
-lists edges below table longer of first last number track used column = record {
+abbrev pub lists : List ℕ → List ℕ → List ℕ → List ℕ → List ℕ → List ℕ → List ℕ → List ℕ → Lists
+lists edges below table longer spans number used column = record {
   edges = edges;
   below = below;
   table = table;
   longer = longer;
-  of = of;
-  first = first;
-  last = last;
+  spans = spans;
   number = number;
-  track = track;
   used = used;
   column = column;
 }
 
 -- room for m vertices, two bundles each, and for the tracks of 128 channels
-unfoldable pub roomy? : ℕ → ℕ → ℕ → ℕ → ℕ → ℕ → ℕ → ℕ → Bool
-roomy? m of first last number track used column =
-    leb (2 * m) of && (leb (2 * m) first && (leb (2 * m) last && (leb (2 * m) number && (leb (2 * m) track && (leb 128 used && leb m column)))))
+unfoldable pub roomy? : ℕ → ℕ → ℕ → ℕ → ℕ → Bool
+roomy? m spans number used column = leb (8 * m) spans && (leb (2 * m) number && (leb 128 used && leb m column))
 
 -- the lists have room for n vertices, 128 at most
 pub record Roomy (n : ℕ) (t : Lists) : Type 0 where
   pub masks : Sized n (t .edges) (t .below) (t .table) (t .longer)
-  pub of : 2 * min n 128 ≤ length (t .of)
-  pub first : 2 * min n 128 ≤ length (t .first)
-  pub last : 2 * min n 128 ≤ length (t .last)
+  pub spans : 8 * min n 128 ≤ length (t .spans)
   pub number : 2 * min n 128 ≤ length (t .number)
-  pub track : 2 * min n 128 ≤ length (t .track)
   pub used : 128 ≤ length (t .used)
   pub column : min n 128 ≤ length (t .column)
 
@@ -76,8 +67,8 @@ pub record Laid (c : Content) (p : Plan) (t : Lists) : Type 0 where
   pub channel-count : p .channels ≡ length (planOf c .channels)
   pub channels : (v : ℕ) → getD (p .channel) v 0 ≡ channelOf (planOf c .channels) v
   pub positions : (v : ℕ) → getD (p .position) v 0 ≡ positionOf (planOf c .channels) v
-  pub bundles : Listed (c .vertices) (planOf c .bundles) (p .bundles) (t .of) (t .first) (t .last) (t .number)
-  pub track : (b : ℕ) → getD (t .track) b 0 ≡ getD (planOf c .tracks) b 0
+  pub bundles : Listed (c .vertices) (planOf c .bundles) (p .bundles) (t .spans) (t .number)
+  pub track : (b : ℕ) → quad 3 (t .spans) b ≡ getD (planOf c .tracks) b 0
   pub used : (l : ℕ) → l < 128 → getD (t .used) l 0 ≡ tracksIn (planOf c) l
   pub column : (v : ℕ) → v < c .vertices → getD (t .column) v 0 ≡ columnIn (planOf c) v
   pub column-past : (v : ℕ) → c .vertices ≤ v → getD (t .column) v 0 ≡ 0
@@ -107,11 +98,8 @@ pub record Long (t s : Lists) : Type 0 where
   pub below : length (s .below) ≡ length (t .below)
   pub table : length (s .table) ≡ length (t .table)
   pub longer : length (s .longer) ≡ length (t .longer)
-  pub of : length (s .of) ≡ length (t .of)
-  pub first : length (s .first) ≡ length (t .first)
-  pub last : length (s .last) ≡ length (t .last)
+  pub spans : length (s .spans) ≡ length (t .spans)
   pub number : length (s .number) ≡ length (t .number)
-  pub track : length (s .track) ≡ length (t .track)
   pub used : length (s .used) ≡ length (t .used)
   pub column : length (s .column) ≡ length (t .column)
 
@@ -122,5 +110,5 @@ pub record Plans (n : ℕ) (ends : List ℕ) (given : Bool) (field : List ℕ) (
   pub short : (Roomy n t → ⊥) → (p .refusal ≡ 8) × (s ≡ t)
   pub laid : p .refusal ≡ 0 → Laid (graphContent n ends given field) p s
   pub none : p .refusal ≢ 0 → p ≡ unplannedBy (p .refusal)
-  pub kept : p .refusal ≢ 0 → s ≡ lists (s .edges) (s .below) (s .table) (s .longer) (t .of) (t .first) (t .last) (t .number) (t .track) (t .used) (t .column)
+  pub kept : p .refusal ≢ 0 → s ≡ lists (s .edges) (s .below) (s .table) (s .longer) (t .spans) (t .number) (t .used) (t .column)
   pub long : Long t s

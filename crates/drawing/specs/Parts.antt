@@ -1,10 +1,17 @@
 -- What the private steps leave behind. Assumes nothing.
 use mathlib.Core.Path.{_≡_}
+use mathlib.Core.Bool.{Bool}
 use mathlib.Core.List.{List}
 use Prim.Native.Nat.{ℕ, _≤_, _<_}
 use lib.ListN.{length, getD}
 use Rattle.geometry.specs.Placement.{Widths, evenGaps, blockStart, ownColumn}
 use Rattle.page.specs.Page as page
+use Rattle.record.specs.Checks.{refusalOf}
+use Rattle.record.specs.Checked.{Passes}
+use Rattle.record.specs.declared.checks.Checked.{Checked}
+use Rattle.drawing.specs.Drawn.{graphContent}
+use Rattle.drawing.specs.Laid.{lists, Roomy, Laid}
+use Rattle.drawing.specs.declared.Plan.{Plan}
 
 -- the first j entries of a table are those of f, and past them stands 0
 pub record Tabled (size : ℕ) (f : ℕ → ℕ) (j : ℕ) (t : List ℕ) : Type 0 where
@@ -34,3 +41,24 @@ pub record Spaced (n channels : ℕ) (channel tracks : List ℕ) (size : ℕ) (c
   pub own : List ℕ
   pub owns : Owns (blocksOf tracks) channels own width
   pub standing : Tabled size (λ v. getD own (getD channel v 0) 0) n column
+
+-- a graph of n vertices passed the checks with k, and the lists have room for its plan
+pub record Passed (n : ℕ) (k : Checked) (edges spans number used column : List ℕ) : Type 0 where
+  pub ends : List ℕ
+  pub given : Bool
+  pub field : List ℕ
+  pub below : List ℕ
+  pub table : List ℕ
+  pub longer : List ℕ
+  pub accepted : refusalOf (graphContent n ends given field) ≡ 0
+  pub passes : Passes n ends given field k edges below table longer
+  pub room : Roomy n (lists edges below table longer spans number used column)
+
+-- whatever graph passed, p and the lists are what is planned of it; the lists stay as long as they were
+pub record Filled (n : ℕ) (k : Checked) (edges spans number used column : List ℕ) (p : Plan) (spans′ number′ used′ column′ : List ℕ)
+    : Type 0 where
+  pub refusal : p .refusal ≡ 0
+  pub laid : (x : Passed n k edges spans number used column)
+      → Laid (graphContent n (x .ends) (x .given) (x .field)) p (lists edges (x .below) (x .table) (x .longer) spans′ number′ used′ column′)
+  pub long : (length spans′ ≡ length spans) × (length number′ ≡ length number) × (length used′ ≡ length used)
+      × (length column′ ≡ length column)

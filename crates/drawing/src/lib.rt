@@ -3,11 +3,13 @@ ghost use mathlib.Core.Path.{_≡_};
 ghost use Prim.Native.Nat.{_≤_, _<_, min};
 ghost use lib.ListN.{length};
 ghost use Rattle.drawing.specs.Laid.{unplannedBy, lists, roomy?, Plans};
+ghost use Rattle.drawing.specs.Parts.{Passed, Filled};
 
 mod columns;
 
 use bundles::bundled;
 use columns::places_of;
+use record::checks::Checked;
 use record::checks::check;
 
 // The most vertices, and channels.
@@ -62,32 +64,14 @@ fn capped(n: usize) -> usize
 }
 
 // Whether lists of these lengths have room for the bundles, the tracks and the columns of m vertices.
-fn is_roomy(
-    m: usize,
-    of: usize,
-    first: usize,
-    last: usize,
-    number: usize,
-    track: usize,
-    used: usize,
-    column: usize,
-) -> bool
+fn is_roomy(m: usize, spans: usize, number: usize, used: usize, column: usize) -> bool
     requires { ⌜ m ≤ 128 ⌝ }
-    ensures { λ r. ⌜ r ≡ roomy? m of first last number track used column ⌝ }
+    ensures { λ r. ⌜ r ≡ roomy? m spans number used column ⌝ }
 {
-    if of < 2 * m {
-        return false;
-    }
-    if first < 2 * m {
-        return false;
-    }
-    if last < 2 * m {
+    if spans < 8 * m {
         return false;
     }
     if number < 2 * m {
-        return false;
-    }
-    if track < 2 * m {
         return false;
     }
     if used < MOST {
@@ -96,12 +80,46 @@ fn is_roomy(
     m <= column
 }
 
+// The plan of n vertices that passed the checks with k, and the lists that go with it.
+fn filled<'e, 's, 'n, 'u, 'c>(
+    n: usize,
+    k: Checked,
+    edges: &'e [u64],
+    spans: &'s mut [u8],
+    number: &'n mut [u16],
+    used: &'u mut [u16],
+    column: &'c mut [u16],
+) -> Plan
+    requires { ⌜ Passed n k (now edges) (now spans) (now number) (now used) (now column) ⌝ }
+    ensures { λ r. ⌜ Filled n k (now (edges .entry)) (now (spans .entry)) (now (number .entry)) (now (used .entry)) (now (column .entry)) r (now (spans .exit)) (now (number .exit)) (now (used .exit)) (now (column .exit)) ⌝ }
+{
+    let row = k.rows;
+    let descendants = k.counts;
+    let channel = k.channels.channel;
+    let position = k.channels.position;
+    let count = wide(k.channels.count);
+    let bundles = bundled(n, edges, count, &channel, &position, &row, spans, number);
+    tracks::tracked(bundles, spans, used);
+    let width = places_of(n, count, &channel, used, column);
+    Plan {
+        refusal: 0,
+        rows: k.used,
+        row,
+        descendants,
+        channels: k.channels.count,
+        channel,
+        position,
+        bundles,
+        width,
+    }
+}
+
 // What is planned of n vertices, the edges whose ends are bytes, tail and head in turn, and the given channels in the bytes of their
 // field, if there are any; or the number of the first check that fails, of 2 to 7. `below` gets the sets of vertices by row, `longer` the
-// pairs with a vertex between; `of`, `first` and `last` the channel and the rows of each bundle, `number` the bundle of the edges into
-// each vertex and of those out of it, in turn; `track` the track of each bundle, `used` how many each channel has, and `column` the
-// column of each vertex. 8, and nothing changed, where a list has no room.
-pub fn planned<'a, 'f, 'e, 'b, 't, 'l, 'o, 'i, 'z, 'n, 'k, 'u, 'c>(
+// pairs with a vertex between; `spans` four bytes a bundle: its channel, its first row, its last row and its track; `number` the bundle of
+// the edges into each vertex and of those out of it, in turn; `used` how many tracks each channel has, and `column` the column of each
+// vertex. 8, and nothing changed, where a list has no room.
+pub fn planned<'a, 'f, 'e, 'b, 't, 'l, 's, 'n, 'u, 'c>(
     n: usize,
     ends: &'a [u8],
     given: bool,
@@ -110,23 +128,17 @@ pub fn planned<'a, 'f, 'e, 'b, 't, 'l, 'o, 'i, 'z, 'n, 'k, 'u, 'c>(
     below: &'b mut [u64],
     table: &'t mut [u64],
     longer: &'l mut [u64],
-    of: &'o mut [u8],
-    first: &'i mut [u8],
-    last: &'z mut [u8],
+    spans: &'s mut [u8],
     number: &'n mut [u16],
-    track: &'k mut [u8],
     used: &'u mut [u16],
     column: &'c mut [u16],
 ) -> Plan
-    ensures { λ r. ⌜ Plans n (now (ends .entry)) given (now (field .entry)) (lists (now (edges .entry)) (now (below .entry)) (now (table .entry)) (now (longer .entry)) (now (of .entry)) (now (first .entry)) (now (last .entry)) (now (number .entry)) (now (track .entry)) (now (used .entry)) (now (column .entry))) r (lists (now (edges .exit)) (now (below .exit)) (now (table .exit)) (now (longer .exit)) (now (of .exit)) (now (first .exit)) (now (last .exit)) (now (number .exit)) (now (track .exit)) (now (used .exit)) (now (column .exit))) ⌝ }
+    ensures { λ r. ⌜ Plans n (now (ends .entry)) given (now (field .entry)) (lists (now (edges .entry)) (now (below .entry)) (now (table .entry)) (now (longer .entry)) (now (spans .entry)) (now (number .entry)) (now (used .entry)) (now (column .entry))) r (lists (now (edges .exit)) (now (below .exit)) (now (table .exit)) (now (longer .exit)) (now (spans .exit)) (now (number .exit)) (now (used .exit)) (now (column .exit))) ⌝ }
 {
     if !is_roomy(
         capped(n),
-        of.len(),
-        first.len(),
-        last.len(),
+        spans.len(),
         number.len(),
-        track.len(),
         used.len(),
         column.len(),
     ) {
@@ -136,35 +148,5 @@ pub fn planned<'a, 'f, 'e, 'b, 't, 'l, 'o, 'i, 'z, 'n, 'k, 'u, 'c>(
     if k.refusal != 0 {
         return unplanned(k.refusal);
     }
-    let channels = k.channels;
-    let count = channels.count;
-    let channel = channels.channel;
-    let position = channels.position;
-    let row = k.rows;
-    let descendants = k.counts;
-    let bundles = bundled(
-        n,
-        edges,
-        wide(count),
-        &channel,
-        &position,
-        &row,
-        of,
-        first,
-        last,
-        number,
-    );
-    tracks::tracked(bundles, of, first, last, track, used);
-    let width = places_of(n, wide(count), &channel, used, column);
-    Plan {
-        refusal: 0,
-        rows: k.used,
-        row,
-        descendants,
-        channels: count,
-        channel,
-        position,
-        bundles,
-        width,
-    }
+    filled(n, k, edges, spans, number, used, column)
 }

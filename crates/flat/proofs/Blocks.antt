@@ -64,14 +64,9 @@ module _ (w : ℕ) (n : ℕ → ℕ → ℕ) (was : List ℕ) where
   entered-all m k is room le ge e =
       subst (λ (x : List ℕ). Filled was (numbers w n) (m * w) x) (sym (e ∙ ap (entered w n was) (le-antisymm le ge))) (filled-after m room)
 
--- ---- five numbers, and four
+-- ---- five numbers
 
 pub five : (n : ℕ → ℕ) (i a b c d e : ℕ) (l : List ℕ) → a ≡ n 0 → b ≡ n 1 → c ≡ n 2 → d ≡ n 3 → e ≡ n 4
     → set (set (set (set (set l i a) (i + 1) b) (i + 2) c) (i + 3) d) (i + 4) e ≡ stored n i 5 l
 unfolding stored
 five n i a b c d e l ea eb ec ed ee = rw (ea, eb, ec, ed, ee, add-zero)
-
-pub four : (n : ℕ → ℕ) (i a b c d : ℕ) (l : List ℕ) → a ≡ n 0 → b ≡ n 1 → c ≡ n 2 → d ≡ n 3
-    → set (set (set (set l i a) (i + 1) b) (i + 2) c) (i + 3) d ≡ stored n i 4 l
-unfolding stored
-four n i a b c d l ea eb ec ed = rw (ea, eb, ec, ed, add-zero)

@@ -3,6 +3,7 @@ use mathlib.Core.Path.{_≡_, refl, sym, ap, ap₂, _∙_}
 use mathlib.Core.Bool.{Bool, true, false, not}
 use mathlib.Core.List.{List}
 use Prim.Native.Nat.{ℕ, zero, suc, _+_, _-_, _*_, _/_, _%_, _^_, _<_}
+use native.Mathlib.Nat.{add-zero}
 use native.Mathlib.Omega.{arith}
 use lib.Bits.{bitAnd}
 use lib.Dec.{eqb}
@@ -17,10 +18,10 @@ use Rattle.kinds.specs.Codes.{codeOf}
 use Rattle.kinds.specs.Kinds.{kindAmong}
 use Rattle.kinds.specs.declared.Code.{Code}
 use Rattle.flat.specs.Blocks.{stored}
-use Rattle.flat.specs.Chart.{wordNumber, arrowNumber, bundleNumber}
+use Rattle.flat.specs.Chart.{wordNumber, arrowNumber, bundleNumber, bundles}
 use Rattle.flat.specs.Numbers.{Given, tailAt, headAt, kindAt, implied?, arrowFrom, wordFrom, bundleFrom}
 use Rattle.flat.specs.Pass.{arrowAt}
-use Rattle.flat.proofs.Blocks.{five, four}
+use Rattle.flat.proofs.Blocks.{five}
 
 -- ---- a vertex and a bundle
 
@@ -32,13 +33,19 @@ unfolding wordNumber wordFrom
 word-stored channel position column row descendants v l =
     five (wordNumber (wordFrom channel position column row descendants v)) (v * 5) _ _ _ _ _ l refl refl refl refl refl
 
-pub bundle-stored : (channel first last track : List ℕ) (b : ℕ) (l : List ℕ)
-    → set (set (set (set l (b * 4) (getD channel b 0)) (b * 4 + 1) (getD first b 0)) (b * 4 + 2) (getD last b 0)) (b * 4 + 3)
-    (getD track b 0)
-    ≡ stored (bundleNumber (bundleFrom channel first last track b)) (b * 4) 4 l
+entry-at : (spans : List ℕ) (b f : ℕ) → f < 4 → getD spans (4 * b + f) 0 ≡ bundleNumber (bundleFrom spans b) f
 unfolding bundleNumber bundleFrom
-bundle-stored channel first last track b l =
-    four (bundleNumber (bundleFrom channel first last track b)) (b * 4) _ _ _ _ l refl refl refl refl
+entry-at spans b zero h = ap (λ (i : ℕ). getD spans i 0) (add-zero (4 * b))
+entry-at spans b (suc zero) h = refl
+entry-at spans b (suc (suc zero)) h = refl
+entry-at spans b (suc (suc (suc zero))) h = refl
+entry-at spans b (suc (suc (suc (suc f)))) h = absurd (omega arith)
+
+-- the list of bundles is `spans`, number by number
+pub bundle-at : (spans : List ℕ) (i : ℕ) → getD spans i 0 ≡ bundles (bundleFrom spans) i
+bundle-at spans i =
+    let e : i ≡ 4 * (i / 4) + i % 4 = omega arith in
+    ap (λ (k : ℕ). getD spans k 0) e ∙ entry-at spans (i / 4) (i % 4) (omega arith)
 
 -- ---- an edge, as the code has it: u and v are its ends
 
@@ -50,22 +57,22 @@ module _ (g : Given) (e u v : ℕ) (tail : u ≡ tailAt g e) (head : v ≡ headA
   -- what `kinds::kind_of` is asked for
   abbrev kindHere : Kind
   kindHere =
-      kindAmong (getD (g .channel) u 0) (getD (g .channel) v 0) (getD (g .position) u 0) (getD (g .position) v 0) (getD (g .number) (2 * v) 0)
-      (getD (g .number) (2 * u + 1) 0) (g .columns) (g .rows) (g .below) (g .left) u v
+      kindAmong (getD (g .channel) u 0) (getD (g .channel) v 0) (getD (g .position) u 0) (getD (g .position) v 0)
+      (getD (g .number) (2 * v) 0) (getD (g .number) (2 * u + 1) 0) (g .columns) (g .rows) (g .below) (g .left) u v
 
   kind-here : (k : Code) → k ≡ codeOf kindHere → k ≡ codeOf (kindAt g e)
   unfolding kindAt
   kind-here k h = rw tail at (rw head at h)
 
-  pub arrow-stored : (mark : ℕ) (k : Code) (l : List ℕ)
+  pub arrow-stored : (mark : ℕ) (k : Code) (l x : List ℕ)
       → k ≡ codeOf kindHere
       → mark ≡ indicator (implied? g e)
-      → set (set (set (set (set l (e * 5) e) (e * 5 + 1) (k .code)) (e * 5 + 2) (k .value)) (e * 5 + 3) (k .row)) (e * 5 + 4) mark
-      ≡ stored (arrowAt g e) (e * 5) 5 l
+      → x ≡ set (set (set (set (set l (e * 5) e) (e * 5 + 1) (k .code)) (e * 5 + 2) (k .value)) (e * 5 + 3) (k .row)) (e * 5 + 4) mark
+      → x ≡ stored (arrowAt g e) (e * 5) 5 l
   unfolding arrowNumber arrowFrom
-  arrow-stored mark k l h q =
+  arrow-stored mark k l x h q put =
       let s = kind-here k h in
-      five (arrowAt g e) (e * 5) e (k .code) (k .value) (k .row) mark l refl
+      put ∙ five (arrowAt g e) (e * 5) e (k .code) (k .value) (k .row) mark l refl
       (ap (λ (x : Code). x .code) s) (ap (λ (x : Code). x .value) s) (ap (λ (x : Code). x .row) s) q
 
 -- ---- marks

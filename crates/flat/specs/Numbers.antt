@@ -3,6 +3,7 @@ use mathlib.Core.Bool.{Bool}
 use mathlib.Core.List.{List}
 use Prim.Native.Nat.{ℕ, _+_, _*_}
 use lib.ListN.{getD}
+use Rattle.counting.specs.Quads.{quad}
 use Rattle.masks.specs.Sets.{member?}
 use Rattle.outline.specs.declared.Kind.{Kind}
 use Rattle.outline.specs.declared.VertexEntry.{VertexEntry}
@@ -19,12 +20,12 @@ wordFrom channel position column row descendants v = record {
   descendants = getD descendants v 0;
 }
 
-unfoldable pub bundleFrom : List ℕ → List ℕ → List ℕ → List ℕ → ℕ → BundleEntry
-bundleFrom channel first last track b = record {
-  channel = getD channel b 0;
-  «first_row» = getD first b 0;
-  «last_row» = getD last b 0;
-  track = getD track b 0;
+unfoldable pub bundleFrom : List ℕ → ℕ → BundleEntry
+bundleFrom spans b = record {
+  channel = quad 0 spans b;
+  «first_row» = quad 1 spans b;
+  «last_row» = quad 2 spans b;
+  track = quad 3 spans b;
 }
 
 -- what edges are made from: two bytes an edge, the pairs with a vertex between, the places and the bundles of their ends (into a vertex and

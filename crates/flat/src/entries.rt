@@ -2,15 +2,18 @@
 ghost use mathlib.Core.Path.{_≡_};
 ghost use mathlib.Core.Bool.{not};
 ghost use Prim.Native.Nat.{ℕ, _+_, _*_, _≤_, _<_};
-ghost use lib.ListN.{length, set};
+ghost use lib.ListN.{length, getD, set};
 ghost use Rattle.counting.specs.Count.{indicator};
 ghost use Rattle.masks.specs.Sets.{member?};
+ghost use Rattle.kinds.specs.Codes.{codeOf};
+ghost use Rattle.kinds.specs.Kinds.{kindAmong};
 ghost use Rattle.lists.specs.Filled.{Filled};
 ghost use Rattle.flat.specs.Blocks.{stored};
 ghost use Rattle.flat.specs.Chart.{words, bundles};
 ghost use Rattle.flat.specs.Numbers.{given, implied?, wordFrom, bundleFrom};
 ghost use Rattle.flat.specs.Pass.{arrowAt, Ready, Passed};
 use crate::wide;
+use kinds::Code;
 
 // How many numbers an entry has.
 pub(crate) const WORD_NUMBERS: usize = 5;
@@ -32,16 +35,6 @@ fn put_five(out: &mut [u16], i: usize, a: u16, b: u16, c: u16, d: u16, e: u16)
     out[i + 4] = e;
 }
 
-fn put_four(out: &mut [u16], i: usize, a: u16, b: u16, c: u16, d: u16)
-    requires { ⌜ i + 4 ≤ length (now out) ⌝ }
-    ensures { λ _. ⌜ now (out .exit) ≡ set (set (set (set (now (out .entry)) i a) (i + 1) b) (i + 2) c) (i + 3) d ⌝ }
-{
-    out[i] = a;
-    out[i + 1] = b;
-    out[i + 2] = c;
-    out[i + 3] = d;
-}
-
 // ---- edges
 
 // 1 where the edge from u to v is transitive (document 01: implied), else 0.
@@ -50,6 +43,37 @@ fn mark_of(longer: &[u64], u: usize, v: usize) -> u16
     ensures { λ r. ⌜ (r ≡ indicator (member? (now (longer .entry)) (2 * u) v)) × (r < 2) ⌝ }
 {
     ((longer[2 * u + v / 64] >> (v % 64)) & 1) as u16
+}
+
+// The kind of the edge from u to v as three numbers, from the places and the bundles of its ends.
+fn kind_at<'a>(
+    channel: &'a [u8],
+    position: &'a [u8],
+    number: &'a [u16],
+    columns: &'a [u16],
+    rows: &'a [u8],
+    below: &'a [u64],
+    left: &'a [u64],
+    u: usize,
+    v: usize,
+) -> Code
+    requires { ⌜ (u < 128) × (v < 128) × (u < length (now channel)) × (v < length (now channel)) × (u < length (now position)) × (v < length (now position)) × (2 * u + 2 ≤ length (now number)) × (2 * v + 2 ≤ length (now number)) ⌝ }
+    ensures { λ r. ⌜ r ≡ codeOf (kindAmong (getD (now (channel .entry)) u 0) (getD (now (channel .entry)) v 0) (getD (now (position .entry)) u 0) (getD (now (position .entry)) v 0) (getD (now (number .entry)) (2 * v) 0) (getD (now (number .entry)) (2 * u + 1) 0) (now (columns .entry)) (now (rows .entry)) (now (below .entry)) (now (left .entry)) u v) ⌝ }
+{
+    kinds::kind_of(
+        channel[u],
+        channel[v],
+        position[u],
+        position[v],
+        number[2 * v],
+        number[2 * u + 1],
+        columns,
+        rows,
+        below,
+        left,
+        u,
+        v,
+    )
 }
 
 // Puts edge e at its place; 1 if it is reduced (document 01: firm), else 0.
@@ -72,20 +96,7 @@ fn put_arrow<'e, 'l, 'a>(
     let u = wide(ends[2 * e]);
     let v = wide(ends[2 * e + 1]);
     let mark = mark_of(longer, u, v);
-    let k = kinds::kind_of(
-        channel[u],
-        channel[v],
-        position[u],
-        position[v],
-        number[2 * v],
-        number[2 * u + 1],
-        columns,
-        rows,
-        below,
-        left,
-        u,
-        v,
-    );
+    let k = kind_at(channel, position, number, columns, rows, below, left, u, v);
     put_five(
         out,
         e * ARROW_NUMBERS,
@@ -161,25 +172,13 @@ pub(crate) fn put_words<'c, 'p, 'l, 'r, 'd>(
     }
 }
 
-pub(crate) fn put_bundles<'c, 'f, 'l, 't>(
-    out: &mut [u16],
-    channel: &'c [u8],
-    first_row: &'f [u8],
-    last_row: &'l [u8],
-    track: &'t [u8],
-    count: usize,
-)
-    requires { ⌜ (count * 4 ≤ length (now out)) × (count ≤ 256) × (count ≤ length (now channel)) × (count ≤ length (now «first_row»)) × (count ≤ length (now «last_row»)) × (count ≤ length (now track)) ⌝ }
-    ensures { λ _. ⌜ Filled (now (out .entry)) (bundles (bundleFrom (now (channel .entry)) (now («first_row» .entry)) (now («last_row» .entry)) (now (track .entry)))) (count * 4) (now (out .exit)) ⌝ }
+// A bundle's four numbers stand in `spans` as in the list.
+pub(crate) fn put_bundles<'s>(out: &mut [u16], spans: &'s [u8], count: usize)
+    requires { ⌜ (count ≤ 256) × (count * 4 ≤ length (now out)) × (count * 4 ≤ length (now spans)) ⌝ }
+    ensures { λ _. ⌜ Filled (now (out .entry)) (bundles (bundleFrom (now (spans .entry)))) (count * 4) (now (out .exit)) ⌝ }
 {
-    for b in 0..count {
-        put_four(
-            out,
-            b * BUNDLE_NUMBERS,
-            channel[b] as u16,
-            first_row[b] as u16,
-            last_row[b] as u16,
-            track[b] as u16,
-        );
+    let top = count * BUNDLE_NUMBERS;
+    for i in 0..top {
+        out[i] = spans[i] as u16;
     }
 }

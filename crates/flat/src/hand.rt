@@ -1,55 +1,45 @@
-// What is planned of a graph, handed over.
+// What is planned of a graph, handed over or refused.
 ghost use mathlib.Core.Path.{_≡_};
+ghost use Prim.Native.Nat.{_/_};
 ghost use lib.ListN.{length};
-ghost use Rattle.flat.specs.Hand.{sources, tables, Fit, Handed, Lends, LeftFor, Hands};
+ghost use Rattle.flat.specs.Hand.{LeftFor, Lends, Hands, roomRefusal};
+use crate::ChartCounts;
+use crate::entries::ARROW_NUMBERS;
+use crate::entries::BUNDLE_NUMBERS;
+use crate::entries::WORD_NUMBERS;
 use crate::entries::put_arrows;
 use crate::entries::put_bundles;
 use crate::entries::put_words;
+use crate::refused;
 use crate::wide;
 use drawing::Plan;
 
-// Fills the lists with n vertices, m edges and `count` bundles; how many edges are reduced.
-fn fill_lists<'e, 'l, 'a, 'd, 'b, 'f, 'z, 't>(
-    words: &mut [u16],
-    arrows: &mut [u16],
-    bundles: &mut [u16],
-    ends: &'e [u8],
-    longer: &'l [u64],
-    below: &'a [u64],
-    left: &'a [u64],
-    channel: &'a [u8],
-    position: &'a [u8],
-    columns: &'a [u16],
-    rows: &'a [u8],
-    descendants: &'d [u8],
-    number: &'a [u16],
-    of: &'b [u8],
-    first_row: &'f [u8],
-    last_row: &'z [u8],
-    track: &'t [u8],
+// Why a chart is refused, or 0: as its graph is, or with 8 where a list of so many numbers has no room for n vertices, m edges or so many
+// bundles.
+fn refusal_of(
+    refusal: u8,
     n: usize,
     m: usize,
     count: usize,
-) -> u16
-    requires { ⌜ Fit (sources (now ends) (now longer) (now below) (now left) (now channel) (now position) (now columns) (now rows) (now descendants) (now number) (now of) (now «first_row») (now «last_row») (now track)) n m count (now words) (now arrows) (now bundles) ⌝ }
-    ensures { λ r. ⌜ Handed (sources (now (ends .entry)) (now (longer .entry)) (now (below .entry)) (now (left .entry)) (now (channel .entry)) (now (position .entry)) (now (columns .entry)) (now (rows .entry)) (now (descendants .entry)) (now (number .entry)) (now (of .entry)) (now («first_row» .entry)) (now («last_row» .entry)) (now (track .entry))) n m count (now (words .entry)) (now (arrows .entry)) (now (bundles .entry)) (now (words .exit)) (now (arrows .exit)) (now (bundles .exit)) r ⌝ }
+    words: usize,
+    arrows: usize,
+    bundles: usize,
+) -> u8
+    ensures { λ r. ⌜ r ≡ roomRefusal refusal n m count (words / 5) (arrows / 5) (bundles / 4) ⌝ }
 {
-    put_words(words, channel, position, columns, rows, descendants, n);
-    let firm = put_arrows(
-        arrows,
-        ends,
-        longer,
-        channel,
-        position,
-        number,
-        &columns[..n],
-        &rows[..n],
-        below,
-        left,
-        m,
-    );
-    put_bundles(bundles, of, first_row, last_row, track, count);
-    firm
+    if refusal != 0 {
+        return refusal;
+    }
+    if words / WORD_NUMBERS < n {
+        return 8;
+    }
+    if arrows / ARROW_NUMBERS < m {
+        return 8;
+    }
+    if bundles / BUNDLE_NUMBERS < count {
+        return 8;
+    }
+    0
 }
 
 // The sets of the vertices left of each channel, where there are more than two: between two nothing stands.
@@ -61,8 +51,8 @@ fn make_left(channel: &[u8], n: usize, count: usize, left: &mut [u64])
     }
 }
 
-// Fills lists that have room with the chart of a graph of n vertices; how many edges are reduced.
-pub(crate) fn hand_over<'e, 'l, 'b, 'o, 'f, 'z, 't>(
+// The chart of a graph of n vertices into three lists, from what is planned, or its refusal. What `left` has is lost.
+pub(crate) fn hand_over<'e, 'l, 'b, 's>(
     words: &mut [u16],
     arrows: &mut [u16],
     bundles: &mut [u16],
@@ -70,43 +60,51 @@ pub(crate) fn hand_over<'e, 'l, 'b, 'o, 'f, 'z, 't>(
     longer: &'l [u64],
     below: &'b [u64],
     left: &'b mut [u64],
-    of: &'o [u8],
-    first: &'f [u8],
-    last: &'z [u8],
+    spans: &'s [u8],
     number: &'b [u16],
-    track: &'t [u8],
     column: &'b [u16],
+    used: [u16; 128],
     n: usize,
     p: Plan,
-) -> u16
-    requires { ⌜ Lends n (now ends) p (tables (now longer) (now below) (now of) (now first) (now last) (now number) (now track) (now column)) (length (now left)) (now words) (now arrows) (now bundles) ⌝ }
-    ensures { λ r. ⌜ Hands n (now (ends .entry)) p (tables (now (longer .entry)) (now (below .entry)) (now (of .entry)) (now (first .entry)) (now (last .entry)) (now (number .entry)) (now (track .entry)) (now (column .entry))) (now (words .entry)) (now (arrows .entry)) (now (bundles .entry)) r (now (words .exit)) (now (arrows .exit)) (now (bundles .exit)) ⌝ }
+) -> ChartCounts
+    requires { ⌜ Lends n (now ends) p (now below) (now longer) (now spans) (now number) used (now column) (length (now left)) ⌝ }
+    ensures { λ r. ⌜ Hands n (now (ends .entry)) p (now (below .entry)) (now (longer .entry)) (now (spans .entry)) (now (number .entry)) used (now (column .entry)) (now (words .entry)) (now (arrows .entry)) (now (bundles .entry)) r (now (words .exit)) (now (arrows .exit)) (now (bundles .exit)) ⌝ }
 {
+    let m = ends.len() / 2;
+    let b = p.bundles;
+    let k = refusal_of(p.refusal, n, m, b, words.len(), arrows.len(), bundles.len());
+    if k != 0 {
+        return refused(k);
+    }
     let channel = p.channel;
     let position = p.position;
     let row = p.row;
     let descendants = p.descendants;
     make_left(&channel, n, wide(p.channels), left);
-    fill_lists(
-        words,
+    put_words(words, &channel, &position, column, &row, &descendants, n);
+    let firm = put_arrows(
         arrows,
-        bundles,
         ends,
         longer,
-        below,
-        left,
         &channel,
         &position,
-        column,
-        &row,
-        &descendants,
         number,
-        of,
-        first,
-        last,
-        track,
-        n,
-        ends.len() / 2,
-        p.bundles,
-    )
+        &column[..n],
+        &row[..n],
+        below,
+        left,
+        m,
+    );
+    put_bundles(bundles, spans, b);
+    ChartCounts {
+        refusal: 0,
+        words: n,
+        arrows: m,
+        bundles: b,
+        rows: p.rows,
+        lines: p.channels,
+        firm,
+        width: p.width,
+        side_columns: used,
+    }
 }

@@ -5,17 +5,13 @@ ghost use lib.ListN.{length, replicate};
 ghost use Rattle.drawing.specs.Drawn.{graphDrawn, lent};
 ghost use Rattle.drawing.specs.Laid.{lists, Roomy};
 ghost use Rattle.flat.specs.Chart.{Left, HandedFlat};
-ghost use Rattle.flat.specs.Hand.{noCounts, countsOf, roomRefusal};
+ghost use Rattle.flat.specs.Hand.{noCounts};
 
 mod entries;
 mod hand;
 
-use drawing::Plan;
-use entries::ARROW_NUMBERS;
-use entries::BUNDLE_NUMBERS;
-use entries::WORD_NUMBERS;
-use hand::hand_over;
 use fields::Layout;
+use hand::hand_over;
 
 // For so many vertices there are smaller work lists.
 const FEW: usize = 16;
@@ -43,7 +39,7 @@ pub(crate) fn wide(x: u8) -> usize
 }
 
 // No count.
-fn refused(refusal: u8) -> ChartCounts
+pub(crate) fn refused(refusal: u8) -> ChartCounts
     ensures { λ r. ⌜ r ≡ noCounts refusal ⌝ }
 {
     ChartCounts {
@@ -59,53 +55,8 @@ fn refused(refusal: u8) -> ChartCounts
     }
 }
 
-// The counts of what is planned of n vertices and m edges, and the tracks of each channel.
-fn counts_of(n: usize, m: usize, firm: u16, p: Plan, side_columns: [u16; 128]) -> ChartCounts
-    ensures { λ r. ⌜ r ≡ countsOf n m firm p «side_columns» ⌝ }
-{
-    ChartCounts {
-        refusal: 0,
-        words: n,
-        arrows: m,
-        bundles: p.bundles,
-        rows: p.rows,
-        lines: p.channels,
-        firm,
-        width: p.width,
-        side_columns,
-    }
-}
-
-// Why a chart is refused, or 0: as its graph is, or with 8 where a list of so many numbers has no room for n vertices, m edges or so many
-// bundles.
-fn refusal_of(
-    refusal: u8,
-    n: usize,
-    m: usize,
-    count: usize,
-    words: usize,
-    arrows: usize,
-    bundles: usize,
-) -> u8
-    ensures { λ r. ⌜ r ≡ roomRefusal refusal n m count (words / 5) (arrows / 5) (bundles / 4) ⌝ }
-{
-    if refusal != 0 {
-        return refusal;
-    }
-    if words / WORD_NUMBERS < n {
-        return 8;
-    }
-    if arrows / ARROW_NUMBERS < m {
-        return 8;
-    }
-    if bundles / BUNDLE_NUMBERS < count {
-        return 8;
-    }
-    0
-}
-
 // The chart of a neutral graph into three lists, by work lists that have room for its vertices.
-fn drawn<'g, 'f, 'e, 'b, 't, 'l, 's, 'o, 'i, 'z, 'n, 'k, 'c>(
+fn drawn<'g, 'f, 'e, 'b, 't, 'l, 's, 'n, 'c>(
     n: usize,
     ends: &'g [u8],
     given: bool,
@@ -117,15 +68,11 @@ fn drawn<'g, 'f, 'e, 'b, 't, 'l, 's, 'o, 'i, 'z, 'n, 'k, 'c>(
     below: &'b mut [u64],
     table: &'t mut [u64],
     longer: &'l mut [u64],
-    left: &'s mut [u64],
-    of: &'o mut [u8],
-    first: &'i mut [u8],
-    last: &'z mut [u8],
+    spans: &'s mut [u8],
     number: &'n mut [u16],
-    track: &'k mut [u8],
     column: &'c mut [u16],
 ) -> ChartCounts
-    requires { ⌜ Roomy n (lists (now edges) (now below) (now table) (now longer) (now of) (now first) (now last) (now number) (now track) (replicate 128 0) (now column)) × (2 * min n 128 + 2 ≤ length (now left)) ⌝ }
+    requires { ⌜ Roomy n (lists (now edges) (now below) (now table) (now longer) (now spans) (now number) (replicate 128 0) (now column)) × (2 * min n 128 + 2 ≤ length (now table)) ⌝ }
     ensures { λ r. ⌜ Left (lent (length (now (words .entry)) / 5) (length (now (arrows .entry)) / 5) (length (now (bundles .entry)) / 4) (graphDrawn n (now (ends .entry)) given (now (field .entry)))) (now (words .entry)) (now (arrows .entry)) (now (bundles .entry)) r (now (words .exit)) (now (arrows .exit)) (now (bundles .exit)) ⌝ }
 {
     let mut used = [0; 128];
@@ -138,45 +85,27 @@ fn drawn<'g, 'f, 'e, 'b, 't, 'l, 's, 'o, 'i, 'z, 'n, 'k, 'c>(
         below,
         table,
         longer,
-        of,
-        first,
-        last,
+        spans,
         number,
-        track,
         &mut used,
         column,
     );
-    let m = ends.len() / 2;
-    let k = refusal_of(
-        p.refusal,
-        n,
-        m,
-        p.bundles,
-        words.len(),
-        arrows.len(),
-        bundles.len(),
-    );
-    if k != 0 {
-        return refused(k);
-    }
-    let firm = hand_over(
+    // what reaches what is not read any more: its list takes the sets left of channels
+    hand_over(
         words,
         arrows,
         bundles,
         ends,
         longer,
         below,
-        left,
-        of,
-        first,
-        last,
+        table,
+        spans,
         number,
-        track,
         column,
+        used,
         n,
         p,
-    );
-    counts_of(n, m, firm, p, used)
+    )
 }
 
 // The same with work lists for at most 16 vertices: clearing larger ones would take most of the time of a small chart.
@@ -194,14 +123,10 @@ fn few<'g, 'f>(
 {
     let mut edges = [0; 32];
     let mut below = [0; 34];
-    let mut table = [0; 32];
+    let mut table = [0; 34];
     let mut longer = [0; 32];
-    let mut left = [0; 34];
-    let mut of = [0; 32];
-    let mut first = [0; 32];
-    let mut last = [0; 32];
+    let mut spans = [0; 128];
     let mut number = [0; 32];
-    let mut track = [0; 32];
     let mut column = [0; 16];
     drawn(
         n,
@@ -215,12 +140,8 @@ fn few<'g, 'f>(
         &mut below,
         &mut table,
         &mut longer,
-        &mut left,
-        &mut of,
-        &mut first,
-        &mut last,
+        &mut spans,
         &mut number,
-        &mut track,
         &mut column,
     )
 }
@@ -239,14 +160,10 @@ fn many<'g, 'f>(
 {
     let mut edges = [0; 256];
     let mut below = [0; 258];
-    let mut table = [0; 256];
+    let mut table = [0; 258];
     let mut longer = [0; 256];
-    let mut left = [0; 258];
-    let mut of = [0; 256];
-    let mut first = [0; 256];
-    let mut last = [0; 256];
+    let mut spans = [0; 1024];
     let mut number = [0; 256];
-    let mut track = [0; 256];
     let mut column = [0; 128];
     drawn(
         n,
@@ -260,12 +177,8 @@ fn many<'g, 'f>(
         &mut below,
         &mut table,
         &mut longer,
-        &mut left,
-        &mut of,
-        &mut first,
-        &mut last,
+        &mut spans,
         &mut number,
-        &mut track,
         &mut column,
     )
 }

@@ -10,7 +10,7 @@ use native.Mathlib.Decide.{ℕ-discrete}
 use lib.ListN.{getD}
 use lib.Dec.{eqb, leb, ltb}
 use borrow.Author.Tests.{eq-eqb, eqb-true, leb-true, le-leb, lt-ltb, le-ltb, ltb-true}
-use Rattle.counting.specs.Count.{choose, some}
+use Rattle.counting.specs.Count.{choose}
 use Rattle.counting.proofs.Truth.{and-intro, and-elim, or-left, or-elim}
 use Rattle.counting.proofs.Falsity.{not-true}
 use Rattle.counting.proofs.Somes.{some-found, some-which}

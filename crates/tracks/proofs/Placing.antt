@@ -12,16 +12,19 @@ use lib.Seq.{getD-set-same, getD-set-other}
 use borrow.Author.Tests.{eq-eqb, ne-eqb}
 use Rattle.counting.proofs.Zeros.{zeros}
 use Rattle.tracks.specs.Tracks.{mostRows, lowestFree, blocks, busy, placed, inRow, inRows, tracks}
+use Rattle.tracks.specs.Steps.{nth}
 use Rattle.counting.proofs.Mapping.{one-fails, onto-count}
 use Rattle.tracks.proofs.FirstFit.{IsLowest, lowest-is, turn, earlier-turn, blocks-fact, blocks-self, busy-fact, busy-yes}
 
 -- the rule's steps
 module _ (n : ℕ) (channel first last : ℕ → ℕ) where
-  row-yes : (r b : ℕ) (track : List ℕ) → first b ≡ r → inRow n channel first last r (suc b) track ≡ placed n channel first last b (inRow n channel first last r b track)
+  row-yes : (r b : ℕ) (track : List ℕ) → first b ≡ r
+      → inRow n channel first last r (suc b) track ≡ placed n channel first last b (inRow n channel first last r b track)
   unfolding inRow
   row-yes r b track e = rw (eq-eqb _ _ e)
 
-  row-no : (r b : ℕ) (track : List ℕ) → (first b ≡ r → ⊥) → inRow n channel first last r (suc b) track ≡ inRow n channel first last r b track
+  row-no : (r b : ℕ) (track : List ℕ) → (first b ≡ r → ⊥)
+      → inRow n channel first last r (suc b) track ≡ inRow n channel first last r b track
   unfolding inRow
   row-no r b track e = rw (ne-eqb _ _ e)
 
@@ -31,14 +34,14 @@ module _ (n : ℕ) (channel first last : ℕ → ℕ) where
   at = turn first
 
   -- q has the lowest track that those before it left free
-  pub record Done (track : List ℕ) (q : ℕ) : Type 0 where
-    pub free : (p : ℕ) → p < n → blocks channel first last p q ≡ true → getD track p 0 ≡ getD track q 0 → ⊥
-    pub low : (c : ℕ) → c < getD track q 0 → (p : ℕ) × (p < n) × (blocks channel first last p q ≡ true) × (getD track p 0 ≡ c)
+  pub record Done (track : ℕ → ℕ) (q : ℕ) : Type 0 where
+    pub free : (p : ℕ) → p < n → blocks channel first last p q ≡ true → track p ≡ track q → ⊥
+    pub low : (c : ℕ) → c < track q → (p : ℕ) × (p < n) × (blocks channel first last p q ≡ true) × (track p ≡ c)
 
   -- all whose turn is below k are done
   pub record Placed (k : ℕ) (track : List ℕ) : Type 0 where
     pub long : length track ≡ 256
-    pub done : (q : ℕ) → q < n → at q < k → Done track q
+    pub done : (q : ℕ) → q < n → at q < k → Done (nth track) q
     pub below : (q : ℕ) → getD track q 0 < 256
     pub past : (q : ℕ) → n ≤ q → getD track q 0 ≡ 0
 
@@ -54,14 +57,18 @@ module _ (n : ℕ) (channel first last : ℕ → ℕ) where
 
       go : Dec (r < n) → r < n
       go (yes d) = d
-      go (no d) = omega (arith, onto-count n r (λ w. blocks channel first last w b) (λ w. getD track w 0) onto, one-fails n (λ w. blocks channel first last w b) b l (blocks-self channel first last b))
+      go (no d) = omega (
+        arith,
+        onto-count n r (λ w. blocks channel first last w b) (λ w. getD track w 0) onto,
+        one-fails n (λ w. blocks channel first last w b) b l (blocks-self channel first last b),
+      )
 
   module _ (small : n ≤ 256) where
     pub blocks-turn : (p q : ℕ) → p < n → blocks channel first last p q ≡ true → at p < at q
     blocks-turn p q l e = earlier-turn first p q (omega arith) (blocks-fact channel first last p q e .0)
 
-    placed-set : (k : ℕ) (track : List ℕ) (b r : ℕ) → b < n → at b ≡ k → Placed k track → IsLowest (busy n channel first last track b) n 0 r → r < n
-        → Placed (suc k) (set track b r)
+    placed-set : (k : ℕ) (track : List ℕ) (b r : ℕ) → b < n → at b ≡ k → Placed k track
+        → IsLowest (busy n channel first last track b) n 0 r → r < n → Placed (suc k) (set track b r)
     placed-set k track b r l t p i fits = record {
       long = length-set track b r ∙ p .long;
       done = λ q m h. done q m h (ℕ-discrete q b);
@@ -87,9 +94,11 @@ module _ (n : ℕ) (channel first last : ℕ → ℕ) where
         below q (yes x) = rw x (omega (arith, here))
         below q (no x) = omega (arith, other q x, p .below q)
 
-        done : (q : ℕ) → q < n → at q < suc k → Dec (q ≡ b) → Done (set track b r) q
+        done : (q : ℕ) → q < n → at q < suc k → Dec (q ≡ b) → Done (nth (set track b r)) q
         done q m h (yes x) = rw x record {
-          free = λ a u v y. true≢false (sym (busy-yes n channel first last track b r a u v (sym (before a (blocks-turn a b u v)) ∙ y ∙ here)) ∙ i .free (omega arith));
+          free = λ a u v y.
+              let same = sym (before a (blocks-turn a b u v)) ∙ y ∙ here in
+              true≢false (sym (busy-yes n channel first last track b r a u v same) ∙ i .free (omega arith));
           low = λ c u. kept b (omega arith) c (busy-fact n channel first last track b c (i .below c (omega arith) (omega (arith, here))));
         }
         done q m h (no x) =
@@ -100,13 +109,19 @@ module _ (n : ℕ) (channel first last : ℕ → ℕ) where
               low = λ c u. kept q (omega arith) c (d .low c (omega (arith, before q lower)));
             }
 
-    placed-place : (k : ℕ) (track : List ℕ) (b : ℕ) → b < n → at b ≡ k → Placed k track → Placed (suc k) (placed n channel first last b track)
+    placed-place : (k : ℕ) (track : List ℕ) (b : ℕ) → b < n → at b ≡ k → Placed k track
+        → Placed (suc k) (placed n channel first last b track)
     unfolding placed
     placed-place k track b l t p = placed-set k track b _ l t p (lowest-is (busy n channel first last track b) n 0) (lowest-below track b l)
 
     -- nobody's turn
     placed-pass : (k : ℕ) (track : List ℕ) → ((q : ℕ) → q < n → at q ≡ k → ⊥) → Placed k track → Placed (suc k) track
-    placed-pass k track e p = record { long = p .long; done = λ q m h. p .done q m (go q m h (ℕ-discrete (at q) k)); below = p .below; past = p .past }
+    placed-pass k track e p = record {
+      long = p .long;
+      done = λ q m h. p .done q m (go q m h (ℕ-discrete (at q) k));
+      below = p .below;
+      past = p .past;
+    }
       where
         go : (q : ℕ) → q < n → at q < suc k → Dec (at q ≡ k) → at q < k
         go q m h (yes x) = absurd (e q m x)
@@ -124,9 +139,10 @@ module _ (n : ℕ) (channel first last : ℕ → ℕ) where
         mine : (q : ℕ) → q < n → at q ≡ r * 256 + b → first b ≡ r
         mine q m y = let z : q ≡ b = omega arith in sym (ap first z) ∙ (let w : first q ≡ r = omega arith in w)
 
-        go : Dec (first b ≡ r) → Placed (r * 256 + b) (inRow n channel first last r b track) → Placed (suc (r * 256 + b)) (inRow n channel first last r (suc b) track)
-        go (yes e) ih = rw (row-yes n channel first last r b track e) (placed-place (r * 256 + b) (inRow n channel first last r b track) b (omega arith) (omega arith) ih)
-        go (no e) ih = rw (row-no n channel first last r b track e) (placed-pass (r * 256 + b) (inRow n channel first last r b track) (λ q m y. e (mine q m y)) ih)
+        go : Dec (first b ≡ r) → Placed (r * 256 + b) (inRow n channel first last r b track)
+            → Placed (suc (r * 256 + b)) (inRow n channel first last r (suc b) track)
+        go (yes e) ih = rw (row-yes n channel first last r b track e) (placed-place _ _ b (omega arith) (omega arith) ih)
+        go (no e) ih = rw (row-no n channel first last r b track e) (placed-pass _ _ (λ q m y. e (mine q m y)) ih)
 
     placed-rows : (r : ℕ) → Placed (r * 256) (inRows n channel first last r)
     unfolding inRows

@@ -1,33 +1,35 @@
 -- What the call promises. Assumes nothing.
 use mathlib.Core.Path.{_≡_}
 use mathlib.Core.List.{List}
-use Prim.Native.Nat.{ℕ, _<_, min, max}
+use Prim.Native.Nat.{ℕ, _/_, _≤_, _<_, min, max}
 use lib.Dec.{eqb}
 use lib.ListN.{length, getD}
+use Rattle.counting.specs.Quads.{quad}
 use Rattle.tracks.specs.Tracks.{mostBundles, tracks, topIn}
 
--- t has the track of each of n bundles, 0 past the last, and s how many tracks each channel has: 1 + its highest, or 0
-pub record Assigned (n : ℕ) (channel first last : ℕ → ℕ) (t s : List ℕ) : Type 0 where
-  pub track : (b : ℕ) → getD t b 0 ≡ getD (tracks n channel first last) b 0
+-- of each of n bundles its track, and s how many tracks each channel has: 1 + its highest, or 0
+pub record Assigned (n : ℕ) (channel first last t : ℕ → ℕ) (s : List ℕ) : Type 0 where
+  pub track : (b : ℕ) → b < n → t b ≡ getD (tracks n channel first last) b 0
   pub used : (c : ℕ) → c < length s → getD s c 0 ≡ topIn n (λ b. eqb (channel b) c) (λ b. getD (tracks n channel first last) b 0)
 
 -- the row in which a bundle ends: its first, where its last is below that
 abbrev pub endOf : (ℕ → ℕ) → (ℕ → ℕ) → ℕ → ℕ
 endOf first last b = max (first b) (last b)
 
--- how many of n bundles count: at most 256, and as many as each list has entries
-abbrev pub bundleCount : ℕ → List ℕ → List ℕ → List ℕ → List ℕ → ℕ
-bundleCount n channel first last track =
-    min n (min mostBundles (min (length channel) (min (length first) (min (length last) (length track)))))
+-- how many of n bundles count: at most 256, and as many as the list has entries
+abbrev pub bundleCount : ℕ → List ℕ → ℕ
+bundleCount n spans = min n (min mostBundles (length spans / 4))
 
--- the tracks of r bundles by lists
-abbrev pub tracksOf : ℕ → List ℕ → List ℕ → List ℕ → List ℕ
-tracksOf r channel first last = tracks r (λ b. getD channel b 0) (λ b. getD first b 0) (endOf (λ b. getD first b 0) (λ b. getD last b 0))
+-- the tracks of r bundles by their list: channel, first row and last row of each
+abbrev pub tracksOf : ℕ → List ℕ → List ℕ
+tracksOf r spans = tracks r (quad 0 spans) (quad 1 spans) (endOf (quad 1 spans) (quad 2 spans))
 
--- r bundles count; track′ has the track of each, 0 past the last, and used′ how many tracks each channel has
-pub record Tracked (n : ℕ) (channel first last track₀ used₀ : List ℕ) (r : ℕ) (track′ used′ : List ℕ) : Type 0 where
-  pub counted : r ≡ bundleCount n channel first last track₀
-  pub track : (b : ℕ) → getD track′ b 0 ≡ getD (tracksOf r channel first last) b 0
+-- r bundles count; the fourth number of each is its track now, and every other number is as it was; used′ has how many tracks each channel has
+pub record Tracked (n : ℕ) (spans used₀ : List ℕ) (r : ℕ) (spans′ used′ : List ℕ) : Type 0 where
+  pub counted : r ≡ bundleCount n spans
+  pub track : (b : ℕ) → b < r → quad 3 spans′ b ≡ getD (tracksOf r spans) b 0
+  pub past : (b : ℕ) → r ≤ b → quad 3 spans′ b ≡ quad 3 spans b
+  pub kept : (k b : ℕ) → k < 3 → quad k spans′ b ≡ quad k spans b
   pub used : (c : ℕ) → c < length used₀
-      → getD used′ c 0 ≡ topIn r (λ b. eqb (getD channel b 0) c) (λ b. getD (tracksOf r channel first last) b 0)
-  pub long : (length track′ ≡ length track₀) × (length used′ ≡ length used₀)
+      → getD used′ c 0 ≡ topIn r (λ b. eqb (quad 0 spans b) c) (λ b. getD (tracksOf r spans) b 0)
+  pub long : (length spans′ ≡ length spans) × (length used′ ≡ length used₀)

@@ -17,11 +17,8 @@ one-more n t h = rw h refl
 returns : tie.Need-returns
 returns c = stays-at _ _ (c .if1 .taken)
 
-add-result : tie.Need-add-result
-add-result c = search needs
-
 returns-2 : tie.Need-returns-2
 returns-2 c = one-more _ _ (c .if1 .left)
 
 pub counted-spec : {M : Type 1} → statement M
-counted-spec = tie.close (tie.spec returns add-result returns-2)
+counted-spec = tie.close (tie.spec returns (λ c. search needs) returns-2)

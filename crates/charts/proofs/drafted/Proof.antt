@@ -4,18 +4,6 @@ use borrow.Author.Needs.{needs}
 use Rattle.charts.proofs.drafted.Statement.{statement}
 use Rattle.charts.proofs.drafted.Tie as tie
 
-slice-aggregate-prefixes : tie.Need-slice-aggregate-prefixes
-slice-aggregate-prefixes c = search needs
-
-wide-requires : tie.Need-wide-requires
-wide-requires c κs = search needs
-
-slice-aggregate-prefixes-2 : tie.Need-slice-aggregate-prefixes-2
-slice-aggregate-prefixes-2 c = search needs
-
-prefixes-requires : tie.Need-prefixes-requires
-prefixes-requires c κs = search needs
-
 returns : tie.Need-returns
 returns c =
     let made = c .before .prefixes .ensures in
@@ -23,4 +11,4 @@ returns c =
 
 pub drafted-spec : {M : Type 1} → statement M
 drafted-spec =
-    tie.close (tie.spec slice-aggregate-prefixes wide-requires slice-aggregate-prefixes-2 prefixes-requires returns)
+    tie.close (tie.spec (λ c. search needs) (λ c κs. search needs) (λ c. search needs) (λ c κs. search needs) returns)

@@ -7,17 +7,8 @@ use borrow.Author.Needs.{needs}
 use Rattle.charts.proofs.edges_of.Statement.{statement}
 use Rattle.charts.proofs.edges_of.Tie as tie
 
-layout-of-requires : tie.Need-layout-of-requires
-layout-of-requires c κs = search needs
-
-enum-known-layout : tie.Need-enum-known-layout
-enum-known-layout c = search needs
-
 enum-told : tie.Need-enum-told
 enum-told c = search needs
-
-slice-aggregate-result : tie.Need-slice-aggregate-result
-slice-aggregate-result c = search needs
 
 returns : tie.Need-returns
 returns c = ends-bad _ (sym (c .before .before .before .layout-of .ensures) ∙ c .before .enum-told .given .1)
@@ -38,12 +29,6 @@ add-to c =
     let known = c .before .before .before .before .before .before .good .0 in
     record { fits = omega arith }
 
-sub-result : tie.Need-sub-result
-sub-result c = search needs
-
-part-result-start : tie.Need-part-result-start
-part-result-start c = search needs
-
 part-result-end : tie.Need-part-result-end
 part-result-end c =
     let b = c .before .before .before .before .before .before .args .bytes .now in
@@ -58,14 +43,14 @@ pub edges-of-spec : {M : Type 1} → statement M
 edges-of-spec =
     tie.close
     (tie.spec
-    layout-of-requires
-    enum-known-layout
+    (λ c κs. search needs)
+    (λ c. search needs)
     enum-told
-    slice-aggregate-result
+    (λ c. search needs)
     returns
     mul-to
     add-to
-    sub-result
-    part-result-start
+    (λ c. search needs)
+    (λ c. search needs)
     part-result-end
     returns-2)

@@ -15,9 +15,6 @@ use Rattle.charts.proofs.kind_at.Tie as tie
 first-long : (k n : ℕ) (l : List ℕ) → k ≡ min n 128 → 128 ≡ length l → k ≡ length (take k l)
 first-long k n l e h = sym (length-take-le k l (omega arith))
 
-least-requires : tie.Need-least-requires
-least-requires c κs = search needs
-
 slice-aggregate-columns : tie.Need-slice-aggregate-columns
 slice-aggregate-columns c = search needs
 
@@ -36,12 +33,6 @@ slice-aggregate-code-at-2 c =
     let size : 128 ≡ length (st .before .before .before .before .before .args .t1 .row) = slice-aggregate-rows st in
     first-long _ _ _ (st .before .before .before .before .least .ensures) size
 
-code-at-requires : tie.Need-code-at-requires
-code-at-requires c κs = search needs
-
-kind-of-requires : tie.Need-kind-of-requires
-kind-of-requires c κs = search needs
-
 returns : tie.Need-returns
 unfolding kindAt
 returns c =
@@ -53,11 +44,11 @@ pub kind-at-spec : {M : Type 1} → statement M
 kind-at-spec =
     tie.close
     (tie.spec
-    least-requires
+    (λ c κs. search needs)
     slice-aggregate-columns
     slice-aggregate-rows
     slice-aggregate-code-at
     slice-aggregate-code-at-2
-    code-at-requires
-    kind-of-requires
+    (λ c κs. search needs)
+    (λ c κs. search needs)
     returns)

@@ -4,15 +4,9 @@ use borrow.Author.Needs.{needs}
 use Rattle.charts.proofs.mark_at.Statement.{statement}
 use Rattle.charts.proofs.mark_at.Tie as tie
 
-mul-contains : tie.Need-mul-contains
-mul-contains c = search needs
-
-contains-requires : tie.Need-contains-requires
-contains-requires c κs = search needs
-
 returns : tie.Need-returns
 unfolding transitive?
 returns c = c .contains .ensures
 
 pub mark-at-spec : {M : Type 1} → statement M
-mark-at-spec = tie.close (tie.spec mul-contains contains-requires returns)
+mark-at-spec = tie.close (tie.spec (λ c. search needs) (λ c κs. search needs) returns)

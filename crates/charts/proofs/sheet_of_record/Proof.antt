@@ -8,17 +8,8 @@ use borrow.Author.Needs.{needs}
 use Rattle.charts.proofs.sheet_of_record.Statement.{statement}
 use Rattle.charts.proofs.sheet_of_record.Tie as tie
 
-layout-of-requires : tie.Need-layout-of-requires
-layout-of-requires c κs = search needs
-
-enum-known-layout : tie.Need-enum-known-layout
-enum-known-layout c = search needs
-
 enum-told : tie.Need-enum-told
 enum-told c = search needs
-
-blank-requires : tie.Need-blank-requires
-blank-requires c κs = search needs
 
 returns : tie.Need-returns
 returns c =
@@ -49,12 +40,6 @@ add-end c =
     let known = c .before .before .before .before .before .before .before .good .0 in
     record { fits = omega arith }
 
-sub-sheet-of-graph : tie.Need-sub-sheet-of-graph
-sub-sheet-of-graph c = search needs
-
-part-sheet-of-graph-start : tie.Need-part-sheet-of-graph-start
-part-sheet-of-graph-start c = search needs
-
 part-sheet-of-graph-end : tie.Need-part-sheet-of-graph-end
 part-sheet-of-graph-end c =
     let b = c .before .before .before .before .before .before .before .args .bytes .now in
@@ -62,21 +47,12 @@ part-sheet-of-graph-end c =
     let k = layout-good b _ good in
     omega arith
 
-sub-sheet-of-graph-2 : tie.Need-sub-sheet-of-graph-2
-sub-sheet-of-graph-2 c = search needs
-
-part-sheet-of-graph-start-2 : tie.Need-part-sheet-of-graph-start-2
-part-sheet-of-graph-start-2 c = search needs
-
 part-sheet-of-graph-end-2 : tie.Need-part-sheet-of-graph-end-2
 part-sheet-of-graph-end-2 c =
     let b = c .before .before .before .before .before .before .before .before .args .bytes .now in
     let good = sym (c .before .before .before .before .before .before .layout-of .ensures) ∙ c .before .before .before .before .layout .given .1 in
     let k = layout-good b _ good in
     omega arith
-
-sheet-of-graph-requires : tie.Need-sheet-of-graph-requires
-sheet-of-graph-requires c κs = search needs
 
 returns-2 : tie.Need-returns-2
 returns-2 c =
@@ -87,19 +63,19 @@ pub sheet-of-record-spec : {M : Type 1} → statement M
 sheet-of-record-spec =
     tie.close
     (tie.spec
-    layout-of-requires
-    enum-known-layout
+    (λ c κs. search needs)
+    (λ c. search needs)
     enum-told
-    blank-requires
+    (λ c κs. search needs)
     returns
     mul-to
     add-to
     add-end
-    sub-sheet-of-graph
-    part-sheet-of-graph-start
+    (λ c. search needs)
+    (λ c. search needs)
     part-sheet-of-graph-end
-    sub-sheet-of-graph-2
-    part-sheet-of-graph-start-2
+    (λ c. search needs)
+    (λ c. search needs)
     part-sheet-of-graph-end-2
-    sheet-of-graph-requires
+    (λ c κs. search needs)
     returns-2)

@@ -8,17 +8,8 @@ use borrow.Author.Needs.{needs}
 use Rattle.flat.proofs.of_record.Statement.{statement}
 use Rattle.flat.proofs.of_record.Tie as tie
 
-layout-of-requires : tie.Need-layout-of-requires
-layout-of-requires c κs = search needs
-
-enum-known-layout : tie.Need-enum-known-layout
-enum-known-layout c = search needs
-
 enum-told : tie.Need-enum-told
 enum-told c = search needs
-
-refused-requires : tie.Need-refused-requires
-refused-requires c κs = search needs
 
 returns : tie.Need-returns
 returns c = refused-left _ _ _ _ _ _ (record-bad _ (sym (c .before .before .before .layout-of .ensures) ∙ c .before .enum-told .given .1))
@@ -48,24 +39,12 @@ add-end c =
     let known = c .before .before .before .before .before .before .before .before .before .before .good .0 in
     record { fits = omega arith }
 
-sub-of-graph : tie.Need-sub-of-graph
-sub-of-graph c = search needs
-
-part-of-graph-start : tie.Need-part-of-graph-start
-part-of-graph-start c = search needs
-
 part-of-graph-end : tie.Need-part-of-graph-end
 part-of-graph-end c =
     let b = c .before .before .before .before .before .before .before .before .before .before .args .bytes .now in
     let good = sym (c .before .before .before .before .before .layout-of .ensures) ∙ c .before .before .before .layout .given .1 in
     let k = layout-good b _ good in
     omega arith
-
-sub-of-graph-2 : tie.Need-sub-of-graph-2
-sub-of-graph-2 c = search needs
-
-part-of-graph-start-2 : tie.Need-part-of-graph-start-2
-part-of-graph-start-2 c = search needs
 
 part-of-graph-end-2 : tie.Need-part-of-graph-end-2
 part-of-graph-end-2 c =
@@ -74,18 +53,6 @@ part-of-graph-end-2 c =
     .before .layout .given .1 in
     let k = layout-good b _ good in
     omega arith
-
-of-graph-requires : tie.Need-of-graph-requires
-of-graph-requires c κs = search needs
-
-same-length : tie.Need-same-length
-same-length c = search needs
-
-same-length-2 : tie.Need-same-length-2
-same-length-2 c = search needs
-
-same-length-3 : tie.Need-same-length-3
-same-length-3 c = search needs
 
 returns-2 : tie.Need-returns-2
 returns-2 c =
@@ -100,22 +67,22 @@ pub of-record-spec : {M : Type 1} → statement M
 of-record-spec =
     tie.close
     (tie.spec
-    layout-of-requires
-    enum-known-layout
+    (λ c κs. search needs)
+    (λ c. search needs)
     enum-told
-    refused-requires
+    (λ c κs. search needs)
     returns
     mul-to
     add-to
     add-end
-    sub-of-graph
-    part-of-graph-start
+    (λ c. search needs)
+    (λ c. search needs)
     part-of-graph-end
-    sub-of-graph-2
-    part-of-graph-start-2
+    (λ c. search needs)
+    (λ c. search needs)
     part-of-graph-end-2
-    of-graph-requires
-    same-length
-    same-length-2
-    same-length-3
+    (λ c κs. search needs)
+    (λ c. search needs)
+    (λ c. search needs)
+    (λ c. search needs)
     returns-2)

@@ -16,17 +16,8 @@ abbrev μ-loop : tie.MeasureT-loop
 loop-holds : tie.Need-loop-holds Inv-loop μ-loop
 loop-holds c = (zero-le, refl, clearing-none 0 _)
 
-mul-columns : tie.Need-mul-columns Inv-loop μ-loop
-mul-columns c = search needs
-
 slice-write-columns : tie.Need-slice-write-columns Inv-loop μ-loop
 slice-write-columns c = omega (arith, c .before .loop .inv .2 .long)
-
-add-i : tie.Need-add-i Inv-loop μ-loop
-add-i c = search needs
-
-loop-less : tie.Need-loop-less Inv-loop μ-loop
-loop-less c = search needs
 
 loop-again : tie.Need-loop-again Inv-loop μ-loop
 loop-again c = (omega arith, c .before .loop .inv .1, clearing-more 0 _ _ _ (omega arith) (c .before .loop .inv .2))
@@ -44,10 +35,10 @@ clear-spec =
     Inv-loop
     μ-loop
     loop-holds
-    mul-columns
+    (λ c. search needs)
     slice-write-columns
-    add-i
-    loop-less
+    (λ c. search needs)
+    (λ c. search needs)
     loop-again
     same-length
     returns)

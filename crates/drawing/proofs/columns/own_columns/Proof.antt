@@ -22,12 +22,6 @@ loop-holds c =
     let W = evenGaps (λ k. getD (c .args .tracks .now) k 0) in
     (zero-le, subst (λ (t : List ℕ). Owns W 0 t 0) (sym (c .pre .2)) (owns-none W))
 
-mul-x : tie.Need-mul-x Inv-loop μ-loop
-mul-x c = search needs
-
-shared-slice-read-x : tie.Need-shared-slice-read-x Inv-loop μ-loop
-shared-slice-read-x c = search needs
-
 -- the block that is next ends within the width
 fits : (c : tie.In-loop Inv-loop μ-loop) → c .before .loop .start + getD (c .before .before .args .tracks .now) (c .before .loop .l) 0 + 1 + 1 + 1 ≤ page.columns
 fits c =
@@ -41,9 +35,6 @@ add-x c = record { fits = omega (arith, fits (c .before)) }
 add-x-2 : tie.Need-add-x-2 Inv-loop μ-loop
 add-x-2 c = record { fits = omega (arith, fits (c .before)) }
 
-mul-own : tie.Need-mul-own Inv-loop μ-loop
-mul-own c = search needs
-
 slice-write-own : tie.Need-slice-write-own Inv-loop μ-loop
 slice-write-own c =
     let few = c .before .before .before .pre .0 in
@@ -55,20 +46,11 @@ add-start c = record { fits = omega (arith, fits (c .before)) }
 add-start-2 : tie.Need-add-start-2 Inv-loop μ-loop
 add-start-2 c = record { fits = omega (arith, fits (c .before)) }
 
-add-l : tie.Need-add-l Inv-loop μ-loop
-add-l c = search needs
-
-loop-less : tie.Need-loop-less Inv-loop μ-loop
-loop-less c = search needs
-
 loop-again : tie.Need-loop-again Inv-loop μ-loop
 loop-again c =
     let a = c .before .before .before .args in
     let l = c .before .before .loop in
     (omega arith, owns-more (λ k. getD (a .tracks .now) k 0) (l .l) (let g = c .before .before .before .pre in omega arith) (l .inv .1))
-
-same-length : tie.Need-same-length Inv-loop μ-loop
-same-length c = search needs
 
 returns : tie.Need-returns Inv-loop μ-loop
 returns c =
@@ -83,16 +65,16 @@ own-columns-spec =
     Inv-loop
     μ-loop
     loop-holds
-    mul-x
-    shared-slice-read-x
+    (λ c. search needs)
+    (λ c. search needs)
     add-x
     add-x-2
-    mul-own
+    (λ c. search needs)
     slice-write-own
     add-start
     add-start-2
-    add-l
-    loop-less
+    (λ c. search needs)
+    (λ c. search needs)
     loop-again
-    same-length
+    (λ c. search needs)
     returns)

@@ -8,18 +8,6 @@ use borrow.Author.Needs.{needs}
 use Rattle.drawing.proofs.columns.places_of.Statement.{statement}
 use Rattle.drawing.proofs.columns.places_of.Tie as tie
 
-slice-aggregate-own-columns : tie.Need-slice-aggregate-own-columns
-slice-aggregate-own-columns c = search needs
-
-own-columns-requires : tie.Need-own-columns-requires
-own-columns-requires c κs = search needs
-
-clear-requires : tie.Need-clear-requires
-clear-requires c κs = search needs
-
-slice-aggregate-vertex-columns : tie.Need-slice-aggregate-vertex-columns
-slice-aggregate-vertex-columns c = search needs
-
 vertex-columns-requires : tie.Need-vertex-columns-requires
 vertex-columns-requires c κs =
     let st = c .before .before .before .before .before .before .before .before .before .before .before .before in
@@ -60,10 +48,10 @@ pub places-of-spec : {M : Type 1} → statement M
 places-of-spec =
     tie.close
     (tie.spec
-    slice-aggregate-own-columns
-    own-columns-requires
-    clear-requires
-    slice-aggregate-vertex-columns
+    (λ c. search needs)
+    (λ c κs. search needs)
+    (λ c κs. search needs)
+    (λ c. search needs)
     vertex-columns-requires
     same-length
     returns)

@@ -22,37 +22,19 @@ loop-holds c =
     let f : ℕ → ℕ = λ x. getD (a .own .now) (getD (a .channel .now) x 0) 0 in
     (zero-le, subst (λ (t : List ℕ). Tabled (length (a .columns .now)) f 0 t) (sym (st .pre .5)) (tabled-none (length (a .columns .now)) f))
 
-shared-slice-read-wide : tie.Need-shared-slice-read-wide Inv-loop μ-loop
-shared-slice-read-wide c = search needs
-
-wide-requires : tie.Need-wide-requires Inv-loop μ-loop
-wide-requires c κs = search needs
-
 -- the channel of a vertex has an own column
 known : (c : tie.In-loop Inv-loop μ-loop) → getD (c .before .before .before .before .before .args .channel .now) (c .before .loop .v) 0 < 128
 known c = c .before .before .before .before .before .pre .4 (c .before .loop .v) (c .loop-test .taken)
-
-mul-columns : tie.Need-mul-columns Inv-loop μ-loop
-mul-columns c = search needs
 
 shared-slice-read-columns : tie.Need-shared-slice-read-columns Inv-loop μ-loop
 shared-slice-read-columns c =
     let g = c .before .before .before .before .before .before .before .before .pre in
     omega (arith, known (c .before .before .before), c .before .wide .ensures .0)
 
-mul-columns-2 : tie.Need-mul-columns-2 Inv-loop μ-loop
-mul-columns-2 c = search needs
-
 slice-write-columns : tie.Need-slice-write-columns Inv-loop μ-loop
 slice-write-columns c =
     let g = c .before .before .before .before .before .before .before .before .pre .1 in
     omega (arith, c .before .before .before .before .loop .inv .1 .long)
-
-add-v : tie.Need-add-v Inv-loop μ-loop
-add-v c = search needs
-
-loop-less : tie.Need-loop-less Inv-loop μ-loop
-loop-less c = search needs
 
 loop-again : tie.Need-loop-again Inv-loop μ-loop
 loop-again c =
@@ -79,14 +61,14 @@ vertex-columns-spec =
     Inv-loop
     μ-loop
     loop-holds
-    shared-slice-read-wide
-    wide-requires
-    mul-columns
+    (λ c. search needs)
+    (λ c κs. search needs)
+    (λ c. search needs)
     shared-slice-read-columns
-    mul-columns-2
+    (λ c. search needs)
     slice-write-columns
-    add-v
-    loop-less
+    (λ c. search needs)
+    (λ c. search needs)
     loop-again
     same-length
     returns)

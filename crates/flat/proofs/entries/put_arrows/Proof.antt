@@ -1,4 +1,4 @@
--- `flat::entries::put_arrows` meets its contract. The invariant: the first e entries stand, and the reduced ones are counted. Assumes nothing.
+-- `flat::entries::put_arrows` meets its contract. The invariant: the first e entries stand, the reduced ones are counted. Assumes nothing.
 use mathlib.Core.Path.{_≡_}
 use mathlib.Core.Bool.{not}
 use Prim.Native.Nat.{_-_, _≤_}
@@ -28,20 +28,15 @@ put-arrow-requires c κs =
     let st = c .before .before .before .before .before .before .before .before .before .before .before .before .before in
     (omega (arith, entered-long _ _ _ _ _ (c .before .before .loop .inv .1)), st .pre .2 _ (omega arith))
 
-add-firm : tie.Need-add-firm Inv-loop μ-loop
-add-firm c = search needs
-
-add-e : tie.Need-add-e Inv-loop μ-loop
-add-e c = search needs
-
-loop-less : tie.Need-loop-less Inv-loop μ-loop
-loop-less c = search needs
-
 loop-again : tie.Need-loop-again Inv-loop μ-loop
 loop-again c =
-    let st = c .before .before .before .before .before .loop in
-    let put = c .before .before .put-arrow in
-    (omega arith, entered-more _ _ _ _ _ _ (st .inv .1) (put .ensures .0), firm-more _ _ _ _ (st .inv .2) (put .ensures .1), omega arith)
+    let st = c .before .before .before .before .before in
+    let a = st .before .before .before .before .before .before .before .before .before .before .before .args in
+    let g = given (a .ends .now) (a .longer .now) (a .channel .now) (a .position .now) (a .number .now) (a .columns .now)
+    (a .rows .now) (a .below .now) (a .left .now) in
+    let put = c .before .before .put-arrow .ensures in
+    let inv = st .loop .inv in
+    (omega arith, entered-more 5 (arrowAt g) _ _ _ _ (inv .1) (put .0), firm-more g _ _ _ (inv .2) (put .1), omega arith)
 
 same-length : tie.Need-same-length Inv-loop μ-loop
 same-length c = entered-long _ _ _ _ _ (c .before .loop .inv .1)
@@ -63,9 +58,9 @@ put-arrows-spec =
     μ-loop
     loop-holds
     put-arrow-requires
-    add-firm
-    add-e
-    loop-less
+    (λ c. search needs)
+    (λ c. search needs)
+    (λ c. search needs)
     loop-again
     same-length
     returns)

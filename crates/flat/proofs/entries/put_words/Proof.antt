@@ -20,17 +20,8 @@ abbrev μ-loop : tie.MeasureT-loop
 loop-holds : tie.Need-loop-holds Inv-loop μ-loop
 loop-holds c = (omega arith, entered-none _ _ _)
 
-mul-put-five : tie.Need-mul-put-five Inv-loop μ-loop
-mul-put-five c = search needs
-
-shared-slice-read-put-five : tie.Need-shared-slice-read-put-five Inv-loop μ-loop
-shared-slice-read-put-five c = search needs
-
 cast-put-five : tie.Need-cast-put-five Inv-loop μ-loop
 cast-put-five c = let fit = c .shared-slice-known6 .given (c .before .before .before .loop .v) .fits in record { fits = omega arith }
-
-shared-slice-read-put-five-2 : tie.Need-shared-slice-read-put-five-2 Inv-loop μ-loop
-shared-slice-read-put-five-2 c = search needs
 
 cast-put-five-2 : tie.Need-cast-put-five-2 Inv-loop μ-loop
 cast-put-five-2 c = let fit = c .shared-slice-known7 .given (c .before .before .before .before .loop .v) .fits in record {
@@ -38,21 +29,9 @@ cast-put-five-2 c = let fit = c .shared-slice-known7 .given (c .before .before .
       omega arith;
 }
 
-mul-put-five-2 : tie.Need-mul-put-five-2 Inv-loop μ-loop
-mul-put-five-2 c = search needs
-
-shared-slice-read-put-five-3 : tie.Need-shared-slice-read-put-five-3 Inv-loop μ-loop
-shared-slice-read-put-five-3 c = search needs
-
-shared-slice-read-put-five-4 : tie.Need-shared-slice-read-put-five-4 Inv-loop μ-loop
-shared-slice-read-put-five-4 c = search needs
-
 cast-put-five-3 : tie.Need-cast-put-five-3 Inv-loop μ-loop
 cast-put-five-3 c = let fit = c .shared-slice-known9 .given (c .before .before .before .before .before
     .before .loop .v) .fits in record { fits = omega arith }
-
-shared-slice-read-put-five-5 : tie.Need-shared-slice-read-put-five-5 Inv-loop μ-loop
-shared-slice-read-put-five-5 c = search needs
 
 cast-put-five-4 : tie.Need-cast-put-five-4 Inv-loop μ-loop
 cast-put-five-4 c = let fit = c .shared-slice-known10 .given (c .before .before .before .before .before .before
@@ -60,12 +39,6 @@ cast-put-five-4 c = let fit = c .shared-slice-known10 .given (c .before .before 
 
 put-five-requires : tie.Need-put-five-requires Inv-loop μ-loop
 put-five-requires c κs = omega (arith, entered-long _ _ _ _ _ (c .before .before .before .before .before .before .before .loop .inv .1))
-
-add-v : tie.Need-add-v Inv-loop μ-loop
-add-v c = search needs
-
-loop-less : tie.Need-loop-less Inv-loop μ-loop
-loop-less c = search needs
 
 loop-again : tie.Need-loop-again Inv-loop μ-loop
 loop-again c = (
@@ -87,20 +60,20 @@ put-words-spec =
     Inv-loop
     μ-loop
     loop-holds
-    mul-put-five
-    shared-slice-read-put-five
+    (λ c. search needs)
+    (λ c. search needs)
     cast-put-five
-    shared-slice-read-put-five-2
+    (λ c. search needs)
     cast-put-five-2
-    mul-put-five-2
-    shared-slice-read-put-five-3
-    shared-slice-read-put-five-4
+    (λ c. search needs)
+    (λ c. search needs)
+    (λ c. search needs)
     cast-put-five-3
-    shared-slice-read-put-five-5
+    (λ c. search needs)
     cast-put-five-4
     put-five-requires
-    add-v
-    loop-less
+    (λ c. search needs)
+    (λ c. search needs)
     loop-again
     same-length
     returns)

@@ -7,17 +7,13 @@ use borrow.Author.Needs.{needs}
 use Rattle.flat.proofs.hand.make_left.Statement.{statement}
 use Rattle.flat.proofs.hand.make_left.Tie as tie
 
-prefixes-requires : tie.Need-prefixes-requires
-prefixes-requires c κs = search needs
-
-same-length : tie.Need-same-length
-same-length c = search needs
-
 returns : tie.Need-returns
 returns c =
     let a = c .before .before .before .before .before .before .before .args in
     let made = c .before .before .prefixes in (
-      λ h. subst (λ (k : ℕ). Prefixes 2 (min (min (a .n) 128) (length (a .channel .now))) (λ v. getD (a .channel .now) v 0) k (made .last .1 .1 .1 .0))
+      λ h. subst
+          (λ (k : ℕ). Prefixes 2 (min (min (a .n) 128) (length (a .channel .now))) (λ v. getD (a .channel .now) v 0) k
+          (made .last .1 .1 .1 .0))
           (made .ensures .0) (made .ensures .1),
       made .ensures .2,
     )
@@ -26,4 +22,4 @@ returns-2 : tie.Need-returns-2
 returns-2 c = (λ h. absurd (let few = c .if1 .left in omega arith), refl)
 
 pub make-left-spec : {M : Type 1} → statement M
-make-left-spec = tie.close (tie.spec prefixes-requires same-length returns returns-2)
+make-left-spec = tie.close (tie.spec (λ c κs. search needs) (λ c. search needs) returns returns-2)

@@ -1,7 +1,7 @@
 use borrow.Author.Tests.{eq-eqb, ne-eqb, lt-ltb, le-ltb}
 use Rattle.reach.specs.Refusal.{outsized?}
-use Rattle.descent.proofs.is_outsized.Statement.{statement}
-use Rattle.descent.proofs.is_outsized.Tie as tie
+use Rattle.scanning.proofs.is_outsized.Statement.{statement}
+use Rattle.scanning.proofs.is_outsized.Tie as tie
 
 returns : tie.Need-returns
 unfolding outsized?

@@ -20,7 +20,9 @@ module _ (w : ℕ) (tails heads : List ℕ) (i : ℕ) (t : List ℕ) (seen : Mar
   unfolding alike?
   seen-before h e =
       let o = seen .only (getD tails i 0) (getD heads i 0) h e in
-      some-found i (alike? tails heads i) (o .0) (o .1) (and-intro (eqb (getD tails (o .0) 0) (getD tails i 0)) (eqb (getD heads (o .0) 0) (getD heads i 0)) (eq-eqb _ _ (o .2)) (eq-eqb _ _ (o .3)))
+      some-found i (alike? tails heads i) (o .0) (o .1)
+      (and-intro (eqb (getD tails (o .0) 0) (getD tails i 0)) (eqb (getD heads (o .0) 0) (getD heads i 0))
+      (eq-eqb _ _ (o .2)) (eq-eqb _ _ (o .3)))
 
   -- its bit is not there: none is
   pub not-seen : (at w t (getD tails i 0) (getD heads i 0) ≡ 1 → ⊥) → some i (alike? tails heads i) ≡ false

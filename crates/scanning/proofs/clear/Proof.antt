@@ -1,30 +1,23 @@
--- `tracks::clear` meets its contract. Assumes nothing.
 use mathlib.Core.Path.{_≡_, refl}
 use Prim.Native.Nat.{_-_, _≤_, zero-le}
 use native.Mathlib.Omega.{arith}
 use lib.ListN.{length}
 use Rattle.counting.proofs.Clearing.{Clearing, clearing-none, clearing-more, clearing-zero}
 use borrow.Author.Needs.{needs}
-use Rattle.tracks.proofs.clear.Statement.{statement}
-use Rattle.tracks.proofs.clear.Tie as tie
+use Rattle.scanning.proofs.clear.Statement.{statement}
+use Rattle.scanning.proofs.clear.Tie as tie
 
 abbrev Inv-loop : tie.InvT-loop
-Inv-loop list₀ i₀ end list i = (i ≤ end) × (end ≡ length list₀) × Clearing 0 i list₀ list
+Inv-loop masks₀ i₀ end masks i = (i ≤ end) × (end ≡ length masks₀) × Clearing 0 i masks₀ masks
 
 abbrev μ-loop : tie.MeasureT-loop
-μ-loop list₀ i₀ end list i = end - i
+μ-loop masks₀ i₀ end masks i = end - i
 
 loop-holds : tie.Need-loop-holds Inv-loop μ-loop
 loop-holds c = (zero-le, refl, clearing-none 0 _)
 
-slice-write-list : tie.Need-slice-write-list Inv-loop μ-loop
-slice-write-list c = omega (arith, c .before .loop .inv .2 .long)
-
-add-i : tie.Need-add-i Inv-loop μ-loop
-add-i c = search needs
-
-loop-less : tie.Need-loop-less Inv-loop μ-loop
-loop-less c = search needs
+slice-write-masks : tie.Need-slice-write-masks Inv-loop μ-loop
+slice-write-masks c = omega (arith, c .before .loop .inv .2 .long)
 
 loop-again : tie.Need-loop-again Inv-loop μ-loop
 loop-again c = (omega arith, c .before .loop .inv .1, clearing-more 0 _ _ _ (omega arith) (c .before .loop .inv .2))
@@ -33,7 +26,7 @@ same-length : tie.Need-same-length Inv-loop μ-loop
 same-length c = c .before .loop .inv .2 .long
 
 returns : tie.Need-returns Inv-loop μ-loop
-returns c = clearing-zero _ _ _ (omega arith) (c .before .loop .inv .2)
+returns c = record { zero = clearing-zero _ _ _ (omega arith) (c .before .loop .inv .2) }
 
 pub clear-spec : {M : Type 1} → statement M
 clear-spec =
@@ -42,9 +35,10 @@ clear-spec =
     Inv-loop
     μ-loop
     loop-holds
-    slice-write-list
-    add-i
-    loop-less
+    (λ c. search needs)
+    slice-write-masks
+    (λ c. search needs)
+    (λ c. search needs)
     loop-again
     same-length
     returns)

@@ -1,7 +1,7 @@
 use borrow.Author.Tests.{eq-eqb, ne-eqb, lt-ltb, le-ltb}
 use Rattle.flat.specs.Hand.{roomRefusal}
-use Rattle.flat.proofs.refusal_of.Statement.{statement}
-use Rattle.flat.proofs.refusal_of.Tie as tie
+use Rattle.flat.proofs.hand.refusal_of.Statement.{statement}
+use Rattle.flat.proofs.hand.refusal_of.Tie as tie
 
 returns : tie.Need-returns
 unfolding roomRefusal

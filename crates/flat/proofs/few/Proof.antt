@@ -1,0 +1,25 @@
+-- `flat::few` meets its contract: its lists have room for 16 vertices. Assumes nothing.
+use mathlib.Core.Path.{refl}
+use borrow.Author.Needs.{needs}
+use Rattle.flat.proofs.few.Statement.{statement}
+use Rattle.flat.proofs.few.Tie as tie
+
+abbrev called : tie.After-column2 → tie.After-drawn
+called c = c .before .before .before .before .before .before .before .before .before .before .before .before .before
+
+pub few-spec : {M : Type 1} → statement M
+few-spec =
+    tie.close
+    (tie.spec
+    (λ c. refl)
+    (λ c. refl)
+    (λ c. refl)
+    (λ c. refl)
+    (λ c. refl)
+    (λ c. refl)
+    (λ c. refl)
+    (λ c κs. search needs)
+    (λ c. called c .drawn .kept .1 .1 .1 .1 .0)
+    (λ c. called c .drawn .kept .1 .1 .1 .1 .1 .0)
+    (λ c. called c .drawn .kept .1 .1 .1 .1 .1 .1 .0)
+    (λ c. called c .drawn .ensures))

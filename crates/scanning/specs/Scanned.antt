@@ -1,0 +1,37 @@
+-- What one pass over the edges' bytes finds. Assumes nothing.
+use mathlib.Core.Path.{_≡_}
+use mathlib.Core.Logic.{_≢_, _↔_}
+use mathlib.Core.Bool.{true, false}
+use mathlib.Core.List.{List}
+use Prim.Native.Nat.{ℕ, _*_, _≤_, _<_, min}
+use lib.ListN.{length, getD}
+use Rattle.counting.specs.Count.{choose, some}
+use Rattle.masks.specs.Sets.{at}
+use Rattle.reach.specs.Graph.{edgeCount, Edge}
+use Rattle.reach.specs.Refusal.{outsized?, strange?}
+use Rattle.reach.specs.Ends.{tailsOf, headsOf, duplicate?}
+
+-- masks with no bit set
+pub record Blank (t : List ℕ) : Type 0 where
+  pub zero : (i : ℕ) → getD t i 0 ≡ 0
+
+-- why edges are refused, however many they are: 3, an end is no vertex; 4, an edge stands twice; or 0
+unfoldable pub endsRefusal : ℕ → List ℕ → List ℕ → ℕ
+endsRefusal n tails heads =
+    choose (some (edgeCount tails heads) (strange? n tails heads)) (λ _. 3)
+    (λ _. choose (duplicate? (edgeCount tails heads) tails heads) (λ _. 4) (λ _. 0))
+
+-- r is the answer of the checks 3 and 4 of edges of bytes; where every end is a vertex, t has the edges' bits and no other, and the masks
+-- past those of n vertices are 0. After 3 what t holds is left free
+pub record Scanned (n : ℕ) (ends t : List ℕ) (r : ℕ) : Type 0 where
+  pub answer : r ≡ endsRefusal n (tailsOf ends) (headsOf ends)
+  pub bits : r ≢ 3 → (u v : ℕ) → u < 128 → v < 128 → at 2 t u v ≡ 1 ↔ Edge (tailsOf ends) (headsOf ends) u v
+  pub others : r ≢ 3 → (i : ℕ) → 2 * n ≤ i → getD t i 0 ≡ 0
+
+-- n vertices and edges of bytes, checked: r is 8 where the table e lacks room, else 2 where they are too few or too many, and nothing
+-- changed; else it is 3, 4 or 0, and e′ is the table after it. What e′ holds after 3 is left free
+pub record Scans (n : ℕ) (ends e : List ℕ) (r : ℕ) (e′ : List ℕ) : Type 0 where
+  pub short : length e < 2 * min n 128 → (r ≡ 8) × (e′ ≡ e)
+  pub outsized : 2 * min n 128 ≤ length e → outsized? n (edgeCount (tailsOf ends) (headsOf ends)) ≡ true → (r ≡ 2) × (e′ ≡ e)
+  pub checked : 2 * min n 128 ≤ length e → outsized? n (edgeCount (tailsOf ends) (headsOf ends)) ≡ false → Scanned n ends e′ r
+  pub long : length e′ ≡ length e
