@@ -3,6 +3,7 @@
 // mask 2 u + v / 64 says that v is in the set of u.
 ghost use mathlib.Core.Path.{_≡_};
 ghost use Prim.Native.Nat.{ℕ, _+_, _*_, _≤_, _<_, min};
+ghost use lib.Count.{ones};
 ghost use lib.ListN.{length};
 ghost use Rattle.masks.specs.Bits.{bit};
 ghost use Rattle.scanning.specs.Scanned.{Blank};
@@ -159,6 +160,16 @@ fn grown(edges: &[u64], n: usize, rows: &mut [u8], below: &mut [u64]) -> usize
 
 // ---- the closure
 
+// How many members a set of two masks has. The second is empty where no vertex is above 63, which is most charts: its ones are not counted then.
+fn members(low: u64, high: u64) -> u8
+    ensures { λ r. ⌜ r ≡ ones low + ones high ⌝ }
+{
+    if high == 0 {
+        return u64::count_ones(low) as u8;
+    }
+    (u64::count_ones(low) + u64::count_ones(high)) as u8
+}
+
 // The sets of u from those of its successors.
 fn close_vertex(u: usize, edges: &[u64], table: &mut [u64], longer: &mut [u64], counts: &mut [u8])
     requires { ⌜ (u < 128) × (2 * u + 2 ≤ length (now edges)) × (2 * u + 2 ≤ length (now table)) × (2 * u + 2 ≤ length (now longer)) × (length (now counts) ≡ 128) × Ample (now edges) (now table) × ((w : ℕ) → Arc (now edges) u w → Reached (now edges) (now table) w) ⌝ }
@@ -173,7 +184,7 @@ fn close_vertex(u: usize, edges: &[u64], table: &mut [u64], longer: &mut [u64], 
     let b = high | p.high;
     table[2 * u] = a;
     table[2 * u + 1] = b;
-    counts[u] = (u64::count_ones(a) + u64::count_ones(b)) as u8;
+    counts[u] = members(a, b);
 }
 
 // The sets of the members of a mask that begins at vertex `base`, where those of all their successors stand.

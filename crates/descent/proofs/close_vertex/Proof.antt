@@ -1,8 +1,7 @@
-use mathlib.Core.Path.{refl}
+use mathlib.Core.Path.{refl, _∙_}
 use Prim.Native.Nat.{_+_, _*_, _^_, _<_}
 use native.Mathlib.Omega.{arith}
 use lib.Bits.{bitOr, or-lt}
-use lib.Count.{ones-le}
 use lib.ListN.{getD, length-set}
 use lib.Seq.{getD-set-same, getD-set-other}
 use Rattle.descent.proofs.Descending.{stored-law, long-law, nested-law, vertex-law}
@@ -24,31 +23,32 @@ slice-write-table-2 : tie.Need-slice-write-table-2
 slice-write-table-2 c = simp length-set (omega arith)
 
 -- the masks of u's new set fit
-first-fits : (c : tie.After-struct-known2)
-    → bitOr (getD (c .before .before .before .before .before .before .before .before .before .before .args .edges .now) (2 * c .before .before .before .before .before .before .before .before .before .before .args .u) 0) (c .before .before .reached .result .low) < 2 ^ 64
+first-fits : (c : tie.After-struct-known2) →
+    let a = c .before .before .before .before .before .before .before .before .before .before .args in
+    bitOr (getD (a .edges .now) (2 * a .u) 0) (c .before .before .reached .result .low) < 2 ^ 64
 first-fits c =
-    or-lt 64 _ _ (c .before .before .before .before .shared-slice-known3 .given (2 * c .before .before .before .before .before .before .before .before .before .before .args .u) .fits) (c .struct-known2 .given .0 .fits)
+    let a = c .before .before .before .before .before .before .before .before .before .before .args in
+    or-lt 64 _ _ (c .before .before .before .before .shared-slice-known3 .given (2 * a .u) .fits) (c .struct-known2 .given .0 .fits)
 
-second-fits : (c : tie.After-struct-known2)
-    → bitOr (getD (c .before .before .before .before .before .before .before .before .before .before .args .edges .now) (2 * c .before .before .before .before .before .before .before .before .before .before .args .u + 1) 0) (c .before .before .reached .result .high) < 2 ^ 64
+second-fits : (c : tie.After-struct-known2) →
+    let a = c .before .before .before .before .before .before .before .before .before .before .args in
+    bitOr (getD (a .edges .now) (2 * a .u + 1) 0) (c .before .before .reached .result .high) < 2 ^ 64
 second-fits c =
-    or-lt 64 _ _ (c .before .before .before .before .shared-slice-known3 .given (2 * c .before .before .before .before .before .before .before .before .before .before .args .u + 1) .fits) (c .struct-known2 .given .1 .0 .fits)
-
-add-counts : tie.Need-add-counts
-add-counts c = omega (arith, ones-le 64 _ (first-fits c), ones-le 64 _ (second-fits c))
-
-cast-counts : tie.Need-cast-counts
-cast-counts c = omega (arith, ones-le 64 _ (first-fits c), ones-le 64 _ (second-fits c))
+    let a = c .before .before .before .before .before .before .before .before .before .before .args in
+    or-lt 64 _ _ (c .before .before .before .before .shared-slice-known3 .given (2 * a .u + 1) .fits) (c .struct-known2 .given .1 .0 .fits)
 
 returns : tie.Need-returns
 returns c =
-    let st = c .before .before .before .before .before .before .before .before .before .before in
+    let k = c .before in
+    let st = k .before .before .before .before .before .before .before .before .before .before in
     let a = st .args in
     let pre = st .pre in
-    let p = c .before .before .reached in
-    vertex-law (a .edges .now) (a .table .now) (a .longer .now) (a .counts .now) (a .u) _ _ (p .result .low) (p .result .high) (pre .0) refl refl (p .ensures) (pre .6)
-    _ _ _ (stored-law (a .table .now) (a .u) _ _ (omega arith)) (stored-law (a .longer .now) (a .u) _ _ (omega arith))
-    (getD-set-same (a .counts .now) (a .u) _ 0 (omega arith)) (λ w d. getD-set-other (a .counts .now) (a .u) w _ 0 d) (first-fits c) (second-fits c)
+    let p = k .before .before .reached in
+    vertex-law (a .edges .now) (a .table .now) (a .longer .now) (a .counts .now) (a .u) _ _ (p .result .low) (p .result .high)
+    (pre .0) refl refl (p .ensures) (pre .6) _ _ _ (stored-law (a .table .now) (a .u) _ _ (omega arith))
+    (stored-law (a .longer .now) (a .u) _ _ (omega arith))
+    (getD-set-same (a .counts .now) (a .u) _ 0 (omega arith) ∙ c .members .ensures)
+    (λ w d. getD-set-other (a .counts .now) (a .u) w _ 0 d) (first-fits k) (second-fits k)
 
 pub close-vertex-spec : {M : Type 1} → statement M
 close-vertex-spec =
@@ -76,8 +76,7 @@ close-vertex-spec =
     (λ c. search needs)
     (λ c. search needs)
     slice-write-table-2
-    add-counts
-    cast-counts
+    (λ c κs. search needs)
     (λ c. search needs)
     (λ c. search needs)
     (λ c. search needs)
