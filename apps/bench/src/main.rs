@@ -63,6 +63,15 @@ fn main() -> ExitCode {
     }
 }
 
+/// The processor's name in brackets, where the system tells it: ratios differ from one make to another.
+fn processor() -> String {
+    let told = std::fs::read_to_string("/proc/cpuinfo").unwrap_or_default();
+    told.lines()
+        .find(|line| line.starts_with("model name"))
+        .and_then(|line| line.split_once(':'))
+        .map_or_else(String::new, |(_, name)| format!(" ({})", name.trim()))
+}
+
 fn plan() -> Option<Plan> {
     let mut plan = Plan::default();
     let mut words = std::env::args().skip(1);
@@ -81,7 +90,8 @@ fn plan() -> Option<Plan> {
 fn run(plan: &Plan) -> Result<Vec<String>, String> {
     let cores = std::thread::available_parallelism().map_or(1, usize::from);
     let architecture = std::env::consts::ARCH.replace('_', "-");
-    println!("{HEAD}\nMachine: one core of a {cores}-core {architecture} server.\n");
+    let processor = processor();
+    println!("{HEAD}\nMachine: one core of a {cores}-core {architecture} server{processor}.\n");
     let inputs = inputs::all();
     let rows = charts::table(&inputs);
     if let Some(file) = &plan.plot {
