@@ -93,14 +93,23 @@ fn filled<'e, 's, 'n, 'u, 'c>(
     requires { ⌜ Passed n k (now edges) (now spans) (now number) (now used) (now column) ⌝ }
     ensures { λ r. ⌜ Filled n k (now (edges .entry)) (now (spans .entry)) (now (number .entry)) (now (used .entry)) (now (column .entry)) r (now (spans .exit)) (now (number .exit)) (now (used .exit)) (now (column .exit)) ⌝ }
 {
+    let count = wide(k.channels.count);
+    let bundles = bundled(
+        n,
+        edges,
+        count,
+        &k.channels.channel,
+        &k.channels.position,
+        &k.rows,
+        spans,
+        number,
+    );
+    tracks::tracked(bundles, spans, used);
+    let width = places_of(n, count, &k.channels.channel, used, column);
     let row = k.rows;
     let descendants = k.counts;
     let channel = k.channels.channel;
     let position = k.channels.position;
-    let count = wide(k.channels.count);
-    let bundles = bundled(n, edges, count, &channel, &position, &row, spans, number);
-    tracks::tracked(bundles, spans, used);
-    let width = places_of(n, count, &channel, used, column);
     Plan {
         refusal: 0,
         rows: k.used,

@@ -1,44 +1,22 @@
-use mathlib.Core.Path.{sym}
 use borrow.Author.Needs.{needs}
 use Rattle.drawing.proofs.Laying.{spaceable, all-laid}
 use Rattle.drawing.proofs.filled.Statement.{statement}
 use Rattle.drawing.proofs.filled.Tie as tie
 
-slice-aggregate-bundled : tie.Need-slice-aggregate-bundled
-slice-aggregate-bundled c =
-    let st = c .before .before .before .before .before .before .before .before .before .before .before in
-    sym (st .pre .passes .arranged .sizes .0)
-
-slice-aggregate-bundled-2 : tie.Need-slice-aggregate-bundled-2
-slice-aggregate-bundled-2 c =
-    let st = c .before .before .before .before .before .before .before .before .before .before .before .before in
-    sym (st .pre .passes .arranged .sizes .1)
-
-slice-aggregate-bundled-3 : tie.Need-slice-aggregate-bundled-3
-slice-aggregate-bundled-3 c =
-    let st = c .before .before .before .before .before .before .before .before .before .before .before .before .before in
-    sym (st .pre .passes .descended .sizes .0)
-
-slice-aggregate-places-of : tie.Need-slice-aggregate-places-of
-slice-aggregate-places-of c =
-    let b = c .before .before .before .before .before .before .before .before .before .before .before .before .before .before in
-    let st = b .before .before .before .before .before .before .before .before .before .before .before .before .before .before in
-    sym (st .pre .passes .arranged .sizes .0)
-
 places-of-requires : tie.Need-places-of-requires
 places-of-requires c κs =
-    let t = c .before .before .before .before .before .before .before in
+    let t = c .before .before .before .before .before .before .before .before .before in
     let b = t .before .before .before .before .before .before .before in
-    let w = b .before .before .before .before .before .before in
-    let st = w .before .before .before .before .before .before .before .before .before .before in
+    let w = b .before .before .before .before .before .before .before .before .before .before in
+    let st = w .before .before .before .before .before .before in
     spaceable (st .pre) (w .wide .ensures .0) (b .bundled .ensures) (t .tracked .ensures)
 
 returns : tie.Need-returns
 returns c =
-    let p = c .before .before in
-    let t = p .before .before .before .before .before .before .before .before in
+    let p = c .before .before .before .before .before .before in
+    let t = p .before .before .before .before .before .before .before .before .before .before in
     let b = t .before .before .before .before .before .before .before in
-    let w = b .before .before .before .before .before .before in
+    let w = b .before .before .before .before .before .before .before .before .before .before in
     all-laid (w .wide .ensures .0) (b .bundled .ensures) (t .tracked .ensures) (p .places-of .ensures)
 
 pub filled-spec : {M : Type 1} → statement M
@@ -46,12 +24,8 @@ filled-spec =
     tie.close
     (tie.spec
     (λ c κs. search needs)
-    slice-aggregate-bundled
-    slice-aggregate-bundled-2
-    slice-aggregate-bundled-3
     (λ c κs. search needs)
     (λ c κs. search needs)
-    slice-aggregate-places-of
     places-of-requires
     (λ c. search needs)
     (λ c. search needs)
