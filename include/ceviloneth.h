@@ -1,6 +1,6 @@
 /* Ceviloneth: descent charts by lines and rows, for C and whatever calls C.
  *
- * Link with libembed.a (x86-64 Linux). The library keeps nothing between calls, allocates nothing and uses memcpy and memset alone, so
+ * Link with libceviloneth.a (x86-64 Linux). The library keeps nothing between calls, allocates nothing and uses memcpy and memset alone, so
  * calls may run at the same time on lists of their own. A call takes up to 48 KB of stack.
  *
  * Lists. A list is a pointer and its number of numbers (not of bytes). A pointer is never NULL, also where the number is 0, and is

@@ -1,4 +1,4 @@
-//! Links the proved archive: from `CEVILONETH_ARCHIVE_DIR`, else where `rt staticlib embed` writes it.
+//! Links the proved archive: from `CEVILONETH_ARCHIVE_DIR`, else where `rt staticlib ceviloneth` writes it.
 
 use std::env;
 use std::path::{Path, PathBuf};
@@ -7,10 +7,10 @@ fn main() {
     let variable = "CEVILONETH_ARCHIVE_DIR";
     println!("cargo:rerun-if-env-changed={variable}");
     let folder = env::var_os(variable).map_or_else(default_folder, PathBuf::from);
-    let archive = folder.join("libembed.a");
+    let archive = folder.join("libceviloneth.a");
     println!("cargo:rerun-if-changed={}", archive.display());
     if !archive.is_file() {
-        let asked = "run `rt staticlib embed` at the root of the repository";
+        let asked = "run `rt staticlib ceviloneth` at the root of the repository";
         panic!(
             "{} is missing: {asked}, or set {variable}",
             archive.display()
@@ -18,7 +18,7 @@ fn main() {
     }
     let folder = folder.canonicalize().expect("the archive's folder");
     println!("cargo:rustc-link-search=native={}", folder.display());
-    println!("cargo:rustc-link-lib=static=embed");
+    println!("cargo:rustc-link-lib=static=ceviloneth");
 }
 
 fn default_folder() -> PathBuf {

@@ -1,7 +1,7 @@
 /* Draws the record in a file: prints the chart's counts, its words, its first arrows and its bundles.
  *
- *     rt staticlib embed
- *     cc -std=c99 -Wall -Iinclude -o target/draw examples/c/draw.c target/staticlib/libembed.a
+ *     rt staticlib ceviloneth
+ *     cc -std=c99 -Wall -Iinclude -o target/draw examples/c/draw.c target/staticlib/libceviloneth.a
  *     target/draw samples/p5.record
  */
 #include "ceviloneth.h"

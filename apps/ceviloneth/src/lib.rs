@@ -1,6 +1,6 @@
 //! Safe calls to the proved layout engine for descent charts.
 //!
-//! The engine is an archive, `libembed.a`, whose calls are proved for any bytes and any lists.
+//! The engine is an archive, `libceviloneth.a`, whose calls are proved for any bytes and any lists.
 //! This crate lends it slices and hands back owned values; a refusal is document 01's.
 //!
 //!     let chart = ceviloneth::chart(&record)?;

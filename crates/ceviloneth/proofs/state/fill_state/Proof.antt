@@ -1,0 +1,48 @@
+-- `ceviloneth::state::fill_state` meets its contract: the invariant is a fill up to i. Assumes nothing.
+use Prim.Native.Nat.{_-_, _≤_}
+use native.Mathlib.Omega.{arith}
+use borrow.Author.Needs.{needs}
+use Rattle.lists.specs.Filled.{Filled}
+use Rattle.ceviloneth.specs.State.{sessionBy, stateNumber}
+use Rattle.lists.proofs.Stores.{filled-none, filled-more, filled-all}
+use Rattle.ceviloneth.proofs.Spelling.{stored}
+use Rattle.ceviloneth.proofs.state.fill_state.Statement.{statement}
+use Rattle.ceviloneth.proofs.state.fill_state.Tie as tie
+
+abbrev Inv-loop : tie.InvT-loop
+Inv-loop out₀ s edges reach i₀ out i = (i ≤ 514) × Filled out₀ (stateNumber (sessionBy (s .vertices) (s .count) edges reach)) i out
+
+abbrev μ-loop : tie.MeasureT-loop
+μ-loop out₀ s edges reach i₀ out i = 514 - i
+
+loop-holds : tie.Need-loop-holds Inv-loop μ-loop
+loop-holds c = (omega arith, filled-none _ _)
+
+slice-write-out : tie.Need-slice-write-out Inv-loop μ-loop
+slice-write-out c = omega (arith, c .before .before .before .before .loop .inv .1 .as-long)
+
+loop-again : tie.Need-loop-again Inv-loop μ-loop
+loop-again c = (omega arith, filled-more _ _ _ _ _ (omega arith) (c .state-number .ensures) (c .before .before .before .before .loop .inv .1))
+
+same-length : tie.Need-same-length Inv-loop μ-loop
+same-length c = c .before .loop .inv .1 .as-long
+
+returns : tie.Need-returns Inv-loop μ-loop
+unfolding sessionBy
+returns c = stored _ _ _ (c .before .before .before .before .before .pre) (search needs) (search needs) (filled-all _ _ _ _ _ (c .before .loop .inv .0) (c .loop-test .left) (c .before .loop .inv .1))
+
+pub fill-state-spec : {M : Type 1} → statement M
+fill-state-spec =
+    tie.close
+    (tie.spec
+    Inv-loop
+    μ-loop
+    loop-holds
+    (λ c κs. omega arith)
+    (λ c. omega arith)
+    slice-write-out
+    (λ c. omega arith)
+    (λ c. omega arith)
+    loop-again
+    same-length
+    returns)

@@ -1,0 +1,70 @@
+-- A session as numbers in a list that the caller keeps, and what the calls on it promise, for any numbers whatever. Assumes nothing.
+use mathlib.Core.Path.{_≡_}
+use mathlib.Core.Logic.{_≢_}
+use mathlib.Core.Bool.{Bool, false}
+use mathlib.Core.List.{List}
+use Prim.Native.Nat.{ℕ, _-_, _<_, _≤_}
+use lib.Dec.{eqb, ltb}
+use lib.ListN.{length, getD, take, drop}
+use Rattle.counting.specs.Count.{choose, indicator}
+use Rattle.lists.specs.Filled.{Filled}
+use Rattle.editing.specs.Machine.{startRefusal}
+use Rattle.editing.specs.Promise.{refusalOf, StartPromise, AddPromise, LeadsPromise}
+use Rattle.editing.specs.declared.Session.{Session}
+use Rattle.editing.specs.declared.Reply.{Reply}
+use Rattle.ceviloneth.specs.declared.Leading.{Leading}
+
+-- the numbers of a session: words, arrows, 256 masks of arrows, 256 masks of descent
+abbrev pub stateNumbers : ℕ
+stateNumbers = 514
+
+-- the session that a list spells, whatever its numbers are
+unfoldable pub sessionOf : List ℕ → Session
+sessionOf s = record { vertices = getD s 0 0; count = getD s 1 0; edges = take 256 (drop 2 s); reach = take 256 (drop 258 s) }
+
+-- a session by its parts
+unfoldable pub sessionBy : ℕ → ℕ → List ℕ → List ℕ → Session
+sessionBy vertices count edges reach = record { vertices = vertices; count = count; edges = edges; reach = reach }
+
+-- number i of a session
+unfoldable pub stateNumber : Session → ℕ → ℕ
+stateNumber s i =
+    choose (eqb i 0) (λ _. s .vertices) (λ _.
+    choose (eqb i 1) (λ _. s .count) (λ _.
+    choose (ltb i 258) (λ _. getD (s .edges) (i - 2) 0) (λ _. getD (s .reach) (i - 258) 0)))
+
+-- the list `is` is `was` with the session s in it: it spells s, and is as it was past it
+pub record Stored (was : List ℕ) (s : Session) (is : List ℕ) : Type 0 where
+  pub numbers : Filled was (stateNumber s) stateNumbers is
+  pub spells : sessionOf is ≡ s
+
+-- 8 'short' where the list is too short for a session, before anything else
+unfoldable pub stateRefusal : List ℕ → ℕ → ℕ
+stateRefusal was k = choose (ltb (length was) stateNumbers) (λ _. 8) (λ _. k)
+
+-- what a change leaves of the list, whatever it does: all of it on a refusal, and else what is past the session
+pub record Kept (was : List ℕ) (r : ℕ) (is : List ℕ) : Type 0 where
+  pub untouched : r ≢ 0 → is ≡ was
+  pub as-long : length is ≡ length was
+  pub past : (k d : ℕ) → stateNumbers ≤ k → getD is k d ≡ getD was k d
+
+-- a start with n words: where it is accepted the list spells the fresh session
+pub record Starts (was : List ℕ) (n r : ℕ) (is : List ℕ) : Type 0 where
+  pub refusal : r ≡ stateRefusal was (startRefusal n)
+  pub kept : Kept was r is
+  pub started : r ≡ 0 → StartPromise n (record { refusal = r; session = sessionOf is })
+
+-- an arrow from u to v: the answer and the session are those that `editing` promises of the session that the list spelt
+pub record Adds (was : List ℕ) (u v r : ℕ) (is : List ℕ) : Type 0 where
+  pub refusal : r ≡ stateRefusal was (refusalOf (sessionOf was) u v)
+  pub kept : Kept was r is
+  pub added : stateNumbers ≤ length was → AddPromise (sessionOf was) u v (record { refusal = r; session = sessionOf is })
+
+-- an answer as two numbers
+abbrev pub toldBy : ℕ → Bool → Leading
+toldBy k b = record { refusal = k; leads = indicator b }
+
+-- r answers a question whether u leads to v, as `editing` promises of the session that the list spells
+pub record Tells (was : List ℕ) (u v : ℕ) (r : Leading) : Type 0 where
+  pub short : length was < stateNumbers → r ≡ toldBy 8 false
+  pub told : stateNumbers ≤ length was → (a : Reply) × LeadsPromise (sessionOf was) u v a × (r ≡ toldBy (a .refusal) (a .reaches))

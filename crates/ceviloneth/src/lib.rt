@@ -1,0 +1,205 @@
+// The engine for apps: calls for C and Rust, on numbers and lists of numbers alone. No argument is asked to be sound: each call answers
+// for any numbers and any lists, and a refusal, document 01's number, leaves every lent list as it was.
+ghost use mathlib.Core.Path.{_≡_};
+ghost use mathlib.Core.List.{[], _∷_};
+ghost use Rattle.flat.specs.Chart.{HandedFlat};
+ghost use Rattle.ceviloneth.specs.Asked.{asked};
+ghost use Rattle.ceviloneth.specs.State.{Starts, Adds, Tells};
+ghost use Rattle.ceviloneth.specs.Strokes.{cell, Drawn};
+
+mod state;
+mod strokes;
+
+use flat::ChartCounts;
+use page::Cell;
+use state::STATE_NUMBERS;
+use state::fill_state;
+use state::session_of;
+use state::told;
+use strokes::stroke_of;
+
+// The chart of a record into three lists. A word has five numbers: line, position, column, row, descendants; an arrow five: its number, its
+// kind (0 spine, 1 side, 2 straight, 3 bent), the bundle or the bend's column, the bend's row, 1 if implied; a bundle four: line, first
+// row, last row, side column. Refused with 8 where a list has no room for all its entries. Numbers past the needed ones stay.
+#[no_mangle]
+pub extern "C" fn ceviloneth_chart(
+    bytes: &[u8],
+    words: &mut [u16],
+    arrows: &mut [u16],
+    bundles: &mut [u16],
+) -> ChartCounts
+    ensures { λ r. ⌜ HandedFlat (now (bytes .entry)) (now (words .entry)) (now (arrows .entry)) (now (bundles .entry)) r (now (words .exit)) (now (arrows .exit)) (now (bundles .exit)) ⌝ }
+{
+    flat::of_record(bytes, words, arrows, bundles)
+}
+
+// Document 01's number, or 0, and 1 where the first word leads to the second; 0 where it does not, and where the call is refused.
+#[repr(C)]
+pub struct Leading {
+    pub refusal: u8,
+    pub leads: u8,
+}
+
+// Whether one word of a record leads to another. Refused with 1 to 7 as the record is, and with 3 where one of the two is no word of it.
+#[no_mangle]
+pub extern "C" fn ceviloneth_leads(bytes: &[u8], from: usize, to: usize) -> Leading
+    ensures { λ r. ⌜ r ≡ asked (now (bytes .entry)) from to ⌝ }
+{
+    let reading = record::reading::read(bytes);
+    if reading.refusal != 0 {
+        return told(reading.refusal, false);
+    }
+    let n = reading.vertices;
+    if n <= from {
+        return told(3, false);
+    }
+    if n <= to {
+        return told(3, false);
+    }
+    let table = reading.table;
+    told(0, masks::contains(&table, 2 * from, to))
+}
+
+// ---- sessions, in a list that the app keeps: 514 numbers, of which the first two count words and arrows, 256 are masks of arrows and 256
+// of descent. A shorter list is refused with 8, before anything else.
+
+// A session of so many words and no arrows. Refused with 2 (no word, or more than 128).
+#[no_mangle]
+pub extern "C" fn ceviloneth_session_start(state: &mut [u64], words: usize) -> u8
+    ensures { λ r. ⌜ Starts (now (state .entry)) words r (now (state .exit)) ⌝ }
+{
+    if state.len() < STATE_NUMBERS {
+        return 8;
+    }
+    let started = editing::start(words);
+    if started.refusal != 0 {
+        return started.refusal;
+    }
+    let s = started.session;
+    fill_state(state, s);
+    0
+}
+
+// Adds the arrow. Refused with 3, 4, 5 or 9, the first that applies.
+#[no_mangle]
+pub extern "C" fn ceviloneth_session_add(state: &mut [u64], from: usize, to: usize) -> u8
+    ensures { λ r. ⌜ Adds (now (state .entry)) from to r (now (state .exit)) ⌝ }
+{
+    if state.len() < STATE_NUMBERS {
+        return 8;
+    }
+    let was = session_of(state);
+    let changed = was.add(from, to);
+    if changed.refusal != 0 {
+        return changed.refusal;
+    }
+    let s = changed.session;
+    fill_state(state, s);
+    0
+}
+
+// Whether the first word leads to the second. Refused with 3.
+#[no_mangle]
+pub extern "C" fn ceviloneth_session_leads(state: &[u64], from: usize, to: usize) -> Leading
+    ensures { λ r. ⌜ Tells (now (state .entry)) from to r ⌝ }
+{
+    if state.len() < STATE_NUMBERS {
+        return told(8, false);
+    }
+    let s = session_of(state);
+    let reply = s.leads(from, to);
+    told(reply.refusal, reply.reaches)
+}
+
+// ---- page strokes
+
+// Document 01's number, or 0, how many points the stroke has, and the points across (x) and up (y); 0.0 where there is none.
+#[repr(C)]
+pub struct Stroke {
+    pub refusal: u8,
+    pub points: u8,
+    pub x0: f32,
+    pub y0: f32,
+    pub x1: f32,
+    pub y1: f32,
+    pub x2: f32,
+    pub y2: f32,
+    pub x3: f32,
+    pub y3: f32,
+}
+
+// The stroke from one place to another, each a column and a row. Like the other two it is refused with 10 where a place is off the page.
+#[no_mangle]
+pub extern "C" fn ceviloneth_stroke_straight(c0: u32, r0: u32, c1: u32, r1: u32) -> Stroke
+    ensures { λ r. ⌜ Drawn (cell c0 r0 ∷ cell c1 r1 ∷ []) r ⌝ }
+{
+    let a = Cell {
+        column: c0,
+        row: r0,
+    };
+    let b = Cell {
+        column: c1,
+        row: r1,
+    };
+    stroke_of(page::straight(a, b))
+}
+
+// The stroke that bends at the second place.
+#[no_mangle]
+pub extern "C" fn ceviloneth_stroke_bent(
+    c0: u32,
+    r0: u32,
+    c1: u32,
+    r1: u32,
+    c2: u32,
+    r2: u32,
+) -> Stroke
+    ensures { λ r. ⌜ Drawn (cell c0 r0 ∷ cell c1 r1 ∷ cell c2 r2 ∷ []) r ⌝ }
+{
+    let a = Cell {
+        column: c0,
+        row: r0,
+    };
+    let b = Cell {
+        column: c1,
+        row: r1,
+    };
+    let c = Cell {
+        column: c2,
+        row: r2,
+    };
+    stroke_of(page::bent(a, b, c))
+}
+
+// The stroke of a side arrow, with corners at the second and third places.
+#[no_mangle]
+pub extern "C" fn ceviloneth_stroke_side(
+    c0: u32,
+    r0: u32,
+    c1: u32,
+    r1: u32,
+    c2: u32,
+    r2: u32,
+    c3: u32,
+    r3: u32,
+) -> Stroke
+    ensures { λ r. ⌜ Drawn (cell c0 r0 ∷ cell c1 r1 ∷ cell c2 r2 ∷ cell c3 r3 ∷ []) r ⌝ }
+{
+    let a = Cell {
+        column: c0,
+        row: r0,
+    };
+    let b = Cell {
+        column: c1,
+        row: r1,
+    };
+    let c = Cell {
+        column: c2,
+        row: r2,
+    };
+    let d = Cell {
+        column: c3,
+        row: r3,
+    };
+    stroke_of(page::side(a, b, c, d))
+}
