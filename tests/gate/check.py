@@ -97,7 +97,7 @@ def check_named(root):
     quoted = set(re.findall(r'`([^`\n]+)`', page))
     crates = {folder.name: folder for folder in (root / 'crates').iterdir()}
     sources = [path for crate in crates.values() for path in crate.rglob('*') if path.suffix in ('.rt', '.antt')]
-    known = set(re.split(r'[\s(){};,.:]+', ' '.join(path.read_text() for path in sources)))
+    known = set(re.split(r'[\s(){}<>;,.:]+', ' '.join(path.read_text() for path in sources)))
     edits = {f'{name}/{edit.stem}' for name, crate in crates.items() for edit in crate.glob('must-fail/*.edit')}
     wrong = [f'names no edit {edit}' for edit in sorted(edits - quoted)]
     for text in sorted(quoted):

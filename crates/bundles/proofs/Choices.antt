@@ -10,6 +10,7 @@ use borrow.Author.Tests.{eq-eqb, ne-eqb, eqb-true, ltb-true, ltb-false}
 use lib.Dec.{eqb, ltb}
 use lib.ListN.{getD}
 use Rattle.counting.specs.Count.{choose}
+use Rattle.counting.specs.Quads.{quad}
 use Rattle.counting.proofs.Truth.{true-or-false, lt-or-le, and-intro, and-elim, or-elim, or-neither}
 use Rattle.bundles.specs.Bundles.{before, best, better}
 use Rattle.bundles.specs.Steps.{endOf, loadAt}
@@ -111,9 +112,9 @@ best-ext p q f g (suc (suc j)) a b =
     ap (λ (x : ℕ). better p f x (suc j)) ih ∙ ap (λ (t : Bool). choose t (λ _. suc j) (λ _. best q (suc j) g)) (at (suc j) (best q (suc j) g) (omega arith) (omega arith))
 
 -- a vertex of the channel has its load, and another none
-module _ (channel load : List ℕ) (c : ℕ) (d : Bool) (v : ℕ) where
-  pub own : (e : ℕ) → getD channel v 0 ≡ c → e ≡ endOf d v → loadAt c channel load d v ≡ getD load e 0
-  own e h q = choose-yes (eqb (getD channel v 0) c) (λ _. getD load (endOf d v) 0) (λ _. 0) (eq-eqb (getD channel v 0) c h) ∙ ap (λ (x : ℕ). getD load x 0) (sym q)
+module _ (places load : List ℕ) (c : ℕ) (d : Bool) (v : ℕ) where
+  pub own : (e : ℕ) → quad 0 places v ≡ c → e ≡ endOf d v → loadAt c places load d v ≡ getD load e 0
+  own e h q = choose-yes (eqb (quad 0 places v) c) (λ _. getD load (endOf d v) 0) (λ _. 0) (eq-eqb (quad 0 places v) c h) ∙ ap (λ (x : ℕ). getD load x 0) (sym q)
 
-  pub other : (getD channel v 0 ≡ c → ⊥) → loadAt c channel load d v ≡ 0
-  other h = choose-no (eqb (getD channel v 0) c) (λ _. getD load (endOf d v) 0) (λ _. 0) (ne-eqb (getD channel v 0) c h)
+  pub other : (quad 0 places v ≡ c → ⊥) → loadAt c places load d v ≡ 0
+  other h = choose-no (eqb (quad 0 places v) c) (λ _. getD load (endOf d v) 0) (λ _. 0) (ne-eqb (quad 0 places v) c h)

@@ -13,6 +13,7 @@ use lib.Bits.{bitAnd, bitOr}
 use lib.Dec.{eqb, ltb}
 use lib.ListN.{getD, set, replicate, length-replicate}
 use lib.Pow.{pow-pos}
+use Rattle.counting.specs.Quads.{quad}
 use Rattle.counting.proofs.Truth.{true-or-false, lt-or-le, and-intro, and-elim, same-truth}
 use Rattle.counting.proofs.Booleans.{and-no}
 use Rattle.masks.specs.Bits.{bit}
@@ -31,59 +32,59 @@ stored s first v = ap (λ (x : ℕ). set s (first + v / 64) (bitOr (getD s (firs
 
 -- ---- the table is filled
 
-pub owned-none : (channels : ℕ) (channel : List ℕ) (k : ℕ) → 2 * channels ≤ k → Owned channels channel 0 (replicate k 0)
+pub owned-none : (channels : ℕ) (places : List ℕ) (k : ℕ) → 2 * channels ≤ k → Owned channels places 0 (replicate k 0)
 unfolding at
-owned-none channels channel k room = record {
+owned-none channels places k room = record {
   size = let e = length-replicate {A = ℕ} k 0 in omega arith;
   only = λ c v h l e. absurd (let z = at-zeros 2 k c v in omega arith);
   all = λ c v h l. absurd (not-suc-le-zero l);
 }
 
-module _ (channels : ℕ) (channel own : List ℕ) (j : ℕ) (o : Owned channels channel j own) where
+module _ (channels : ℕ) (places own : List ℕ) (j : ℕ) (o : Owned channels places j own) where
   -- the channel of j is not one of these
-  pub owned-skip : channels ≤ getD channel j 0 → Owned channels channel (j + 1) own
+  pub owned-skip : channels ≤ quad 0 places j → Owned channels places (j + 1) own
   owned-skip high = record {
     size = o .size;
     only = λ c v h l e. let p = o .only c v h l e in (omega arith, p .1);
     all = λ c v h l e. ⊎-elim
         (λ k. o .all c v h k e)
-        (λ k. absurd (let q = ap (λ (u : ℕ). getD channel u 0) (let z : v ≡ j = omega arith in z) in omega arith))
+        (λ k. absurd (let q = ap (quad 0 places) (let z : v ≡ j = omega arith in z) in omega arith))
         (lt-or-le v j);
   }
 
   -- j is put into the masks of its channel
-  pub owned-put : j < 128 → getD channel j 0 < channels → Owned channels channel (j + 1) (inserted own (2 * getD channel j 0) j)
+  pub owned-put : j < 128 → quad 0 places j < channels → Owned channels places (j + 1) (inserted own (2 * quad 0 places j) j)
   unfolding at
   owned-put low small = record {
-    size = let e = inserted-length own (2 * getD channel j 0) j in let h = o .size in omega arith;
-    only = λ c v h l e. only c v h l e (ℕ-discrete v j) (ℕ-discrete c (getD channel j 0));
+    size = let e = inserted-length own (2 * quad 0 places j) j in let h = o .size in omega arith;
+    only = λ c v h l e. only c v h l e (ℕ-discrete v j) (ℕ-discrete c (quad 0 places j));
     all = λ c v h l e. ⊎-elim
         (λ k. put .other c v (omega arith) (λ p q. omega arith) ∙ o .all c v h k e)
         (λ k. last c v (let z : v ≡ j = omega arith in z) e)
         (lt-or-le v j);
   }
     where
-      put : Put 2 own (getD channel j 0) j (inserted own (2 * getD channel j 0) j)
-      put = put-law 2 own (getD channel j 0) j low (let h = o .size in omega arith)
+      put : Put 2 own (quad 0 places j) j (inserted own (2 * quad 0 places j) j)
+      put = put-law 2 own (quad 0 places j) j low (let h = o .size in omega arith)
 
-      last : (c v : ℕ) → v ≡ j → getD channel v 0 ≡ c → member (inserted own (2 * getD channel j 0) j) (2 * c) v ≡ 1
+      last : (c v : ℕ) → v ≡ j → quad 0 places v ≡ c → member (inserted own (2 * quad 0 places j) j) (2 * c) v ≡ 1
       last c v z e =
-          let q = ap (λ (u : ℕ). getD channel u 0) z in
-          let k : c ≡ getD channel j 0 = omega arith in
-          ap (λ (x : ℕ). member (inserted own (2 * getD channel j 0) j) (2 * x) v) k ∙ ap
-          (member (inserted own (2 * getD channel j 0) j) (2 * getD channel j 0)) z ∙ put .here
+          let q = ap (quad 0 places) z in
+          let k : c ≡ quad 0 places j = omega arith in
+          ap (λ (x : ℕ). member (inserted own (2 * quad 0 places j) j) (2 * x) v) k ∙ ap
+          (member (inserted own (2 * quad 0 places j) j) (2 * quad 0 places j)) z ∙ put .here
 
-      only : (c v : ℕ) → c < channels → v < 128 → member (inserted own (2 * getD channel j 0) j) (2 * c) v ≡ 1 → Dec (v ≡ j) → Dec
-          (c ≡ getD channel j 0) → (v < j + 1) × (getD channel v 0 ≡ c)
-      only c v h l e (yes p) (yes q) = (omega arith, ap (λ (u : ℕ). getD channel u 0) p ∙ sym q)
+      only : (c v : ℕ) → c < channels → v < 128 → member (inserted own (2 * quad 0 places j) j) (2 * c) v ≡ 1 → Dec (v ≡ j) → Dec
+          (c ≡ quad 0 places j) → (v < j + 1) × (quad 0 places v ≡ c)
+      only c v h l e (yes p) (yes q) = (omega arith, ap (quad 0 places) p ∙ sym q)
       only c v h l e (yes p) (no q) = absurd (let k = o .only c v h l (sym (put .other c v l (λ x y. q x)) ∙ e) .0 in omega arith)
       only c v h l e (no p) q = let k = o .only c v h l (sym (put .other c v l (λ x y. p y)) ∙ e) in (omega arith, k .1)
 
   -- the same as the code's loop takes it: k is the number of its channel
-  pub owned-more : (k : ℕ) → j < 128 → k ≡ getD channel j 0 → k < channels
-      → Owned channels channel (j + 1) (set own (2 * k + j / 64) (bitOr (getD own (2 * k + j / 64) 0) ((1 * 2 ^ (j % 64)) % 2 ^ 64)))
+  pub owned-more : (k : ℕ) → j < 128 → k ≡ quad 0 places j → k < channels
+      → Owned channels places (j + 1) (set own (2 * k + j / 64) (bitOr (getD own (2 * k + j / 64) 0) ((1 * 2 ^ (j % 64)) % 2 ^ 64)))
   owned-more k low e small =
-      subst (Owned channels channel (j + 1)) (sym (stored own (2 * k) j ∙ ap (λ (x : ℕ). inserted own (2 * x) j) e))
+      subst (Owned channels places (j + 1)) (sym (stored own (2 * k) j ∙ ap (λ (x : ℕ). inserted own (2 * x) j) e))
       (owned-put low (omega arith))
 
 -- ---- a channel's two masks
@@ -96,10 +97,10 @@ as-bit s first i j l =
     let y : (64 * i + j) % 64 ≡ j = omega arith in
     ap (λ (k : ℕ). bit (getD s (first + k) 0) ((64 * i + j) % 64)) x ∙ ap (bit (getD s (first + i) 0)) y
 
-module _ (n channels : ℕ) (small : n ≤ 128) (channel own : List ℕ) (o : Owned channels channel n own) (c : ℕ) (low : c < channels) where
-  pub owned-part : (i mask base : ℕ) → i < 2 → mask ≡ getD own (2 * c + i) 0 → base ≡ 64 * i → Part n channel c mask base
+module _ (n channels : ℕ) (small : n ≤ 128) (places own : List ℕ) (o : Owned channels places n own) (c : ℕ) (low : c < channels) where
+  pub owned-part : (i mask base : ℕ) → i < 2 → mask ≡ getD own (2 * c + i) 0 → base ≡ 64 * i → Part n places c mask base
   owned-part i mask base hi e z =
-      subst (Part n channel c mask) (sym z)
+      subst (Part n places c mask) (sym z)
       (record {
         only = λ j l x. o .only c (64 * i + j) low (omega arith) (here j l ∙ x);
         all = λ j l h q. sym (here j l) ∙ o .all c (64 * i + j) low h q;
@@ -109,10 +110,10 @@ module _ (n channels : ℕ) (small : n ≤ 128) (channel own : List ℕ) (o : Ow
       here j l = as-bit own (2 * c) i j l ∙ ap (λ (m : ℕ). bit m j) (sym e)
 
   -- the edges out of u to its channel's vertices, without those next to it
-  module _ (edges position : List ℕ) (u : ℕ) (below : u < n) (c-is : c ≡ getD channel u 0) (i mask base : ℕ) (hi : i < 2)
+  module _ (edges : List ℕ) (u : ℕ) (below : u < n) (c-is : c ≡ quad 0 places u) (i mask base : ℕ) (hi : i < 2)
       (mask-is : mask ≡ bitAnd (getD edges (2 * u + i) 0) (getD own (2 * c + i) 0)) (base-is : base ≡ 64 * i) where
     abbrev far : ℕ → Bool
-    far j = not (adjacent? (getD position u 0) (getD position (base + j) 0))
+    far j = not (adjacent? (quad 1 places u) (quad 1 places (base + j)))
 
     both : (j : ℕ) → j < 64 → bit mask j ≡ min (member edges (2 * u) (base + j)) (member own (2 * c) (base + j))
     both j l =
@@ -129,27 +130,27 @@ module _ (n channels : ℕ) (small : n ≤ 128) (channel own : List ℕ) (o : Ow
         let y = member-lt own (2 * c) (base + j) in
         o .only c (base + j) low (omega arith) (omega arith) .0
 
-    pub masked : (j : ℕ) → j < 64 → lowSide n channels edges channel position u (base + j) ≡ (eqb (bit mask j) 1 && far j)
+    pub masked : (j : ℕ) → j < 64 → lowSide n channels edges places u (base + j) ≡ (eqb (bit mask j) 1 && far j)
     unfolding lowSide tableSide? apart?
     masked j l = same-truth _ (eqb (bit mask j) 1 && far j) there back
       where
-        there : lowSide n channels edges channel position u (base + j) ≡ true → (eqb (bit mask j) 1 && far j) ≡ true
+        there : lowSide n channels edges places u (base + j) ≡ true → (eqb (bit mask j) 1 && far j) ≡ true
         there t =
             let p = and-elim (member? edges (2 * u) (base + j) &&
-            ((ltb u n && ltb (base + j) n) && (eqb (getD channel u 0) (getD channel (base + j) 0) && far j)))
-            (ltb (getD channel u 0) channels) t .0 in
+            ((ltb u n && ltb (base + j) n) && (eqb (quad 0 places u) (quad 0 places (base + j)) && far j)))
+            (ltb (quad 0 places u) channels) t .0 in
             let q = and-elim (member? edges (2 * u) (base + j)) ((ltb u n && ltb (base + j) n) &&
-            (eqb (getD channel u 0) (getD channel (base + j) 0) && far j)) p in
-            let r = and-elim (ltb u n && ltb (base + j) n) (eqb (getD channel u 0) (getD channel (base + j) 0) && far j) (q .1) in
-            let s = and-elim (eqb (getD channel u 0) (getD channel (base + j) 0)) (far j) (r .1) in
+            (eqb (quad 0 places u) (quad 0 places (base + j)) && far j)) p in
+            let r = and-elim (ltb u n && ltb (base + j) n) (eqb (quad 0 places u) (quad 0 places (base + j)) && far j) (q .1) in
+            let s = and-elim (eqb (quad 0 places u) (quad 0 places (base + j))) (far j) (r .1) in
             let h = ltb-true (base + j) n (and-elim (ltb u n) (ltb (base + j) n) (r .0) .1) in
-            let e = eqb-true (getD channel u 0) (getD channel (base + j) 0) (s .0) in
+            let e = eqb-true (quad 0 places u) (quad 0 places (base + j)) (s .0) in
             let m = eqb-true (member edges (2 * u) (base + j)) 1 (q .0) in
             let k = o .all c (base + j) low h (omega arith) in
             let b = both j l in
             and-intro (eqb (bit mask j) 1) (far j) (eq-eqb (bit mask j) 1 (omega arith)) (s .1)
 
-        back : (eqb (bit mask j) 1 && far j) ≡ true → lowSide n channels edges channel position u (base + j) ≡ true
+        back : (eqb (bit mask j) 1 && far j) ≡ true → lowSide n channels edges places u (base + j) ≡ true
         back t =
             let p = and-elim (eqb (bit mask j) 1) (far j) t in
             let b = both j l in
@@ -158,39 +159,39 @@ module _ (n channels : ℕ) (small : n ≤ 128) (channel own : List ℕ) (o : Ow
             let y = member-lt own (2 * c) (base + j) in
             let w = o .only c (base + j) low (omega arith) (omega arith) in
             let w1 = w .1 in
-            and-intro _ (ltb (getD channel u 0) channels)
+            and-intro _ (ltb (quad 0 places u) channels)
             (and-intro (member? edges (2 * u) (base + j)) _ (eq-eqb (member edges (2 * u) (base + j)) 1 (omega arith))
             (and-intro (ltb u n && ltb (base + j) n) _
             (and-intro (ltb u n) (ltb (base + j) n) (lt-ltb u n below) (lt-ltb (base + j) n (w .0)))
-            (and-intro (eqb (getD channel u 0) (getD channel (base + j) 0)) (far j)
-            (eq-eqb (getD channel u 0) (getD channel (base + j) 0) (omega arith)) (p .1))))
-            (lt-ltb (getD channel u 0) channels (omega arith))
+            (and-intro (eqb (quad 0 places u) (quad 0 places (base + j))) (far j)
+            (eq-eqb (quad 0 places u) (quad 0 places (base + j)) (omega arith)) (p .1))))
+            (lt-ltb (quad 0 places u) channels (omega arith))
 
 -- no edge out of u is bundled where its channel is not one of these
-pub high-channel : (n channels : ℕ) (edges channel position : List ℕ) (u : ℕ) → channels ≤ getD channel u 0 → (v : ℕ)
-    → lowSide n channels edges channel position u v ≡ false
+pub high-channel : (n channels : ℕ) (edges places : List ℕ) (u : ℕ) → channels ≤ quad 0 places u → (v : ℕ)
+    → lowSide n channels edges places u v ≡ false
 unfolding lowSide
-high-channel n channels edges channel position u h v =
-    ap (λ t. tableSide? n edges (λ w. getD channel w 0) (λ w. getD position w 0) u v && t) (le-ltb (getD channel u 0) channels h)
-    ∙ and-no (tableSide? n edges (λ w. getD channel w 0) (λ w. getD position w 0) u v)
+high-channel n channels edges places u h v =
+    ap (λ t. tableSide? n edges (quad 0 places) (quad 1 places) u v && t) (le-ltb (quad 0 places u) channels h)
+    ∙ and-no (tableSide? n edges (quad 0 places) (quad 1 places) u v)
 
 -- ---- no edge out of the vertices before u, as the loop that looks for one takes it
 
-pub record NoSide (n : ℕ) (edges channel position : List ℕ) (u : ℕ) : Type 0 where
-  pub none : (a v : ℕ) → a < u → v < n → tableSide? n edges (λ w. getD channel w 0) (λ w. getD position w 0) a v ≡ false
+pub record NoSide (n : ℕ) (edges places : List ℕ) (u : ℕ) : Type 0 where
+  pub none : (a v : ℕ) → a < u → v < n → tableSide? n edges (quad 0 places) (quad 1 places) a v ≡ false
 
-pub no-side-start : (n : ℕ) (edges channel position : List ℕ) → NoSide n edges channel position 0
-no-side-start n edges channel position = record { none = λ a v l. absurd (not-suc-le-zero l) }
+pub no-side-start : (n : ℕ) (edges places : List ℕ) → NoSide n edges places 0
+no-side-start n edges places = record { none = λ a v l. absurd (not-suc-le-zero l) }
 
-module _ (n : ℕ) (edges channel position : List ℕ) (u : ℕ) where
+module _ (n : ℕ) (edges places : List ℕ) (u : ℕ) where
   -- v is of u's channel and not next to it
   abbrev far-from-u : ℕ → Bool
-  far-from-u v = eqb (getD channel u 0) (getD channel v 0) && not (adjacent? (getD position u 0) (getD position v 0))
+  far-from-u v = eqb (quad 0 places u) (quad 0 places v) && not (adjacent? (quad 1 places u) (quad 1 places v))
 
   -- where mask i has no such vertex, there is no edge into one of its 64
   no-side-mask : (i k mask ones : ℕ) → k ≡ n - 64 * i → mask ≡ bitAnd (getD edges (2 * u + i) 0) ones → FirstBits k ones
       → ((j : ℕ) → bit mask j ≡ 1 → far-from-u (64 * i + j) ≡ false)
-      → (j : ℕ) → j < 64 → 64 * i + j < n → tableSide? n edges (λ w. getD channel w 0) (λ w. getD position w 0) u (64 * i + j) ≡ false
+      → (j : ℕ) → j < 64 → 64 * i + j < n → tableSide? n edges (quad 0 places) (quad 1 places) u (64 * i + j) ≡ false
   unfolding tableSide? apart?
   no-side-mask i k mask ones k-is e first h j l m =
       ⊎-elim
@@ -208,17 +209,17 @@ module _ (n : ℕ) (edges channel position : List ℕ) (u : ℕ) where
           ap (λ (m : ℕ). bit m j) e ∙ (let z : bit (bitAnd (getD edges (2 * u + i) 0) ones) j ≡ 1 = omega arith in z)
 
   -- nor out of u, where neither of its two masks has a vertex of its channel that is not next to it
-  pub no-side-more : n ≤ 128 → NoSide n edges channel position u → (low high first second : ℕ)
+  pub no-side-more : n ≤ 128 → NoSide n edges places u → (low high first second : ℕ)
       → low ≡ bitAnd (getD edges (2 * u + 0) 0) first → high ≡ bitAnd (getD edges (2 * u + 1) 0) second
       → FirstBits n first → FirstBits (n - 64) second → ((j : ℕ) → bit low j ≡ 1 → far-from-u (0 + j) ≡ false)
-      → ((j : ℕ) → bit high j ≡ 1 → far-from-u (64 + j) ≡ false) → NoSide n edges channel position (u + 1)
+      → ((j : ℕ) → bit high j ≡ 1 → far-from-u (64 + j) ≡ false) → NoSide n edges places (u + 1)
   no-side-more small o low high first second a b x y f g = record {
     none = λ a v l m. ⊎-elim (λ k. o .none a v k m) (λ k. ap (λ (x : ℕ). side x v) (let e : a ≡ u = omega arith in e) ∙ out v m)
         (lt-or-le a u);
   }
     where
       side : ℕ → ℕ → Bool
-      side x v = tableSide? n edges (λ w. getD channel w 0) (λ w. getD position w 0) x v
+      side x v = tableSide? n edges (quad 0 places) (quad 1 places) x v
 
       out : (v : ℕ) → v < n → side u v ≡ false
       out v m = ⊎-elim

@@ -186,8 +186,8 @@ as-long s = record { spans = refl; number = refl; load = refl }
 pub as-long-then : (s t r : State) → AsLong s t → AsLong t r → AsLong s r
 as-long-then s t r a b = record { spans = b .spans ∙ a .spans; number = b .number ∙ a .number; load = b .load ∙ a .load }
 
-pub added-long : (sets rows : List ℕ) (c : ℕ) (d : Bool) (v : ℕ) (s r : State) → Added sets rows c d v s r → AsLong s r
-added-long sets rows c d v s r a = record {
+pub added-long : (sets places : List ℕ) (c : ℕ) (d : Bool) (v : ℕ) (s r : State) → Added sets places c d v s r → AsLong s r
+added-long sets places c d v s r a = record {
   spans = ap length (a .spans) ∙ simp length-set;
   number = ap length (a .number) ∙ length-set (s .number) (endOf d v) _;
   load = a .size;
@@ -209,7 +209,7 @@ same-or-not false true = inr refl
 same-or-not false false = inl refl
 
 module _ (n : ℕ) (small : n ≤ 128) (side : ℕ → ℕ → Bool) (inside : (u v : ℕ) → side u v ≡ true → (u < n) × (v < n))
-    (sets rows : List ℕ) (s : Sets n side sets) (bs : List Bundle) (st : State) (o : Stands n side bs st) (d : Bool) (v : ℕ)
+    (sets places : List ℕ) (s : Sets n side sets) (bs : List Bundle) (st : State) (o : Stands n side bs st) (d : Bool) (v : ℕ)
     (below : v < n) (few : length bs < 2 * n) (some : 0 < count n (waitsAt side bs d v)) where
   waits-inside : (w : ℕ) → n ≤ w → waitsAt side bs d v w ≡ false
   waits-inside w l =
@@ -229,7 +229,7 @@ module _ (n : ℕ) (small : n ≤ 128) (side : ℕ → ℕ → Bool) (inside : (
       (s .has d v w below l ∙ along-inside n small side inside d v w k) ∙ sym (waits-inside w k))
       (lt-or-le w n)
 
-  pub stands-room : n ≤ length rows → Room sets rows d v st
+  pub stands-room : 4 * n ≤ length places → Room sets places d v st
   unfolding count
   stands-room h = record {
     n = n;
@@ -250,31 +250,31 @@ module _ (n : ℕ) (small : n ≤ 128) (side : ℕ → ℕ → Bool) (inside : (
         (lt-or-le w n);
   }
 
-  module _ (channel position : ℕ → ℕ) (c : ℕ) (r : State) (a : Added sets rows c d v st r) where
+  module _ (channel position : ℕ → ℕ) (c : ℕ) (r : State) (a : Added sets places c d v st r) where
     abbrev b : Bundle
-    b = made n side channel position (λ w. getD rows w 0) c bs d v
+    b = made n side channel position (quad 2 places) c bs d v
 
     of : Of b d v
     unfolding made
     of = record { direction = refl; vertex = refl }
 
-    first-is : min (lowest 128 (openAt sets (st .number) d v) (λ w. getD rows w 0)) (getD rows v 0) ≡ b .first
+    first-is : min (lowest 128 (openAt sets (st .number) d v) (quad 2 places)) (quad 2 places v) ≡ b .first
     unfolding made
     first-is =
-        ap (λ (x : ℕ). min x (getD rows v 0))
-        (joined-ext min 255 128 (openAt sets (st .number) d v) (waitsAt side bs d v) (λ w. getD rows w 0) (λ w. getD rows w 0) open-waits
+        ap (λ (x : ℕ). min x (quad 2 places v))
+        (joined-ext min 255 128 (openAt sets (st .number) d v) (waitsAt side bs d v) (quad 2 places) (quad 2 places) open-waits
         (λ w l. refl)
-        ∙ lowest-cut n 128 (waitsAt side bs d v) (λ w. getD rows w 0) small (λ w l m. waits-inside w l))
-        ∙ sym (lowest-with n (waitsAt side bs d v) (λ w. getD rows w 0) v below)
+        ∙ lowest-cut n 128 (waitsAt side bs d v) (quad 2 places) small (λ w l m. waits-inside w l))
+        ∙ sym (lowest-with n (waitsAt side bs d v) (quad 2 places) v below)
 
-    last-is : max (highest 128 (openAt sets (st .number) d v) (λ w. getD rows w 0)) (getD rows v 0) ≡ b .last
+    last-is : max (highest 128 (openAt sets (st .number) d v) (quad 2 places)) (quad 2 places v) ≡ b .last
     unfolding made
     last-is =
-        ap (λ (x : ℕ). max x (getD rows v 0))
-        (joined-ext max 0 128 (openAt sets (st .number) d v) (waitsAt side bs d v) (λ w. getD rows w 0) (λ w. getD rows w 0) open-waits
+        ap (λ (x : ℕ). max x (quad 2 places v))
+        (joined-ext max 0 128 (openAt sets (st .number) d v) (waitsAt side bs d v) (quad 2 places) (quad 2 places) open-waits
         (λ w l. refl)
-        ∙ highest-cut n 128 (waitsAt side bs d v) (λ w. getD rows w 0) small (λ w l m. waits-inside w l))
-        ∙ sym (highest-with n (waitsAt side bs d v) (λ w. getD rows w 0) v below)
+        ∙ highest-cut n 128 (waitsAt side bs d v) (quad 2 places) small (λ w l m. waits-inside w l))
+        ∙ sym (highest-with n (waitsAt side bs d v) (quad 2 places) v below)
 
     channel-is : b .channel ≡ c
     unfolding made
@@ -332,12 +332,12 @@ module _ (n : ℕ) (small : n ≤ 128) (side : ℕ → ℕ → Bool) (inside : (
     past e h k =
         ap (λ (x : List ℕ). getD x e 0) (a .number)
         ∙ getD-set-other (st .number) (endOf d v) e (st .count) 0 (λ z. let q = end-below d n v below in omega arith)
-        ∙ o .holds .past e h (let q = added-long sets rows c d v st r a .number in omega arith)
+        ∙ o .holds .past e h (let q = added-long sets places c d v st r a .number in omega arith)
 
     pub stands-more : Stands n side (bs ++ (b ∷ [])) r
     stands-more =
         let h = o .holds in
-        let l = added-long sets rows c d v st r a in
+        let l = added-long sets places c d v st r a in
         record {
           holds = record {
             sized = record {

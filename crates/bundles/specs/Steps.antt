@@ -1,4 +1,5 @@
 -- What the private steps leave behind. An end is a vertex with a direction: number 2 v for the edges into v, 2 v + 1 for those out of v.
+-- `places` has four numbers a vertex: its channel, its position in it, its row and one that is not read here.
 -- Assumes nothing.
 use mathlib.Core.Path.{_≡_}
 use mathlib.Core.Logic.{_≢_, _⊎_}
@@ -51,15 +52,14 @@ pub record Loaded (n : ℕ) (sets load : List ℕ) : Type 0 where
   pub value : (d : Bool) (v : ℕ) → v < n → getD load (endOf d v) 0 ≡ loadIn sets (endOf d v)
 
 -- of each of so many channels, two masks have those of the first j vertices that are in it
-pub record Owned (channels : ℕ) (channel : List ℕ) (j : ℕ) (own : List ℕ) : Type 0 where
+pub record Owned (channels : ℕ) (places : List ℕ) (j : ℕ) (own : List ℕ) : Type 0 where
   pub size : 2 * channels ≤ length own
-  pub only : (c v : ℕ) → c < channels → v < 128 → member own (2 * c) v ≡ 1 → (v < j) × (getD channel v 0 ≡ c)
-  pub all : (c v : ℕ) → c < channels → v < j → getD channel v 0 ≡ c → member own (2 * c) v ≡ 1
+  pub only : (c v : ℕ) → c < channels → v < 128 → member own (2 * c) v ≡ 1 → (v < j) × (quad 0 places v ≡ c)
+  pub all : (c v : ℕ) → c < channels → v < j → quad 0 places v ≡ c → member own (2 * c) v ≡ 1
 
 -- the path-transitive edges in so many channels
-unfoldable pub lowSide : ℕ → ℕ → List ℕ → List ℕ → List ℕ → ℕ → ℕ → Bool
-lowSide n channels edges channel position u v =
-    tableSide? n edges (λ w. getD channel w 0) (λ w. getD position w 0) u v && ltb (getD channel u 0) channels
+unfoldable pub lowSide : ℕ → ℕ → List ℕ → List ℕ → ℕ → ℕ → Bool
+lowSide n channels edges places u v = tableSide? n edges (quad 0 places) (quad 1 places) u v && ltb (quad 0 places u) channels
 
 -- of the edges by `side`, those out of the vertices before u, and those from u to a vertex before k
 unfoldable pub upTo : (ℕ → ℕ → Bool) → ℕ → ℕ → ℕ → ℕ → Bool
@@ -71,23 +71,22 @@ pub record Marked (n : ℕ) (side : ℕ → ℕ → Bool) (u k : ℕ) (sets load
   pub loads : Loaded n sets load
 
 -- a mask has the vertices from `base` on that edges lead to from u, with some that are next to it; the edges before these are marked
-pub record Marking (mask base u : ℕ) (position sets load : List ℕ) : Type 0 where
+pub record Marking (mask base u : ℕ) (places sets load : List ℕ) : Type 0 where
   pub n : ℕ
   pub side : ℕ → ℕ → Bool
   pub low : base ≤ 64
   pub small : n ≤ 128
   pub tail : u < n
-  pub long : n ≤ length position
+  pub long : 4 * n ≤ length places
   pub heads : (j : ℕ) → j < 64 → bit mask j ≡ 1 → base + j < n
-  pub edges : (j : ℕ) → j < 64 → side u (base + j) ≡ (eqb (bit mask j) 1 && not
-      (adjacent? (getD position u 0) (getD position (base + j) 0)))
+  pub edges : (j : ℕ) → j < 64 → side u (base + j) ≡ (eqb (bit mask j) 1 && not (adjacent? (quad 1 places u) (quad 1 places (base + j))))
   pub marked : Marked n side u base sets load
 
 -- ---- the choice
 
 -- how many edges wait at an end of v, as a vertex of channel c
 abbrev pub loadAt : ℕ → List ℕ → List ℕ → Bool → ℕ → ℕ
-loadAt c channel load into v = choose (eqb (getD channel v 0) c) (λ _. getD load (endOf into v) 0) (λ _. 0)
+loadAt c places load into v = choose (eqb (quad 0 places v) c) (λ _. getD load (endOf into v) 0) (λ _. 0)
 
 -- v is the best in its direction, and that has more than the other, or as many where it is 'into'
 pub record Picked (position : ℕ → ℕ) (n : ℕ) (f : Bool → ℕ → ℕ) (into : Bool) (v : ℕ) : Type 0 where
@@ -98,31 +97,35 @@ pub record Picked (position : ℕ → ℕ) (n : ℕ) (f : Bool → ℕ → ℕ) 
   pub out-most : into ≡ false → (u : ℕ) → u < n → f true u < f into v
 
 -- of the n vertices, the mask has those of channel c among the 64 from `base` on
-pub record Part (n : ℕ) (channel : List ℕ) (c mask base : ℕ) : Type 0 where
-  pub only : (j : ℕ) → j < 64 → bit mask j ≡ 1 → (base + j < n) × (getD channel (base + j) 0 ≡ c)
-  pub all : (j : ℕ) → j < 64 → base + j < n → getD channel (base + j) 0 ≡ c → bit mask j ≡ 1
+pub record Part (n : ℕ) (places : List ℕ) (c mask base : ℕ) : Type 0 where
+  pub only : (j : ℕ) → j < 64 → bit mask j ≡ 1 → (base + j < n) × (quad 0 places (base + j) ≡ c)
+  pub all : (j : ℕ) → j < 64 → base + j < n → quad 0 places (base + j) ≡ c → bit mask j ≡ 1
 
 -- a vertex of channel c, one of n
 unfoldable pub ownIn : ℕ → List ℕ → ℕ → ℕ → Bool
-ownIn n channel c v = ltb v n && eqb (getD channel v 0) c
+ownIn n places c v = ltb v n && eqb (quad 0 places v) c
 
 -- `len` vertices in order, of those below v that pass a test, as v does
-pub record Sinks (len v : ℕ) (position order : List ℕ) : Type 0 where
+pub record Sinks (len v : ℕ) (places order : List ℕ) : Type 0 where
   pub own : ℕ → Bool
   pub mine : own v ≡ true
-  pub sorted : Sorted own v len (λ w. getD position w 0) (λ i. getD order i 0)
+  pub sorted : Sorted own v len (quad 1 places) (λ i. getD order i 0)
 
 -- those of a channel below `base`; the mask has its vertices from there on
-pub record Ordered (mask base len : ℕ) (position order : List ℕ) : Type 0 where
+pub record Ordered (mask base len : ℕ) (places order : List ℕ) : Type 0 where
   pub n : ℕ
-  pub channel : List ℕ
   pub c : ℕ
   pub small : n ≤ 128
-  pub long : n ≤ length position
+  pub long : 4 * n ≤ length places
   pub room : n ≤ length order
   pub few : len ≤ n
-  pub part : Part n channel c mask base
-  pub sorted : Sorted (ownIn n channel c) base len (λ w. getD position w 0) (λ i. getD order i 0)
+  pub part : Part n places c mask base
+  pub sorted : Sorted (ownIn n places c) base len (quad 1 places) (λ i. getD order i 0)
+
+-- two masks have a channel's vertices, of which none is in order yet
+pub record Halves (low high : ℕ) (places order : List ℕ) : Type 0 where
+  pub lower : Ordered low 0 0 places order
+  pub upper : Part (lower .n) places (lower .c) high 64
 
 -- ---- the ends with the most edges, by the first `len` vertices in order
 
@@ -136,6 +139,10 @@ pub record Most (order : List ℕ) (len : ℕ) (load : List ℕ) (r : ℕ) : Typ
   pub bound : (d : Bool) (k : ℕ) → k < len → getD load (endOf d (getD order k 0)) 0 ≤ r
   pub attained : (r ≡ 0) ⊎ ((d : Bool) × (k : ℕ) × (k < len) × (getD load (endOf d (getD order k 0)) 0 ≡ r))
 
+-- every end has fewer than `most` edges
+abbrev pub Fewer : List ℕ → ℕ → ℕ → List ℕ → Type 0
+Fewer order len most load = (d : Bool) (k : ℕ) → k < len → getD load (endOf d (getD order k 0)) 0 < most
+
 -- no end has more than `most` edges; fewer has every end in direction `into` of the first i, and, where that is 'out of', every end 'into'
 pub record Level (order : List ℕ) (len most : ℕ) (into : Bool) (i : ℕ) (load : List ℕ) : Type 0 where
   pub some : 0 < most
@@ -143,13 +150,17 @@ pub record Level (order : List ℕ) (len most : ℕ) (into : Bool) (i : ℕ) (lo
   pub passed : (k : ℕ) → k < i → getD load (endOf into (getD order k 0)) 0 < most
   pub first : into ≡ false → (k : ℕ) → k < len → getD load (endOf true (getD order k 0)) 0 < most
 
--- what stays while bundles of channel c are made: the order has its vertices by position
-pub record Levelling (n : ℕ) (sets channel position rows : List ℕ) (c : ℕ) (order : List ℕ) (len : ℕ) : Type 0 where
+-- n vertices with an entry each, and masks of their edges
+pub record Ready (n : ℕ) (sets places : List ℕ) : Type 0 where
   pub small : n ≤ 128
-  pub long : n ≤ length rows
+  pub long : 4 * n ≤ length places
   pub masks : Sets n (sideIn n sets) sets
+
+-- what stays while bundles of channel c are made: the order has its vertices by position
+pub record Levelling (n : ℕ) (sets places : List ℕ) (c : ℕ) (order : List ℕ) (len : ℕ) : Type 0 where
+  pub ready : Ready n sets places
   pub fits : len ≤ length order
-  pub sorted : Sorted (ownIn n channel c) 128 len (λ v. getD position v 0) (λ i. getD order i 0)
+  pub sorted : Sorted (ownIn n places c) 128 len (quad 1 places) (λ i. getD order i 0)
 
 -- ---- a bundle
 
@@ -162,14 +173,14 @@ abbrev pub openIn : ℕ → ℕ → List ℕ → Bool → ℕ → Bool
 openIn mask base number into j = eqb (bit mask j) 1 && eqb (getD number (endOf (not into) (base + j)) 0) noBundle
 
 -- the lists have entries for each member of a mask, vertex base + j for bit j
-pub record Entered (mask base : ℕ) (number rows load : List ℕ) : Type 0 where
-  pub row : (j : ℕ) → j < 64 → bit mask j ≡ 1 → base + j < length rows
+pub record Entered (mask base : ℕ) (number places load : List ℕ) : Type 0 where
+  pub row : (j : ℕ) → j < 64 → bit mask j ≡ 1 → 4 * (base + j) + 2 < length places
   pub ends : (j : ℕ) → j < 64 → bit mask j ≡ 1 → (2 * (base + j) + 1 < length number) × (2 * (base + j) + 1 < length load)
 
 -- of the vertices below j that pass the test: the rows from the lowest to the highest, with one row more, and one edge less at each
-pub record Gathered (test : ℕ → Bool) (rows : List ℕ) (into : Bool) (row j : ℕ) (was is : List ℕ) (first last : ℕ) : Type 0 where
-  pub lowest-row : first ≡ min (lowest j test (λ w. getD rows w 0)) row
-  pub highest-row : last ≡ max (highest j test (λ w. getD rows w 0)) row
+pub record Gathered (test : ℕ → Bool) (places : List ℕ) (into : Bool) (row j : ℕ) (was is : List ℕ) (first last : ℕ) : Type 0 where
+  pub lowest-row : first ≡ min (lowest j test (quad 2 places)) row
+  pub highest-row : last ≡ max (highest j test (quad 2 places)) row
   pub size : length is ≡ length was
   pub fewer : (w : ℕ) → w < j → getD is (endOf (not into) w) 0 + indicator (test w) ≡ getD was (endOf (not into) w) 0
   pub from : (w : ℕ) → j ≤ w → w < 128 → getD is (endOf (not into) w) 0 ≡ getD was (endOf (not into) w) 0
@@ -177,9 +188,9 @@ pub record Gathered (test : ℕ → Bool) (rows : List ℕ) (into : Bool) (row j
 
 -- what was gathered of the vertices before the mask's becomes what is gathered with them
 abbrev pub Gathers : ℕ → ℕ → List ℕ → List ℕ → Bool → List ℕ → Span → List ℕ → Span → Type 0
-Gathers mask base number rows into was s is r =
+Gathers mask base number places into was s is r =
     (test : ℕ → Bool) (row : ℕ) (start : List ℕ) → ((j : ℕ) → j < 64 → test (base + j) ≡ openIn mask base number into j)
-    → Gathered test rows into row base start was (s .first) (s .last) → Gathered test rows into row (base + 64) start is (r .first)
+    → Gathered test places into row base start was (s .first) (s .last) → Gathered test places into row (base + 64) start is (r .first)
     (r .last)
 
 -- the bundles so far, four numbers each, and of each end the number of its bundle, or `noBundle`, and how many edges still wait at it
@@ -205,14 +216,14 @@ pub record AsLong (s r : State) : Type 0 where
   pub load : length (r .load) ≡ length (s .load)
 
 -- there is room for a bundle, and each of its edges is counted at its other end
-pub record Room (sets rows : List ℕ) (into : Bool) (v : ℕ) (s : State) : Type 0 where
+pub record Room (sets places : List ℕ) (into : Bool) (v : ℕ) (s : State) : Type 0 where
   pub n : ℕ
   pub small : n ≤ 128
   pub sized : Sized n s
   pub count : s .count < 2 * n
   pub vertex : v < n
   pub masks : 4 * n ≤ length sets
-  pub long : n ≤ length rows
+  pub long : 4 * n ≤ length places
   pub inside : (w : ℕ) → w < 128 → member? sets (2 * endOf into v) w ≡ true → w < n
   pub counted : (w : ℕ) → w < 128 → openAt sets (s .number) into v w ≡ true → 0 < getD (s .load) (endOf (not into) w) 0
 
@@ -221,11 +232,11 @@ abbrev pub stored : List ℕ → ℕ → ℕ → ℕ → ℕ → List ℕ
 stored spans b channel first last = set (set (set spans (4 * b) channel) (4 * b + 1) first) (4 * b + 2) last
 
 -- r is s with the open edges of an end as the next bundle
-pub record Added (sets rows : List ℕ) (c : ℕ) (into : Bool) (v : ℕ) (s r : State) : Type 0 where
+pub record Added (sets places : List ℕ) (c : ℕ) (into : Bool) (v : ℕ) (s r : State) : Type 0 where
   pub count : r .count ≡ s .count + 1
   pub spans : r .spans ≡ stored (s .spans) (s .count) c
-      (min (lowest 128 (openAt sets (s .number) into v) (λ w. getD rows w 0)) (getD rows v 0))
-      (max (highest 128 (openAt sets (s .number) into v) (λ w. getD rows w 0)) (getD rows v 0))
+      (min (lowest 128 (openAt sets (s .number) into v) (quad 2 places)) (quad 2 places v))
+      (max (highest 128 (openAt sets (s .number) into v) (quad 2 places)) (quad 2 places v))
   pub number : r .number ≡ set (s .number) (endOf into v) (s .count)
   pub size : length (r .load) ≡ length (s .load)
   pub gone : getD (r .load) (endOf into v) 0 ≡ 0
@@ -264,59 +275,44 @@ pub record Going (n : ℕ) (side : ℕ → ℕ → Bool) (channel position row :
   pub room : length bs + live n side (λ x. true) bs ≤ 2 * n
 
 -- the same with the lists of the code
-abbrev pub Underway : ℕ → List ℕ → List ℕ → List ℕ → List ℕ → ℕ → State → Type 0
-Underway n sets channel position rows c s =
-    Going n (sideIn n sets) (λ v. getD channel v 0) (λ v. getD position v 0) (λ v. getD rows v 0) c s
+abbrev pub Underway : ℕ → List ℕ → List ℕ → ℕ → State → Type 0
+Underway n sets places c s = Going n (sideIn n sets) (quad 0 places) (quad 1 places) (quad 2 places) c s
 
--- before the ends of one direction that have `most` edges are taken, for the n vertices by their channels and positions
-pub record Taking (c : ℕ) (into : Bool) (most : ℕ) (order : List ℕ) (len : ℕ) (sets rows : List ℕ) (s : State) : Type 0 where
+-- before the ends of one direction that have `most` edges are taken
+pub record Taking (c : ℕ) (into : Bool) (most : ℕ) (order : List ℕ) (len : ℕ) (sets places : List ℕ) (s : State) : Type 0 where
   pub n : ℕ
-  pub channel : List ℕ
-  pub position : List ℕ
-  pub levelling : Levelling n sets channel position rows c order len
-  pub underway : Underway n sets channel position rows c s
+  pub levelling : Levelling n sets places c order len
+  pub underway : Underway n sets places c s
   pub level : Level order len most into 0 (s .load)
 
--- n vertices with an entry each, and masks of their edges
-pub record Ready (n : ℕ) (sets position rows : List ℕ) : Type 0 where
-  pub small : n ≤ 128
-  pub long-position : n ≤ length position
-  pub long-rows : n ≤ length rows
-  pub masks : Sets n (sideIn n sets) sets
-
 -- the state after c channels
-pub record Planned (n : ℕ) (channel position rows sets : List ℕ) (c : ℕ) (s : State) : Type 0 where
-  pub stands : Stands n (sideIn n sets) (bundles n (sideIn n sets) (λ v. getD channel v 0) (λ v. getD position v 0)
-      (λ v. getD rows v 0) c) s
+pub record Planned (n : ℕ) (places sets : List ℕ) (c : ℕ) (s : State) : Type 0 where
+  pub stands : Stands n (sideIn n sets) (bundles n (sideIn n sets) (quad 0 places) (quad 1 places) (quad 2 places) c) s
 
--- before the bundles of channel c, for n vertices by their channels: two masks have those of this one
-pub record Turn (c low high : ℕ) (sets position rows : List ℕ) (s : State) : Type 0 where
+-- before the bundles of channel c: two masks have its vertices
+pub record Turn (c low high : ℕ) (sets places : List ℕ) (s : State) : Type 0 where
   pub n : ℕ
-  pub channel : List ℕ
-  pub ready : Ready n sets position rows
-  pub lower : Part n channel c low 0
-  pub upper : Part n channel c high 64
-  pub planned : Planned n channel position rows sets c s
+  pub ready : Ready n sets places
+  pub lower : Part n places c low 0
+  pub upper : Part n places c high 64
+  pub planned : Planned n places sets c s
 
 -- ---- before the first bundle
 
--- n vertices by their channels, so many, with room for their order: two masks a channel have its vertices
-pub record Starting (channels : ℕ) (own sets position rows order : List ℕ) (s : State) : Type 0 where
+-- n vertices in so many channels, with room for their order: two masks a channel have its vertices
+pub record Starting (channels : ℕ) (own sets places order : List ℕ) (s : State) : Type 0 where
   pub n : ℕ
-  pub channel : List ℕ
-  pub ready : Ready n sets position rows
+  pub ready : Ready n sets places
   pub room : n ≤ length order
   pub low : channels ≤ 128
-  pub owned : Owned channels channel n own
-  pub planned : Planned n channel position rows sets 0 s
+  pub owned : Owned channels places n own
+  pub planned : Planned n places sets 0 s
 
 -- n vertices in so many channels, with an entry each
-pub record Vertices (n channels : ℕ) (channel position rows : List ℕ) : Type 0 where
+pub record Vertices (n channels : ℕ) (places : List ℕ) : Type 0 where
   pub small : n ≤ 128
   pub low : channels ≤ 128
-  pub long-channel : n ≤ length channel
-  pub long-position : n ≤ length position
-  pub long-rows : n ≤ length rows
+  pub long : 4 * n ≤ length places
 
 -- lists with room for the bundles of n vertices, and none in them
 pub record Blank (n : ℕ) (spans numbers : List ℕ) : Type 0 where
@@ -326,6 +322,6 @@ pub record Blank (n : ℕ) (spans numbers : List ℕ) : Type 0 where
 -- ---- the answer
 
 -- the bundles of the edges that a table has, by the rule; the fourth number of an entry is 0
-pub record Answer (n : ℕ) (edges : List ℕ) (channels : ℕ) (channel position rows : List ℕ) (r : ℕ) (spans numbers : List ℕ) : Type 0 where
-  pub listed : Listed n (bundlesIn n edges channels (λ v. getD channel v 0) (λ v. getD position v 0) (λ v. getD rows v 0)) r spans numbers
+pub record Answer (n : ℕ) (edges : List ℕ) (channels : ℕ) (places : List ℕ) (r : ℕ) (spans numbers : List ℕ) : Type 0 where
+  pub listed : Listed n (bundlesIn n edges channels (quad 0 places) (quad 1 places) (quad 2 places)) r spans numbers
   pub fourth : (b : ℕ) → quad 3 spans b ≡ 0

@@ -1,32 +1,51 @@
 -- The answers of the public calls, case by case. Assumes nothing.
-use mathlib.Core.Path.{_≡_, sym, _∙_, subst}
+use mathlib.Core.Path.{_≡_, refl, sym, ap, _∙_, subst}
 use mathlib.Core.Logic.{_≢_}
-use mathlib.Core.Bool.{Bool, true, false}
-use mathlib.Core.List.{List, []}
-use Prim.Native.Nat.{ℕ, _≤_, _<_, min}
+use mathlib.Core.Bool.{Bool, true, false, _||_}
+use mathlib.Core.List.{List}
+use Prim.Native.Nat.{ℕ, _*_, _≤_, _<_, min}
 use native.Mathlib.Omega.{arith}
 use lib.Dec.{eqb, ltb}
+use lib.ListN.{length}
 use borrow.Author.Tests.{eq-eqb, ne-eqb, lt-ltb, le-ltb}
+use Rattle.counting.specs.Count.{choose}
 use Rattle.counting.proofs.Truth.{or-left, or-right}
 use Rattle.matching.specs.Chains.{planned}
 use Rattle.channels.specs.Given.{linesOf, verticesOf, unknown?, repeats?, lacks?, broken?}
-use Rattle.planning.specs.Arranged.{Arranged}
-use Rattle.channels.specs.Promise.{Answers, outsized?, planRefusal, givenRefusal}
+use Rattle.search.specs.Table.{leadsIn}
+use Rattle.planning.specs.Arranged.{Arranged, Kept}
+use Rattle.planning.specs.Promise.{Chained}
+use Rattle.channels.specs.Promise.{Answers, Plans, Sized, outsized?, planRefusal, givenRefusal}
 use Rattle.planning.specs.declared.Channels.{Channels}
 
--- refused, and no channel
-pub answers-refused : (refusal k : ℕ) (ls : List (List ℕ)) (r : Channels) → refusal ≡ k → k ≢ 0 → (r .refusal ≡ k) × Arranged [] r → Answers refusal ls r
-answers-refused refusal k ls r e d a = record {
-  refused = a .0 ∙ sym e;
-  arranged = rw (ne-eqb refusal 0 (λ q. d (sym e ∙ q))) (a .1);
-}
+-- room for the vertices: the refusal, or the channels
+module _ (n refusal : ℕ) (ls : List (List ℕ)) (p : List ℕ) (r : Channels) (p′ : List ℕ) where
+  pub answers-made : 4 * n ≤ length p → r .refusal ≡ refusal → (r .refusal ≢ 0 → r .count ≡ 0)
+      → (r .refusal ≡ 0 → Arranged n ls (r .count) p′) → Kept n p p′ → Answers n refusal ls p r p′
+  answers-made h e none a g = record {
+    refused = λ _. e;
+    short = λ l. absurd (omega arith);
+    none = none;
+    arranged = a;
+    kept = g .kept;
+    past = g .past;
+    long = g .long;
+  }
 
--- taken, with the channels
-pub answers-taken : (refusal : ℕ) (ls : List (List ℕ)) (r : Channels) → refusal ≡ 0 → (r .refusal ≡ 0) × Arranged ls r → Answers refusal ls r
-answers-taken refusal ls r e a = record {
-  refused = a .0 ∙ sym e;
-  arranged = rw (eq-eqb refusal 0 e) (a .1);
-}
+-- refused by size alone
+pub answers-sized : (n refusal : ℕ) (ls : List (List ℕ)) (p : List ℕ) (r : Channels) (k : ℕ) → (planRefusal n ≢ 0 → refusal ≡ planRefusal n)
+    → Sized n (length p) k → k ≢ 0 → r ≡ record { refusal = k; count = 0 } → Answers n refusal ls p r p
+answers-sized n refusal ls p r k same z d e =
+    let k-refused : r .refusal ≡ k = ap (λ (x : Channels). x .refusal) e in
+    record {
+      refused = λ h. k-refused ∙ z .size h ∙ sym (same (λ q. d (z .size h ∙ q)));
+      short = λ h. (k-refused ∙ z .short h, refl);
+      none = λ _. ap (λ (x : Channels). x .count) e;
+      arranged = λ q. absurd (d (sym k-refused ∙ q));
+      kept = λ i v l m. refl;
+      past = λ i v l m. refl;
+      long = refl;
+    }
 
 -- ---- the number of vertices
 
@@ -51,15 +70,26 @@ unfolding planRefusal
 plan-taken n e = rw e
 
 -- as many vertices as are asked for
-pub plan-channels : (leads : ℕ → ℕ → Bool) (n : ℕ) (r : Channels) → n ≤ 128 → (r .refusal ≡ 0) × Arranged (planned leads (min n 128)) r → (r .refusal ≡ 0) × Arranged (planned leads n) r
-plan-channels leads n r l a = (a .0, subst (λ x. Arranged (planned leads x) r) (let q : min n 128 ≡ n = omega arith in q) (a .1))
+pub plan-answers : (n : ℕ) (table p : List ℕ) (r : Channels) (p′ : List ℕ) → n ≤ 128 → outsized? n ≡ false → 4 * n ≤ length p
+    → Chained n table p r p′ → Plans n table p r p′
+plan-answers n table p r p′ l e h c =
+    let q : min n 128 ≡ n = omega arith in
+    answers-made n (planRefusal n) (planned (leadsIn table) n) p r p′ h (c .refused (omega arith) ∙ sym (plan-taken n e)) (c .none)
+    (λ z. subst (λ x. Arranged x (planned (leadsIn table) x) (r .count) p′) q (c .arranged z)) (subst (λ x. Kept x p p′) q (c .kept))
 
 -- ---- given channels
 
 module _ (leads : ℕ → ℕ → Bool) (n : ℕ) (field : List ℕ) where
-  pub given-outsized : outsized? n ≡ true → givenRefusal leads n field ≡ 2
-  unfolding givenRefusal
-  given-outsized e = rw e
+  -- by size they are refused as planned ones are
+  pub given-sized : planRefusal n ≢ 0 → givenRefusal leads n field ≡ planRefusal n
+  unfolding givenRefusal planRefusal
+  given-sized = go (outsized? n) (choose (unknown? n (verticesOf field)) (λ _. 3) (λ _.
+      choose (repeats? (verticesOf field) || lacks? n (verticesOf field)) (λ _. 6) (λ _.
+      choose (broken? leads (linesOf field)) (λ _. 7) (λ _. 0))))
+    where
+      go : (b : Bool) (k : ℕ) → _≢_ {A = ℕ} (choose b (λ _. 2) (λ _. 0)) 0 → _≡_ {A = ℕ} (choose b (λ _. 2) (λ _. k)) (choose b (λ _. 2) (λ _. 0))
+      go true k d = refl
+      go false k d = absurd (d refl)
 
   module _ (e : outsized? n ≡ false) where
     pub given-unknown : unknown? n (verticesOf field) ≡ true → givenRefusal leads n field ≡ 3

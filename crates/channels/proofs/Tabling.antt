@@ -3,17 +3,15 @@ use mathlib.Core.Path.{_≡_, sym, ap, _∙_}
 use mathlib.Core.Logic.{_≢_}
 use mathlib.Core.Bool.{Bool, false}
 use mathlib.Core.List.{List, []}
-use Prim.Native.Nat.{ℕ, _+_, _-_, _≤_, _<_}
+use Prim.Native.Nat.{ℕ, _+_, _-_, _*_, _≤_, _<_}
 use native.Mathlib.Omega.{arith}
 use lib.ListN.{length, getD}
 use Rattle.matching.proofs.Lists.{length-bound}
 use Rattle.channels.specs.Given.{verticesOf, unknown?, repeats?}
-use Rattle.planning.specs.Arranged.{Arranged}
-use Rattle.planning.specs.Laid.{tables}
+use Rattle.planning.specs.Arranged.{Arranged, Kept}
 use Rattle.channels.specs.Laid.{Lays}
 use Rattle.channels.specs.Promise.{givenRefusal}
 use Rattle.channels.specs.Walked.{settled, Walks}
-use Rattle.planning.specs.declared.Channels.{Channels}
 use Rattle.channels.specs.declared.Walked.{Walked}
 use Rattle.channels.proofs.Fields.{left, left-vertex}
 use Rattle.channels.proofs.Checks.{unknown-wider, unknown-within, repeats-once}
@@ -23,31 +21,28 @@ use Rattle.channels.proofs.Walking.{settled-all}
 
 module _ (n : ℕ) (field : List ℕ) where
   -- the lines before byte i are laid, if they pass, so many vertices in all; of the present line p vertices are laid, and k are left
-  pub record Tabling (i k p vertices : ℕ) (r : Channels) : Type 0 where
-    pub sizes : (length (r .channel) ≡ 128) × (length (r .position) ≡ 128)
+  pub record Tabling (i k p vertices count : ℕ) (s : List ℕ) : Type 0 where
     pub place : p ≤ vertices
-    pub lines : r .count ≤ vertices
-    pub some : 0 < vertices → 0 < r .count
-    pub laid : repeats? (verticesOf field) ≡ false → unknown? 128 (verticesOf field) ≡ false → Reading field i k p r
+    pub lines : count ≤ vertices
+    pub some : 0 < vertices → 0 < count
+    pub laid : repeats? (verticesOf field) ≡ false → unknown? 128 (verticesOf field) ≡ false → Reading n field i k p count s
 
-  pub tabling-none : (channel position : List ℕ) → Arranged [] (tables 0 channel position) → Tabling 0 0 0 0 (tables 0 channel position)
-  tabling-none channel position a = record {
-    sizes = a .sizes;
+  pub tabling-none : (s : List ℕ) → Arranged n [] 0 s → Tabling 0 0 0 0 0 s
+  tabling-none s a = record {
     place = omega arith;
     lines = omega arith;
     some = λ l. l;
-    laid = λ once few. reading-none field (tables 0 channel position) a;
+    laid = λ once few. reading-none n field s a;
   }
 
-  module _ (i : ℕ) (h : i < length field) (k p vertices : ℕ) (r : Channels) (f : Tabling i k p vertices r)
+  module _ (i : ℕ) (h : i < length field) (k p vertices count : ℕ) (s : List ℕ) (f : Tabling i k p vertices count s)
       (x : ℕ) (ex : x ≡ getD field i 0) where
-    pub tabling-length : k ≡ 0 → Tabling (i + 1) x 0 vertices r
+    pub tabling-length : k ≡ 0 → Tabling (i + 1) x 0 vertices count s
     tabling-length e = record {
-      sizes = f .sizes;
       place = omega arith;
       lines = f .lines;
       some = f .some;
-      laid = λ once few. reading-length field once few i h k p r (f .laid once few) e x ex;
+      laid = λ once few. reading-length n field once i h k p count s (f .laid once few) e x ex;
     }
 
     module _ (counted : length (verticesOf field) ≡ vertices + length (left field i k)) (d : k ≢ 0) where
@@ -60,32 +55,33 @@ module _ (n : ℕ) (field : List ℕ) where
         ap length (left-vertex field i h k d),
       )
 
-      pub tabling-more : (s : Channels) → (length (s .channel) ≡ 128) × (length (s .position) ≡ 128) → Lays vertices p x r s
-          → Tabling (i + 1) (k - 1) (p + 1) (vertices + 1) s
-      tabling-more s long l = record {
-        sizes = long;
+      pub tabling-more : 4 * n ≤ length s → (c : ℕ) (s′ : List ℕ) → Lays vertices p x count s c s′
+          → Tabling (i + 1) (k - 1) (p + 1) (vertices + 1) c s′
+      tabling-more fits c s′ l = record {
         place = let q = f .place in omega arith;
         lines = l .few;
         some = λ _. l .some;
-        laid = λ once few. reading-more field once few i h k p r (f .laid once few) d x ex s (l .placed (room once few));
+        laid = λ once few. reading-more n field once i h k p count s (f .laid once few) d x ex fits c s′
+            (l .opened (room once few)) (l .stored (room once few));
       }
 
   -- ---- the end
 
-  pub walks-refused : (leads : ℕ → ℕ → Bool) (channel position : List ℕ) (r : Walked) → r .refusal ≡ 3
-      → givenRefusal leads n field ≡ 3 → Walks leads n field channel position r
-  walks-refused leads channel position r e w =
-      let never : r .refusal ≡ 0 → ⊥ = λ z. omega arith in
-      record { answer = e ∙ sym w; laid = λ z. absurd (never z); few = λ z. absurd (never z) }
+  module _ (leads : ℕ → ℕ → Bool) (was is : List ℕ) (g : Kept n was is) (r : Walked) where
+    pub walks-refused : r .refusal ≡ 3 → givenRefusal leads n field ≡ 3 → Walks leads n field was r is
+    walks-refused e w =
+        let never : r .refusal ≡ 0 → ⊥ = λ z. omega arith in
+        record { answer = e ∙ sym w; laid = λ z. absurd (never z); few = λ z. absurd (never z); kept = g }
 
-  pub walks-all : n ≤ 128 → (leads : ℕ → ℕ → Bool) (channel position : List ℕ) (r : Walked) (i k p vertices fault : ℕ)
-      → r .refusal ≡ settled fault vertices n → settled fault vertices n ≡ givenRefusal leads n field → length field ≤ i
-      → Tabling i k p vertices (tables (r .count) channel position) → Walks leads n field channel position r
-  walks-all small leads channel position r i k p vertices fault e w h f = record {
-    answer = e ∙ w;
-    laid = λ z.
-        let q = given-passed leads n field (sym (e ∙ w) ∙ z) in
-        reading-all field i k p (tables (r .count) channel position)
-        (f .laid (q .once) (unknown-wider n 128 (verticesOf field) small (q .known))) h;
-    few = λ z. omega (arith, f .lines, settled-all fault vertices n (sym e ∙ z));
-  }
+    pub walks-all : n ≤ 128 → (i k p vertices fault : ℕ) → r .refusal ≡ settled fault vertices n
+        → settled fault vertices n ≡ givenRefusal leads n field → length field ≤ i → Tabling i k p vertices (r .count) is
+        → Walks leads n field was r is
+    walks-all small i k p vertices fault e w h f = record {
+      answer = e ∙ w;
+      laid = λ z.
+          let q = given-passed leads n field (sym (e ∙ w) ∙ z) in
+          reading-all n field i k p (r .count) is
+          (f .laid (q .once) (unknown-wider n 128 (verticesOf field) small (q .known))) h;
+      few = λ z. omega (arith, f .lines, settled-all fault vertices n (sym e ∙ z));
+      kept = g;
+    }

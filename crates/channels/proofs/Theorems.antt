@@ -1,14 +1,16 @@
 -- What the channels that the calls hand over are: a division into channels, in which each vertex leads to the next, and planned ones the
--- least of all. Here the theorems stand of the struct that `plan` and `given` return. Assumes nothing.
-use mathlib.Core.Path.{_≡_, refl, sym, ap, _∙_, subst}
+-- least of all. Here the theorems stand of what `plan` and `given` hand over. Assumes nothing.
+use mathlib.Core.Path.{_≡_, refl, sym, ap, _∙_}
 use mathlib.Core.Bool.{Bool, true, false, true≢false, _||_}
-use mathlib.Core.List.{List, []}
-use Prim.Native.Nat.{ℕ, suc, _≤_}
+use mathlib.Core.List.{List}
+use Prim.Native.Nat.{ℕ, suc, _*_, _≤_, _<_, min}
+use native.Mathlib.Decide.{decLt}
 use native.Mathlib.Omega.{arith}
 use lib.Dec.{eqb, ltb}
 use lib.ListN.{length}
-use borrow.Author.Tests.{eq-eqb, ltb-false}
+use borrow.Author.Tests.{ltb-false}
 use Rattle.counting.specs.Count.{choose}
+use Rattle.counting.specs.Quads.{quad}
 use Rattle.matching.specs.Lists.{channelOf, positionOf}
 use Rattle.matching.specs.Chains.{planned}
 use Rattle.matching.specs.Division.{Order, Division, Covers, Channelled}
@@ -18,16 +20,19 @@ use Rattle.search.specs.Table.{leadsIn}
 use Rattle.channels.specs.Given.{linesOf, verticesOf, unknown?, repeats?, lacks?, broken?}
 use Rattle.planning.specs.Arranged.{Arranged}
 use Rattle.channels.specs.Promise.{Answers, Plans, Gives, outsized?, planRefusal, givenRefusal}
-use Rattle.channels.specs.Sound.{Sound, channel, position}
+use Rattle.channels.specs.Sound.{Sound}
 use Rattle.planning.specs.declared.Channels.{Channels}
 use Rattle.channels.proofs.Checks.{given-covers}
 
 -- ---- what the refusals tell
 
-pub taken : (refusal : ℕ) (ls : List (List ℕ)) (r : Channels) → Answers refusal ls r → r .refusal ≡ 0 → (refusal ≡ 0) × Arranged ls r
-taken refusal ls r a e =
-    let z : refusal ≡ 0 = sym (a .refused) ∙ e in
-    (z, subst (λ b. Arranged (choose b (λ _. ls) (λ _. [])) r) (eq-eqb refusal 0 z) (a .arranged))
+module _ (n refusal : ℕ) (ls : List (List ℕ)) (p : List ℕ) (r : Channels) (p′ : List ℕ) where
+  pub taken : Answers n refusal ls p r p′ → r .refusal ≡ 0 → (refusal ≡ 0) × Arranged n ls (r .count) p′
+  taken a e = go (decLt (length p) (4 * min n 128))
+    where
+      go : Dec (length p < 4 * min n 128) → (refusal ≡ 0) × Arranged n ls (r .count) p′
+      go (yes l) = absurd (omega (arith, a .short l .0))
+      go (no l) = (sym (a .refused (omega arith)) ∙ e, a .arranged e)
 
 sized-small : (n : ℕ) → outsized? n ≡ false → n ≤ 128
 unfolding outsized?
@@ -74,41 +79,44 @@ given-passed leads n field e = let p = go (outsized? n) (unknown? n (verticesOf 
 
 -- ---- channels that cover the vertices, handed over
 
-module _ (leads : ℕ → ℕ → Bool) (n : ℕ) (o : Order leads n) (ls : List (List ℕ)) (r : Channels) (a : Arranged ls r) (c : Covers leads n ls) where
-  sound-arranged : Sound leads n r
+module _ (leads : ℕ → ℕ → Bool) (n : ℕ) (o : Order leads n) (ls : List (List ℕ)) (count : ℕ) (p : List ℕ) (a : Arranged n ls count p) (c : Covers leads n ls) where
+  sound-arranged : Sound leads n count p
   sound-arranged =
       let s : Channelled leads n (length ls) (channelOf ls) (positionOf ls) = channelled leads n o ls c in
-      let ch : (v : ℕ) → channel r v ≡ channelOf ls v = a .channel in
-      let po : (v : ℕ) → position r v ≡ positionOf ls v = a .position in
+      let ch : (v : ℕ) → v < n → quad 0 p v ≡ channelOf ls v = a .channel in
+      let po : (v : ℕ) → v < n → quad 1 p v ≡ positionOf ls v = a .position in
       record {
         division = record {
-          below = λ v l. omega (arith, s .division .below v l, ch v, a .counted);
-          related = λ u v l m d e. s .division .related u v l m d (sym (ch u) ∙ e ∙ ch v);
+          below = λ v l. omega (arith, s .division .below v l, ch v l, a .counted);
+          related = λ u v l m d e. s .division .related u v l m d (sym (ch u l) ∙ e ∙ ch v m);
         };
-        used = λ k h. let u = s .used k (omega (arith, a .counted)) in (u .0, u .1, ch (u .0) ∙ u .2);
-        next = λ u v l m e f. s .next u v l m (sym (ch u) ∙ e ∙ ch v) (sym (po v) ∙ f ∙ ap suc (po u));
-        later = λ u v l m e f. s .later u v l m (sym (ch u) ∙ e ∙ ch v) (omega (arith, po u, po v));
-        apart = λ u v l m e f. s .apart u v l m (sym (ch u) ∙ e ∙ ch v) (sym (po u) ∙ f ∙ po v);
+        used = λ k h. let u = s .used k (omega (arith, a .counted)) in (u .0, u .1, ch (u .0) (u .1) ∙ u .2);
+        next = λ u v l m e f. s .next u v l m (sym (ch u l) ∙ e ∙ ch v m) (sym (po v m) ∙ f ∙ ap suc (po u l));
+        later = λ u v l m e f. s .later u v l m (sym (ch u l) ∙ e ∙ ch v m) (omega (arith, po u l, po v m));
+        apart = λ u v l m e f. s .apart u v l m (sym (ch u l) ∙ e ∙ ch v m) (sym (po u l) ∙ f ∙ po v m);
       }
 
 -- ---- the theorems
 
-module _ (n : ℕ) (table : List ℕ) (r : Channels) where
+module _ (n : ℕ) (table p : List ℕ) (r : Channels) (p′ : List ℕ) where
   -- planned channels are a division, if the table is a strict order on the vertices
-  pub plan-sound : Plans n table r → r .refusal ≡ 0 → Order (leadsIn table) n → Sound (leadsIn table) n r
-  plan-sound p e o =
-      let t = taken (planRefusal n) (planned (leadsIn table) n) r p e in
-      sound-arranged (leadsIn table) n o (planned (leadsIn table) n) r (t .1) (planned-covers (leadsIn table) n (sized-small n (plan-sized n (t .0))) o)
+  pub plan-sound : Plans n table p r p′ → r .refusal ≡ 0 → Order (leadsIn table) n → Sound (leadsIn table) n (r .count) p′
+  plan-sound a e o =
+      let t = taken n (planRefusal n) (planned (leadsIn table) n) p r p′ a e in
+      sound-arranged (leadsIn table) n o (planned (leadsIn table) n) (r .count) p′ (t .1)
+      (planned-covers (leadsIn table) n (sized-small n (plan-sized n (t .0))) o)
 
   -- and no division has fewer parts, whatever the table
-  pub plan-least : Plans n table r → r .refusal ≡ 0 → (m : ℕ) (part : ℕ → ℕ) → Division (leadsIn table) n m part → r .count ≤ m
-  plan-least p e m part d =
-      let t = taken (planRefusal n) (planned (leadsIn table) n) r p e in
+  pub plan-least : Plans n table p r p′ → r .refusal ≡ 0 → (m : ℕ) (part : ℕ → ℕ) → Division (leadsIn table) n m part → r .count ≤ m
+  plan-least a e m part d =
+      let t = taken n (planRefusal n) (planned (leadsIn table) n) p r p′ a e in
       omega (arith, t .1 .counted, planned-least (leadsIn table) n (sized-small n (plan-sized n (t .0))) m part d)
 
   -- given channels that are taken are such a division too
-  pub given-sound : (field : List ℕ) → Gives n table field r → r .refusal ≡ 0 → Order (leadsIn table) n → Sound (leadsIn table) n r
-  given-sound field p e o =
-      let t = taken (givenRefusal (leadsIn table) n field) (linesOf field) r p e in
+  pub given-sound : (field : List ℕ) → Gives n table field p r p′ → r .refusal ≡ 0 → Order (leadsIn table) n
+      → Sound (leadsIn table) n (r .count) p′
+  given-sound field a e o =
+      let t = taken n (givenRefusal (leadsIn table) n field) (linesOf field) p r p′ a e in
       let q : Passed (leadsIn table) n field = given-passed (leadsIn table) n field (t .0) in
-      sound-arranged (leadsIn table) n o (linesOf field) r (t .1) (given-covers (leadsIn table) n field (q .known) (q .once) (q .none-lacks) (q .led))
+      sound-arranged (leadsIn table) n o (linesOf field) (r .count) p′ (t .1)
+      (given-covers (leadsIn table) n field (q .known) (q .once) (q .none-lacks) (q .led))

@@ -1,10 +1,13 @@
 -- What the public calls promise. Assumes nothing.
 use mathlib.Core.Path.{_≡_}
+use mathlib.Core.Logic.{_≢_}
 use mathlib.Core.Bool.{Bool, _||_}
-use mathlib.Core.List.{List, []}
-use Prim.Native.Nat.{ℕ}
+use mathlib.Core.List.{List}
+use Prim.Native.Nat.{ℕ, _*_, _≤_, _<_, min}
 use lib.Dec.{eqb, ltb}
+use lib.ListN.{length}
 use Rattle.counting.specs.Count.{choose}
+use Rattle.counting.specs.Quads.{quad}
 use Rattle.matching.specs.Search.{most}
 use Rattle.matching.specs.Chains.{planned}
 use Rattle.planning.specs.declared.Channels.{Channels}
@@ -27,13 +30,25 @@ givenRefusal leads n field =
     choose (repeats? (verticesOf field) || lacks? n (verticesOf field)) (λ _. 6) (λ _.
     choose (broken? leads (linesOf field)) (λ _. 7) (λ _. 0))))
 
--- r is the refusal, and the channels if it is 0, else none
-pub record Answers (refusal : ℕ) (ls : List (List ℕ)) (r : Channels) : Type 0 where
-  pub refused : r .refusal ≡ refusal
-  pub arranged : Arranged (choose (eqb refusal 0) (λ _. ls) (λ _. [])) r
+-- why n vertices are refused by size alone, with a list of so many bytes, or 0
+pub record Sized (n bytes r : ℕ) : Type 0 where
+  pub short : bytes < 4 * min n 128 → r ≡ 8
+  pub size : 4 * min n 128 ≤ bytes → r ≡ planRefusal n
+  pub fits : r ≡ 0 → (n ≢ 0) × (n ≤ 128) × (4 * n ≤ bytes)
 
-abbrev pub Plans : ℕ → List ℕ → Channels → Type 0
-Plans n table r = Answers (planRefusal n) (planned (leadsIn table) n) r
+-- r is 8 where the list has no room, and nothing changed; else the refusal, and where that is 0 the channels stand in p′. Nothing but
+-- channels and positions of the first n vertices has changed
+pub record Answers (n refusal : ℕ) (ls : List (List ℕ)) (p : List ℕ) (r : Channels) (p′ : List ℕ) : Type 0 where
+  pub refused : 4 * min n 128 ≤ length p → r .refusal ≡ refusal
+  pub short : length p < 4 * min n 128 → (r .refusal ≡ 8) × (p′ ≡ p)
+  pub none : r .refusal ≢ 0 → r .count ≡ 0
+  pub arranged : r .refusal ≡ 0 → Arranged n ls (r .count) p′
+  pub kept : (k v : ℕ) → 2 ≤ k → k < 4 → quad k p′ v ≡ quad k p v
+  pub past : (k v : ℕ) → k < 4 → n ≤ v → quad k p′ v ≡ quad k p v
+  pub long : length p′ ≡ length p
 
-abbrev pub Gives : ℕ → List ℕ → List ℕ → Channels → Type 0
-Gives n table field r = Answers (givenRefusal (leadsIn table) n field) (linesOf field) r
+abbrev pub Plans : ℕ → List ℕ → List ℕ → Channels → List ℕ → Type 0
+Plans n table p r p′ = Answers n (planRefusal n) (planned (leadsIn table) n) p r p′
+
+abbrev pub Gives : ℕ → List ℕ → List ℕ → List ℕ → Channels → List ℕ → Type 0
+Gives n table field p r p′ = Answers n (givenRefusal (leadsIn table) n field) (linesOf field) p r p′

@@ -6,8 +6,7 @@ use Prim.Native.Nat.{ℕ, _≤_}
 use lib.Dec.{eqb}
 use Rattle.counting.specs.Count.{choose}
 use Rattle.channels.specs.Given.{linesOf}
-use Rattle.planning.specs.Arranged.{Arranged}
-use Rattle.planning.specs.Laid.{tables}
+use Rattle.planning.specs.Arranged.{Arranged, Kept}
 use Rattle.channels.specs.Promise.{givenRefusal}
 use Rattle.channels.specs.declared.Walked.{Walked}
 
@@ -20,7 +19,8 @@ unfoldable pub settled : ℕ → ℕ → ℕ → ℕ
 settled fault vertices n = choose (eqb fault 6) (λ _. 6) (λ _. choose (eqb vertices n) (λ _. fault) (λ _. 6))
 
 -- the first check that fails, and the channels, at most n, where none does
-pub record Walks (leads : ℕ → ℕ → Bool) (n : ℕ) (field channel position : List ℕ) (r : Walked) : Type 0 where
+pub record Walks (leads : ℕ → ℕ → Bool) (n : ℕ) (field p : List ℕ) (r : Walked) (p′ : List ℕ) : Type 0 where
   pub answer : r .refusal ≡ givenRefusal leads n field
-  pub laid : r .refusal ≡ 0 → Arranged (linesOf field) (tables (r .count) channel position)
+  pub laid : r .refusal ≡ 0 → Arranged n (linesOf field) (r .count) p′
   pub few : r .refusal ≡ 0 → r .count ≤ n
+  pub kept : Kept n p p′

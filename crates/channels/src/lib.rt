@@ -4,17 +4,16 @@ ghost use mathlib.Core.Path.{_≡_};
 ghost use mathlib.Core.Logic.{_≢_};
 ghost use mathlib.Core.Bool.{Bool, _||_};
 ghost use mathlib.Core.List.{[]};
-ghost use Prim.Native.Nat.{_+_, _≤_, _<_};
+ghost use Prim.Native.Nat.{_+_, _*_, _≤_, _<_};
 ghost use lib.ListN.{length};
 ghost use lib.Dec.{eqb};
 ghost use Rattle.masks.specs.Sets.{member?, inserted};
 ghost use Rattle.search.specs.Table.{leadsIn};
 ghost use Rattle.planning.specs.Arranged.{Arranged};
-ghost use Rattle.planning.specs.Laid.{tables};
 ghost use Rattle.channels.specs.Given.{verticesOf, unknown?};
 ghost use Rattle.channels.specs.Laid.{openedAt, Lays};
 ghost use Rattle.channels.specs.Walked.{weighed, settled, Walks};
-ghost use Rattle.channels.specs.Promise.{Plans, Gives};
+ghost use Rattle.channels.specs.Promise.{Sized, Plans, Gives};
 use planning::Channels;
 
 // The most vertices.
@@ -27,7 +26,7 @@ fn wide(x: u8) -> usize
     x as usize
 }
 
-// ---- channels laid in lists
+// ---- channels laid in the list of places: four bytes a vertex, its channel first and then its position
 
 // The number of channels, with one more where the position is 0.
 fn opened(count: usize, p: usize) -> usize
@@ -42,39 +41,50 @@ fn opened(count: usize, p: usize) -> usize
 
 // Lays v at a position of the last channel, and of a new one where the position is 0, behind `laid` vertices; nothing where these are 128.
 // The number of channels then.
-fn lay<'c, 'p>(
-    channel: &'c mut [u8],
-    position: &'p mut [u8],
-    count: usize,
-    laid: usize,
-    p: usize,
-    v: usize,
-) -> usize
-    requires { ⌜ (length (now channel) ≡ 128) × (length (now position) ≡ 128) × (count ≤ laid) × (p ≤ laid) × (0 < laid → 0 < count) × (v < 128) ⌝ }
-    ensures { λ r. ⌜ Lays laid p v (tables count (now (channel .entry)) (now (position .entry))) (tables r (now (channel .exit)) (now (position .exit))) ⌝ }
+fn lay(places: &mut [u8], count: usize, laid: usize, p: usize, v: usize) -> usize
+    requires { ⌜ (4 * v + 4 ≤ length (now places)) × (count ≤ laid) × (p ≤ laid) × (0 < laid → 0 < count) × (v < 128) ⌝ }
+    ensures { λ r. ⌜ Lays laid p v count (now (places .entry)) r (now (places .exit)) ⌝ }
 {
     if 128 <= laid {
         return count;
     }
     let c = opened(count, p);
-    channel[v] = (c - 1) as u8;
-    position[v] = p as u8;
+    places[4 * v] = (c - 1) as u8;
+    places[4 * v + 1] = p as u8;
     c
 }
 
 // ---- planned channels
 
-// Plans the channels of n vertices by the table. Refused with 2 (no vertex, or more than 128), and then there is none.
-pub fn plan(n: usize, table: &[u64]) -> Channels
-    ensures { λ r. ⌜ Plans n (now (table .entry)) r ⌝ }
+// Why channels of n vertices are refused by size alone, with a list of so many bytes, or 0.
+fn sized(n: usize, bytes: usize) -> u8
+    ensures { λ r. ⌜ Sized n bytes r ⌝ }
 {
-    if n == 0 {
-        return planning::empty(2);
-    }
     if MOST < n {
-        return planning::empty(2);
+        if bytes < 4 * MOST {
+            return 8;
+        }
+        return 2;
     }
-    planning::chained(n, table)
+    if bytes < 4 * n {
+        return 8;
+    }
+    if n == 0 {
+        return 2;
+    }
+    0
+}
+
+// Plans the channels of n vertices by the table. Refused with 8 (a list without room) or 2 (no vertex, or more than 128), the first that
+// applies, and then there is none.
+pub fn plan(n: usize, table: &[u64], places: &mut [u8]) -> Channels
+    ensures { λ r. ⌜ Plans n (now (table .entry)) (now (places .entry)) r (now (places .exit)) ⌝ }
+{
+    let refusal = sized(n, places.len());
+    if refusal != 0 {
+        return planning::empty(refusal);
+    }
+    planning::chained(n, table, places)
 }
 
 // ---- given channels: a field of lines, each a byte k and then k vertices
@@ -150,17 +160,11 @@ struct Walked {
     count: usize,
 }
 
-// The checks of the field and the channels' tables, in one walk over its bytes. Where it answers 0 the tables are those of the channels;
-// else what they hold is not said.
-fn walk<'a, 'c, 'p>(
-    n: usize,
-    table: &'a [u64],
-    field: &'a [u8],
-    channel: &'c mut [u8],
-    position: &'p mut [u8],
-) -> Walked
-    requires { ⌜ (n ≢ 0) × (n ≤ 128) × Arranged [] (tables 0 (now channel) (now position)) ⌝ }
-    ensures { λ r. ⌜ Walks (leadsIn (now (table .entry))) n (now (field .entry)) (now (channel .exit)) (now (position .exit)) r ⌝ }
+// The checks of the field and the channels, laid where no vertex has one yet, in one walk over its bytes. Where it answers 0 the channels
+// are those of the field; else what is laid is not said.
+fn walk<'a, 'p>(n: usize, table: &'a [u64], field: &'a [u8], places: &'p mut [u8]) -> Walked
+    requires { ⌜ (n ≢ 0) × (n ≤ 128) × (4 * n ≤ length (now places)) × Arranged n [] 0 (now places) ⌝ }
+    ensures { λ r. ⌜ Walks (leadsIn (now (table .entry))) n (now (field .entry)) (now (places .entry)) r (now (places .exit)) ⌝ }
 {
     let mut seen = [0u64; 4];
     let mut fault: u8 = 0;
@@ -186,7 +190,7 @@ fn walk<'a, 'c, 'p>(
                 };
             }
             fault = weigh(table, &mut seen, last, v, fault);
-            count = lay(channel, position, count, vertices, p, v);
+            count = lay(places, count, vertices, p, v);
             last = v;
             vertices += 1;
             p += 1;
@@ -198,27 +202,23 @@ fn walk<'a, 'c, 'p>(
     Walked { refusal, count }
 }
 
-// The channels of the field, in its order, for n vertices and a table. Refused with 2 (no vertex, or more than 128), 3 (a vertex of n or
-// more), 6 (a vertex repeated or lacking) or 7 (a vertex not led to by the one before it), the first that applies; then there is none.
-pub fn given<'a>(n: usize, table: &'a [u64], field: &'a [u8]) -> Channels
-    ensures { λ r. ⌜ Gives n (now (table .entry)) (now (field .entry)) r ⌝ }
+// The channels of the field, in its order, for n vertices and a table. Refused with 8 (a list without room), 2 (no vertex, or more than
+// 128), 3 (a vertex of n or more), 6 (a vertex repeated or lacking) or 7 (a vertex not led to by the one before it), the first that
+// applies; then there is none.
+pub fn given<'a>(n: usize, table: &'a [u64], field: &'a [u8], places: &mut [u8]) -> Channels
+    ensures { λ r. ⌜ Gives n (now (table .entry)) (now (field .entry)) (now (places .entry)) r (now (places .exit)) ⌝ }
 {
-    if n == 0 {
-        return planning::empty(2);
+    let refusal = sized(n, places.len());
+    if refusal != 0 {
+        return planning::empty(refusal);
     }
-    if MOST < n {
-        return planning::empty(2);
-    }
-    let mut channel = [0u8; 128];
-    let mut position = [0u8; 128];
-    let r = walk(n, table, field, &mut channel, &mut position);
+    planning::unplace(n, places);
+    let r = walk(n, table, field, places);
     if r.refusal != 0 {
         return planning::empty(r.refusal);
     }
     Channels {
         refusal: 0,
         count: r.count as u8,
-        channel,
-        position,
     }
 }

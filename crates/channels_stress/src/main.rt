@@ -20,9 +20,10 @@ fn slanted(rows: usize, first: usize) -> [u64; 256] {
 
 // The number of channels, planned as often as asked.
 fn counted(table: [u64; 256], often: usize) -> u64 {
+    let mut places = [0u8; 512];
     let mut last: u64 = 0;
     for i in 0..often {
-        let r = channels::plan(128, &table);
+        let r = channels::plan(128, &table, &mut places);
         last = r.count as u64;
     }
     last

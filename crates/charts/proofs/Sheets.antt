@@ -5,6 +5,7 @@ use mathlib.Core.List.{List}
 use Prim.Native.Nat.{ℕ, _+_, _-_, _*_, _/_, _<_, _≤_, min}
 use native.Mathlib.Omega.{arith}
 use lib.ListN.{length, getD, take, drop, replicate}
+use Rattle.counting.specs.Quads.{quad}
 use Rattle.counting.proofs.Zeros.{zeros}
 use Rattle.masks.specs.Sets.{member?}
 use Rattle.reach.proofs.Ends.{tail-at, head-at}
@@ -118,7 +119,7 @@ module _ (n : ℕ) (ends : List ℕ) (given : Bool) (field : List ℕ) (p : Plan
   bundles-low = let f = few in omega (arith, bundles-few c p t l)
 
   -- `left` is made of the channels by `prefixes::prefixes`
-  module _ (left : List ℕ) (lefts : Prefixes 2 (min (min n 128) (length (p .channel))) (λ v. getD (p .channel) v 0)
+  module _ (left : List ℕ) (lefts : Prefixes 2 (min (min n 128) (length (t .places) / 4)) (quad 0 (t .places))
       (lastSet (p .channels) 258) left) (long : length (t .used) ≡ 128) where
     abbrev sheet : Sheet
     sheet = sheetOf n m p t left
@@ -142,7 +143,7 @@ module _ (n : ℕ) (ends : List ℕ) (given : Bool) (field : List ℕ) (p : Plan
       head-same = sym (head-at ends e)
 
       abbrev among : ℕ → ℕ → ℕ → Kind
-      among k = kindBy (p .channel) (p .position) (t .number) (take k (t .column)) (take k (p .row)) (t .below) left
+      among k = kindBy (t .number) (take k (t .column)) (t .places) (t .below) left
 
       kind-same : kindAt sheet (getD ends (2 * e) 0) (getD ends (2 * e + 1) 0) ≡ kindBetween c (planOf c) (tailOf c e) (headOf c e)
       unfolding kindAt graphContent
@@ -200,8 +201,8 @@ module _ (n : ℕ) (ends : List ℕ) (given : Bool) (field : List ℕ) (p : Plan
 
 -- the lists that are lent to the planner
 abbrev cleared : Lists
-cleared = lists (replicate 256 0) (replicate 258 0) (replicate 256 0) (replicate 256 0) (replicate 1024 0) (replicate 256 0)
-    (replicate 128 0) (replicate 128 0)
+cleared = lists (replicate 256 0) (replicate 258 0) (replicate 256 0) (replicate 256 0) (replicate 512 0) (replicate 1024 0)
+    (replicate 256 0) (replicate 128 0) (replicate 128 0)
 
 -- .. have room for every graph
 roomy : (n : ℕ) → Roomy n cleared
@@ -209,10 +210,11 @@ roomy n =
     let one : min n 128 ≤ 128 = omega arith in
     let two : 2 * min n 128 ≤ 256 = omega arith in
     let more : 2 * min n 128 + 2 ≤ 258 = omega arith in
+    let four : 4 * min n 128 ≤ 512 = omega arith in
     let eight : 8 * min n 128 ≤ 1024 = omega arith in
     let all : 128 ≤ 128 = omega arith in
     record {
-      masks = record { edges = two; below = more; table = two; longer = two };
+      masks = record { edges = two; below = more; table = two; longer = two; places = four };
       spans = eight;
       number = two;
       used = all;

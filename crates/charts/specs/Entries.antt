@@ -14,24 +14,22 @@ use Rattle.charts.specs.declared.Sheet.{Sheet}
 
 unfoldable pub vertexAt : Sheet → ℕ → VertexEntry
 vertexAt d v = record {
-  channel = getD (d .channel) v 0;
-  position = getD (d .position) v 0;
+  channel = quad 0 (d .places) v;
+  position = quad 1 (d .places) v;
   column = getD (d .column) v 0;
-  row = getD (d .row) v 0;
-  descendants = getD (d .descendants) v 0;
+  row = quad 2 (d .places) v;
+  descendants = quad 3 (d .places) v;
 }
 
 -- of the edge from u to v, by tables of the vertices; the bundle of the edges into v is at 2 v, that of the edges out of u at 2 u + 1
-abbrev pub kindBy : List ℕ → List ℕ → List ℕ → List ℕ → List ℕ → List ℕ → List ℕ → ℕ → ℕ → Kind
-kindBy channel position number columns rows below left u v =
-    kindAmong (getD channel u 0) (getD channel v 0) (getD position u 0) (getD position v 0)
-    (getD number (2 * v) 0) (getD number (2 * u + 1) 0) columns rows below left u v
+abbrev pub kindBy : List ℕ → List ℕ → List ℕ → List ℕ → List ℕ → ℕ → ℕ → Kind
+kindBy number columns places below left u v =
+    kindAmong (quad 0 places u) (quad 0 places v) (quad 1 places u) (quad 1 places v)
+    (getD number (2 * v) 0) (getD number (2 * u + 1) 0) columns places below left u v
 
 -- .. by a sheet, whose tables have 128 vertices
 unfoldable pub kindAt : Sheet → ℕ → ℕ → Kind
-kindAt d u v =
-    kindBy (d .channel) (d .position) (d .number) (take (min (d .vertices) 128) (d .column)) (take (min (d .vertices) 128) (d .row))
-    (d .below) (d .left) u v
+kindAt d u v = kindBy (d .number) (take (min (d .vertices) 128) (d .column)) (d .places) (d .below) (d .left) u v
 
 unfoldable pub transitive? : Sheet → ℕ → ℕ → Bool
 transitive? d u v = member? (d .longer) (2 * u) v

@@ -2,9 +2,10 @@
 use mathlib.Core.Path.{_≡_}
 use mathlib.Core.Bool.{Bool}
 use mathlib.Core.List.{List, []}
-use Prim.Native.Nat.{ℕ, _*_, _≤_, _<_, min}
+use Prim.Native.Nat.{ℕ, _*_, _/_, _≤_, _<_, min}
 use lib.ListN.{length, getD, take, drop, replicate}
 use Rattle.counting.specs.Count.{count}
+use Rattle.counting.specs.Quads.{quad}
 use Rattle.lists.specs.Filled.{Filled}
 use Rattle.record.specs.Checks.{Content, edgesOf}
 use Rattle.fields.specs.Layout.{layoutOf}
@@ -36,11 +37,8 @@ blankOf k = record {
   channels = 0;
   width = 0;
   tracks = replicate 128 0;
-  channel = replicate 128 0;
-  position = replicate 128 0;
+  places = replicate 512 0;
   column = replicate 128 0;
-  row = replicate 128 0;
-  descendants = replicate 128 0;
   longer = replicate 256 0;
   below = replicate 258 0;
   left = replicate 258 0;
@@ -59,11 +57,8 @@ sheetOf n m p t left = record {
   channels = p .channels;
   width = p .width;
   tracks = t .used;
-  channel = p .channel;
-  position = p .position;
+  places = t .places;
   column = t .column;
-  row = p .row;
-  descendants = p .descendants;
   longer = t .longer;
   below = t .below;
   left = left;
@@ -74,7 +69,7 @@ sheetOf n m p t left = record {
 -- .. and the sets of the vertices left of each channel
 pub record Drafted (n m : ℕ) (p : Plan) (t : Lists) (d : Sheet) : Type 0 where
   pub tables : d ≡ sheetOf n m p t (d .left)
-  pub lefts : Prefixes 2 (min (min n 128) (length (p .channel))) (λ v. getD (p .channel) v 0) (lastSet (p .channels) 258) (d .left)
+  pub lefts : Prefixes 2 (min (min n 128) (length (t .places) / 4)) (quad 0 (t .places)) (lastSet (p .channels) 258) (d .left)
 
 -- the counts are within the tables
 pub record Bounded (d : Sheet) : Type 0 where

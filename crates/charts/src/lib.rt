@@ -34,9 +34,10 @@ pub struct Chart {
     pub tracks: [u16; 128],
 }
 
-// What a chart's counts and entries are made of, but for the ends of the edges: the places of the vertices, the pairs with a vertex
-// between, the sets of the vertices below each row and left of each channel, the bundle of the edges into each vertex and of those out of
-// it, in turn, and the channel, first row, last row and track of each bundle, in turn.
+// What a chart's counts and entries are made of, but for the ends of the edges: the channel of each vertex, its position there, its row and
+// how many vertices it reaches, in turn; the columns of the vertices, the pairs with a vertex between, the sets of the vertices below each
+// row and left of each channel, the bundle of the edges into each vertex and of those out of it, in turn, and the channel, first row, last
+// row and track of each bundle, in turn.
 pub struct Sheet {
     pub refusal: u8,
     pub vertices: usize,
@@ -46,11 +47,8 @@ pub struct Sheet {
     pub channels: u8,
     pub width: u16,
     pub tracks: [u16; 128],
-    pub channel: [u8; 128],
-    pub position: [u8; 128],
+    pub places: [u8; 512],
     pub column: [u16; 128],
-    pub row: [u8; 128],
-    pub descendants: [u8; 128],
     pub longer: [u64; 256],
     pub below: [u64; 258],
     pub left: [u64; 258],
@@ -101,11 +99,11 @@ fn vertex_at(d: Sheet, i: usize) -> VertexEntry
     ensures { λ r. ⌜ r ≡ vertexAt d i ⌝ }
 {
     VertexEntry {
-        channel: d.channel[i],
-        position: d.position[i],
+        channel: d.places[4 * i],
+        position: d.places[4 * i + 1],
         column: d.column[i],
-        row: d.row[i],
-        descendants: d.descendants[i],
+        row: d.places[4 * i + 2],
+        descendants: d.places[4 * i + 3],
     }
 }
 
@@ -126,66 +124,51 @@ fn kind_of(code: u8, value: u16, row: u8) -> Kind
 
 // The code of the kind of the edge u -> v.
 fn code_at<'a>(
-    channel: &'a [u8],
-    position: &'a [u8],
     number: &'a [u16],
     columns: &'a [u16],
-    rows: &'a [u8],
+    places: &'a [u8],
     below: &'a [u64],
     left: &'a [u64],
-    u: usize,
-    v: usize,
+    u: u8,
+    v: u8,
 ) -> Code
-    requires { ⌜ (u < 256) × (v < 256) ⌝ }
-    ensures { λ r. ⌜ r ≡ codeOf (kindBy (now (channel .entry)) (now (position .entry)) (now (number .entry)) (now (columns .entry)) (now (rows .entry)) (now (below .entry)) (now (left .entry)) u v) ⌝ }
+    ensures { λ r. ⌜ r ≡ codeOf (kindBy (now (number .entry)) (now (columns .entry)) (now (places .entry)) (now (below .entry)) (now (left .entry)) u v) ⌝ }
 {
-    let c = byte_at(channel, u);
-    let d = byte_at(channel, v);
-    let p = byte_at(position, u);
-    let q = byte_at(position, v);
-    let into = number_at(number, 2 * v);
-    let out_of = number_at(number, 2 * u + 1);
-    kinds::kind_of(c, d, p, q, into, out_of, columns, rows, below, left, u, v)
+    let i = wide(u);
+    let j = wide(v);
+    let c = byte_at(places, 4 * i);
+    let d = byte_at(places, 4 * j);
+    let p = byte_at(places, 4 * i + 1);
+    let q = byte_at(places, 4 * j + 1);
+    let into = number_at(number, 2 * j);
+    let out_of = number_at(number, 2 * i + 1);
+    kinds::kind_of(c, d, p, q, into, out_of, columns, places, below, left, u, v)
 }
 
 // The kind of the edge u -> v.
-fn kind_at(d: Sheet, u: usize, v: usize) -> Kind
-    requires { ⌜ (u < 256) × (v < 256) ⌝ }
+fn kind_at(d: Sheet, u: u8, v: u8) -> Kind
     ensures { λ r. ⌜ r ≡ kindAt d u v ⌝ }
 {
     let n = least(d.vertices, 128);
     let column = d.column;
-    let row = d.row;
     let columns = &column[..];
-    let rows = &row[..];
-    let k = code_at(
-        &d.channel,
-        &d.position,
-        &d.number,
-        &columns[..n],
-        &rows[..n],
-        &d.below,
-        &d.left,
-        u,
-        v,
-    );
+    let k = code_at(&d.number, &columns[..n], &d.places, &d.below, &d.left, u, v);
     kind_of(k.code, k.value, k.row)
 }
 
 // Whether the edge u -> v is transitive (document 01: implied).
-fn mark_at(d: Sheet, u: usize, v: usize) -> bool
-    requires { ⌜ u < 256 ⌝ }
+fn mark_at(d: Sheet, u: u8, v: u8) -> bool
     ensures { λ r. ⌜ r ≡ transitive? d u v ⌝ }
 {
-    masks::contains(&d.longer, 2 * u, v)
+    masks::contains(&d.longer, 2 * wide(u), wide(v))
 }
 
 fn edge_at(ends: &[u8], d: Sheet, i: usize) -> EdgeEntry
     requires { ⌜ i < 4096 ⌝ }
     ensures { λ r. ⌜ r ≡ edgeAt d (now (ends .entry)) i ⌝ }
 {
-    let u = wide(byte_at(ends, 2 * i));
-    let v = wide(byte_at(ends, 2 * i + 1));
+    let u = byte_at(ends, 2 * i);
+    let v = byte_at(ends, 2 * i + 1);
     let kind = kind_at(d, u, v);
     let transitive = mark_at(d, u, v);
     EdgeEntry {
@@ -222,11 +205,8 @@ fn blank(refusal: u8) -> Sheet
         channels: 0,
         width: 0,
         tracks: [0; 128],
-        channel: [0; 128],
-        position: [0; 128],
+        places: [0; 512],
         column: [0; 128],
-        row: [0; 128],
-        descendants: [0; 128],
         longer: [0; 256],
         below: [0; 258],
         left: [0; 258],
@@ -243,19 +223,16 @@ fn drafted(
     p: Plan,
     below: [u64; 258],
     longer: [u64; 256],
+    places: [u8; 512],
     spans: [u8; 1024],
     number: [u16; 256],
     tracks: [u16; 128],
     column: [u16; 128],
 ) -> Sheet
-    ensures { λ r. ⌜ ((edges table : List ℕ) → Drafted n m p (lists edges below table longer spans number tracks column) r) ⌝ }
+    ensures { λ r. ⌜ ((edges table : List ℕ) → Drafted n m p (lists edges below table longer places spans number tracks column) r) ⌝ }
 {
-    let channel = p.channel;
-    let position = p.position;
-    let row = p.row;
-    let descendants = p.descendants;
     let mut left = [0; 258];
-    prefixes::prefixes(&channel, n, wide(p.channels), &mut left);
+    prefixes::prefixes(&places, n, wide(p.channels), &mut left);
     Sheet {
         refusal: 0,
         vertices: n,
@@ -265,11 +242,8 @@ fn drafted(
         channels: p.channels,
         width: p.width,
         tracks,
-        channel,
-        position,
+        places,
         column,
-        row,
-        descendants,
         longer,
         below,
         left,
@@ -294,6 +268,7 @@ fn sheet_of_graph<'a>(
     let mut below = [0; 258];
     let mut table = [0; 256];
     let mut longer = [0; 256];
+    let mut places = [0; 512];
     let mut spans = [0; 1024];
     let mut number = [0; 256];
     let mut used = [0; 128];
@@ -307,6 +282,7 @@ fn sheet_of_graph<'a>(
         &mut below,
         &mut table,
         &mut longer,
+        &mut places,
         &mut spans,
         &mut number,
         &mut used,
@@ -325,7 +301,7 @@ fn sheet_of_graph<'a>(
     if bundles < p.bundles {
         return blank(8);
     }
-    drafted(n, m, p, below, longer, spans, number, used, column)
+    drafted(n, m, p, below, longer, places, spans, number, used, column)
 }
 
 // Of a record.

@@ -1,4 +1,4 @@
--- A vertex is finished where its successors are: its set is the union of theirs and of its edges. Assumes nothing.
+-- A vertex is finished where its successors are: its set is the union of theirs and of its edges. The list c has the places. Assumes nothing.
 use mathlib.Core.Path.{_≡_, refl, sym, ap₂, _∙_, subst}
 use mathlib.Core.Logic.{_≢_, _⊎_, inl, inr, ⊎-elim, _↔_}
 use mathlib.Core.List.{List, [], _∷_}
@@ -9,6 +9,7 @@ use lib.Count.{ones}
 use lib.ListN.{length, getD, set, length-set}
 use lib.Seq.{getD-set-same, getD-set-other}
 use Rattle.counting.specs.Count.{sum}
+use Rattle.counting.specs.Quads.{quad}
 use Rattle.counting.proofs.Sums.{sum-ext}
 use Rattle.masks.specs.Sets.{at}
 use Rattle.masks.specs.Pairs.{inPair}
@@ -60,23 +61,23 @@ pair-count a b ha hb = sym (count-masks (a ∷ b ∷ []) 0 fit 2 ∙ omega arith
 
 -- ---- what is finished stays so where the lists stay
 
-pub finished-same : (e : List ℕ) (w : ℕ) (t l c t′ l′ c′ : List ℕ) → Same w t l c t′ l′ c′ → Finished e t l c w → Finished e t′ l′ c′ w
-finished-same e w t l c t′ l′ c′ s f = record {
+pub finished-same : (e : List ℕ) (w : ℕ) (t l c t′ l′ c′ : List ℕ) → Same w t l t′ l′ → quad 3 c′ w ≡ quad 3 c w → Finished e t l c w
+    → Finished e t′ l′ c′ w
+finished-same e w t l c t′ l′ c′ s o f = record {
   reached = λ v h. subst (λ (x : ℕ). x ≡ 1 ↔ Reaches (Arc e) w v) (sym (same-bits t t′ w (s .low) (s .high) v h)) (f .reached v h);
   farther = λ v h. subst (λ (x : ℕ). x ≡ 1 ↔ Longer (Arc e) w v) (sym (same-bits l l′ w (s .low-far) (s .high-far) v h)) (f .farther v h);
-  counted = s .number ∙ f .counted ∙ sym (sum-ext 128 (at 2 t′ w) (at 2 t w) (λ v h. same-bits t t′ w (s .low) (s .high) v h));
+  counted = o ∙ f .counted ∙ sym (sum-ext 128 (at 2 t′ w) (at 2 t w) (λ v h. same-bits t t′ w (s .low) (s .high) v h));
 }
 
-pub same-refl : (w : ℕ) (t l c : List ℕ) → Same w t l c t l c
-same-refl w t l c = record { low = refl; high = refl; low-far = refl; high-far = refl; number = refl }
+pub same-refl : (w : ℕ) (t l : List ℕ) → Same w t l t l
+same-refl w t l = record { low = refl; high = refl; low-far = refl; high-far = refl }
 
-pub same-trans : (w : ℕ) (t l c t′ l′ c′ t″ l″ c″ : List ℕ) → Same w t l c t′ l′ c′ → Same w t′ l′ c′ t″ l″ c″ → Same w t l c t″ l″ c″
-same-trans w t l c t′ l′ c′ t″ l″ c″ p q = record {
+pub same-trans : (w : ℕ) (t l t′ l′ t″ l″ : List ℕ) → Same w t l t′ l′ → Same w t′ l′ t″ l″ → Same w t l t″ l″
+same-trans w t l t′ l′ t″ l″ p q = record {
   low = q .low ∙ p .low;
   high = q .high ∙ p .high;
   low-far = q .low-far ∙ p .low-far;
   high-far = q .high-far ∙ p .high-far;
-  number = q .number ∙ p .number;
 }
 
 -- ---- one vertex
@@ -87,8 +88,8 @@ module _ (e t : List ℕ) (u low high : ℕ) (hu : u < 128) (el : low ≡ getD e
   arc w hw m = (hu, hw, sym (ap₂ (λ (x y : ℕ). inPair x y w) el eh ∙ pair-at e u w hw) ∙ m)
 
   -- the table has masks for u's successors
-  pub long-law : Ample e t → Long t low 0 × Long t high 64
-  long-law ample = long-both t low high (λ w hw m. ample .room u w (arc w hw m))
+  pub long-law : Ample e t → Long 2 t low 0 × Long 2 t high 64
+  long-law ample = long-both 2 t low high (λ w hw m. ample .room u w (arc w hw m))
 
   -- the sets of u's successors hold the sets of those of them that they have
   pub nested-law : ((w : ℕ) → Arc e u w → Reached e t w) → Nested t low high
@@ -127,20 +128,15 @@ module _ (e t l c : List ℕ) (u low high p q : ℕ) (hu : u < 128) (el : low �
         (⊎-elim (λ a. inl (edge-bit v h ∙ a .2)) (λ a. inr (far-bit v h .1 a)) (split v r)),
   )
 
-  pub vertex-law : (t′ l′ c′ : List ℕ) → Stored t u (bitOr low p) (bitOr high q) t′ → Stored l u p q l′ → getD c′ u 0 ≡ ones (bitOr low p) + ones (bitOr high q)
-      → ((w : ℕ) → w ≢ u → getD c′ w 0 ≡ getD c w 0) → bitOr low p < 2 ^ 64 → bitOr high q < 2 ^ 64 → Vertex e u t l c t′ l′ c′
-  vertex-law t′ l′ c′ st sl sc other fa fb = record {
+  pub vertex-law : (t′ l′ c′ : List ℕ) → Stored t u (bitOr low p) (bitOr high q) t′ → Stored l u p q l′ → quad 3 c′ u ≡ ones (bitOr low p) + ones (bitOr high q)
+      → ((k v : ℕ) → k < 4 → (k ≡ 3 → v ≢ u) → quad k c′ v ≡ quad k c v) → bitOr low p < 2 ^ 64 → bitOr high q < 2 ^ 64 → Vertex e u t l c t′ l′ c′
+  vertex-law t′ l′ c′ st sl sc rest fa fb = record {
     own = record {
       reached = λ v h. subst (λ (x : ℕ). x ≡ 1 ↔ Reaches (Arc e) u v) (sym (stored-at t u _ _ t′ st v h)) (near-bit v h);
       farther = λ v h. subst (λ (x : ℕ). x ≡ 1 ↔ Longer (Arc e) u v) (sym (stored-at l u _ _ l′ sl v h)) (far-bit v h);
       counted = sc ∙ pair-count (bitOr low p) (bitOr high q) fa fb
           ∙ sym (sum-ext 128 (at 2 t′ u) (inPair (bitOr low p) (bitOr high q)) (λ v h. stored-at t u _ _ t′ st v h));
     };
-    others = λ w d. record {
-      low = st .low-other w d;
-      high = st .high-other w d;
-      low-far = sl .low-other w d;
-      high-far = sl .high-other w d;
-      number = other w d;
-    };
+    others = λ w d. record { low = st .low-other w d; high = st .high-other w d; low-far = sl .low-other w d; high-far = sl .high-other w d };
+    rest = rest;
   }

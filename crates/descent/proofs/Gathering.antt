@@ -3,6 +3,7 @@ use mathlib.Core.Path.{_≡_, sym, ap, _∙_, subst}
 use mathlib.Core.Logic.{_≢_, _⊎_, inl, inr, ⊎-elim}
 use mathlib.Core.List.{List}
 use Prim.Native.Nat.{ℕ, _+_, _-_, _*_, _^_, _≤_, _<_, max}
+use native.Mathlib.Nat.{le-trans, mul-suc, mul-le-mul-left}
 use native.Mathlib.Omega.{arith}
 use lib.Bits.{bitOr}
 use lib.Count.{trailingZeros}
@@ -17,13 +18,19 @@ use Rattle.masks.proofs.Visiting.{Visited, visited-none, visited-all, visited-m
 use Rattle.masks.proofs.Pairing.{pair-lt, pair-low, pair-high, pair-zero, pair-or, pair-at, max-split, max-make}
 use Rattle.descent.specs.Members.{Long, Gathered, Pictured}
 
--- a table that has masks for the members of a set has them for those of its two masks
-pub long-both : (t : List ℕ) (low high : ℕ) → ((v : ℕ) → v < 128 → inPair low high v ≡ 1 → 2 * v + 2 ≤ length t)
-    → Long t low 0 × Long t high 64
-long-both t low high h = (
-  record { room = λ j l e. let k = h j (omega arith) (pair-low low high j l ∙ e) in omega arith },
+-- a list that has numbers for the members of a set has them for those of its two masks
+pub long-both : (w : ℕ) (t : List ℕ) (low high : ℕ) → ((v : ℕ) → v < 128 → inPair low high v ≡ 1 → w * v + w ≤ length t)
+    → Long w t low 0 × Long w t high 64
+long-both w t low high h = (
+  record { room = λ j l e. let z : 0 + j ≡ j = omega arith in rw z (h j (omega arith) (pair-low low high j l ∙ e)) },
   record { room = λ j l e. h (64 + j) (omega arith) (pair-high low high j l ∙ e) },
 )
+
+-- and so has a list of numbers for n vertices, where the members are among these
+pub long-below : (w : ℕ) (t : List ℕ) (n low high : ℕ) → w * n ≤ length t → ((v : ℕ) → v < 128 → inPair low high v ≡ 1 → v < n)
+    → Long w t low 0 × Long w t high 64
+long-below w t n low high h inside =
+    long-both w t low high (λ v hv i. le-trans (subst (λ (x : ℕ). x ≤ w * n) (mul-suc w v) (mul-le-mul-left w (inside v hv i))) h)
 
 -- the set of a member is in the set a, b
 abbrev pub Held : List ℕ → ℕ → ℕ → ℕ → ℕ → Type 0

@@ -8,10 +8,10 @@ use native.Mathlib.Nat.{lt-of-lt-of-le}
 use native.Mathlib.Omega.{arith}
 use borrow.Author.Tests.{eq-eqb, eqb-true}
 use lib.Dec.{eqb}
-use lib.ListN.{length, getD}
+use lib.ListN.{getD}
 use Rattle.counting.specs.Count.{count, some}
+use Rattle.counting.specs.Quads.{quad}
 use Rattle.counting.proofs.Truth.{lt-or-le, true-or-false, same-truth}
-use Rattle.counting.proofs.Sums.{sum-zero}
 use Rattle.counting.proofs.Somes.{some-found, some-none}
 use Rattle.masks.specs.Sets.{at}
 use Rattle.masks.specs.Pairs.{inPair}
@@ -80,8 +80,8 @@ module _ (n : ℕ) (tails heads e : List ℕ) (accepted : refusal n tails heads 
       (λ q. edge-decided tails heads u v .0 (b .0 (eqb-true _ _ q) .1))
       (λ q. eq-eqb _ _ (b .1 (accepted, edge-decided tails heads u v .1 q)))
 
-  module _ (r : ℕ) (rows s below : List ℕ) (g : Laid e n r rows s below) (some : r ≢ 0) where
-    pub graph-rows : (v : ℕ) → v < n → getD s v 0 ≡ row (edge? tails heads) n v
+  module _ (r : ℕ) (p p′ below : List ℕ) (g : Laid e n r p p′ below) (some : r ≢ 0) where
+    pub graph-rows : (v : ℕ) → v < n → quad 2 p′ v ≡ row (edge? tails heads) n v
     graph-rows v h = g .rule some v h ∙ row-same (edgeIn e) (edge? tails heads) n same-edges v h
 
     pub graph-used : r ≡ rowsUsed (edge? tails heads) n
@@ -96,7 +96,7 @@ module _ (n : ℕ) (tails heads e : List ℕ) (accepted : refusal n tails heads 
         )
 
   module _ (t l c t′ l′ c′ : List ℕ) (g : Closed e n t l c t′ l′ c′)
-      (no-t : (i : ℕ) → getD t i 0 ≡ 0) (no-l : (i : ℕ) → getD l i 0 ≡ 0) (no-c : (i : ℕ) → getD c i 0 ≡ 0) where
+      (no-t : (i : ℕ) → getD t i 0 ≡ 0) (no-l : (i : ℕ) → getD l i 0 ≡ 0) where
     blank : (s : List ℕ) (u v : ℕ) → v < 128 → getD s (2 * u) 0 ≡ 0 → getD s (2 * u + 1) 0 ≡ 0 → at 2 s u v ≡ 0
     blank s u v h p q = sym (pair-at s u v h) ∙ ap₂ (λ (x y : ℕ). inPair x y v) p q ∙ pair-zero v h
 
@@ -114,15 +114,10 @@ module _ (n : ℕ) (tails heads e : List ℕ) (accepted : refusal n tails heads 
         ((λ i. absurd (omega arith)), λ p. absurd (let b = begins u v (p .1) in omega arith)))
         (lt-or-le u n)
 
-    pub graph-counts : (u : ℕ) → u < 128 → getD c′ u 0 ≡ count 128 (reachable? n tails heads u)
-    graph-counts u hu =
-        ⊎-elim
-        (λ k. g .counted u k ∙ sym (reached-count e n graph-inside t′ u (λ v hv. g .bits u v k hv)))
-        (λ k.
-        let o = g .others u k in
-        (o .number ∙ no-c u) ∙ sym (sum-zero 128 (at 2 t′ u) (λ v hv. blank t′ u v hv (o .low ∙ no-t _) (o .high ∙ no-t _))))
-        (lt-or-le u n)
-        ∙ same-count n tails heads t′ graph-bits u hu
+    pub graph-counts : (u : ℕ) → u < n → quad 3 c′ u ≡ count 128 (reachable? n tails heads u)
+    graph-counts u h =
+        g .counted u h ∙ sym (reached-count e n graph-inside t′ u (λ v hv. g .bits u v h hv))
+        ∙ same-count n tails heads t′ graph-bits u (lt-of-lt-of-le h small)
 
     -- routes of two edges or more
     pub graph-longer : (u v : ℕ) → u < 128 → v < 128 → at 2 l′ u v ≡ 1 ↔ Longer (Edge tails heads) u v
@@ -139,8 +134,8 @@ module _ (n : ℕ) (tails heads e : List ℕ) (accepted : refusal n tails heads 
         (lt-or-le u n)
 
     -- the graph's reachability
-    pub graph-closure : length c′ ≡ 128 → Closure n tails heads (record { edges = e; table = t′; counts = c′ })
-    graph-closure lc = record { edge-bits = edges; bits = graph-bits; vertices = lc; counted = graph-counts }
+    pub graph-closure : Closure n tails heads (record { edges = e; table = t′; counts = quad 3 c′ })
+    graph-closure = record { edge-bits = edges; bits = graph-bits; counted = graph-counts }
 
     -- the table followed by itself
     pub graph-composed : Composed t′ l′

@@ -1,11 +1,12 @@
--- The descent row by row: a vertex's successors have higher rows. Assumes nothing.
-use mathlib.Core.Path.{_≡_, sym, ap, ap₂, _∙_, subst}
-use mathlib.Core.Logic.{inr, ⊎-elim, _↔_}
+-- The descent row by row: a vertex's successors have higher rows. The list c has the places. Assumes nothing.
+use mathlib.Core.Path.{_≡_, refl, sym, ap, ap₂, _∙_, subst}
+use mathlib.Core.Logic.{_≢_, inr, ⊎-elim, _↔_}
 use mathlib.Core.List.{List}
 use Prim.Native.Nat.{ℕ, _+_, _-_, _*_, _^_, _≤_, _<_}
 use native.Mathlib.Omega.{arith}
 use borrow.Author.Tests.{eq-eqb}
 use lib.ListN.{length, getD}
+use Rattle.counting.specs.Quads.{quad}
 use Rattle.counting.proofs.Truth.{lt-or-le, two-cases}
 use Rattle.masks.specs.Bits.{bit}
 use Rattle.masks.specs.Sets.{at}
@@ -20,7 +21,7 @@ use Rattle.layers.proofs.Above.{above-each}
 use Rattle.layers.proofs.Depth.{settled}
 use Rattle.descent.specs.Members.{Long}
 use Rattle.descent.specs.Closed.{Arc, Ample, edgeIn, Finished, Same, Row, Inside, Prefixes, Closed}
-use Rattle.descent.proofs.Gathering.{long-both}
+use Rattle.descent.proofs.Gathering.{long-below}
 use Rattle.descent.proofs.Descending.{same-refl, same-trans}
 use Rattle.descent.proofs.Arcs.{reached-count}
 
@@ -49,11 +50,16 @@ module _ (e : List ℕ) (n : ℕ) (inside : Inside e n) (low : (v : ℕ) → v <
 -- the vertices of row r and higher are done, and those that are none of the n vertices are as they were
 pub record Descended (e : List ℕ) (n r : ℕ) (t l c t′ l′ c′ : List ℕ) : Type 0 where
   pub done : (v : ℕ) → v < n → r ≤ row (edgeIn e) n v → Finished e t′ l′ c′ v
-  pub others : (v : ℕ) → n ≤ v → Same v t l c t′ l′ c′
+  pub others : (v : ℕ) → n ≤ v → Same v t l t′ l′
+  pub rest : (k v : ℕ) → k < 4 → (k ≡ 3 → n ≤ v) → quad k c′ v ≡ quad k c v
 
 module _ (e : List ℕ) (n top : ℕ) (below : List ℕ) (inside : Inside e n) (pre : Prefixes e n top below) where
   pub descended-none : (t l c : List ℕ) → Descended e n top t l c t l c
-  descended-none t l c = record { done = λ v h g. absurd (let k = pre .all v h in omega arith); others = λ v h. same-refl v t l c }
+  descended-none t l c = record {
+    done = λ v h g. absurd (let k = pre .all v h in omega arith);
+    others = λ v h. same-refl v t l;
+    rest = λ k v h g. refl;
+  }
 
   rises : (u v : ℕ) → Arc e u v → row (edgeIn e) n u < row (edgeIn e) n v
   rises = arc-rises e n inside (λ v h. let a = pre .all v h in let b = pre .few in let s = inside .small in omega arith)
@@ -94,9 +100,9 @@ module _ (e : List ℕ) (n top : ℕ) (below : List ℕ) (inside : Inside e n) (
     high-row : (j : ℕ) → j < 64 → bit (without p′ q′) j ≡ 1 ↔ ((64 + j < n) × (row (edgeIn e) n (64 + j) ≡ r))
     high-row j h = ((λ i. of-row (64 + j) (omega arith) .0 (pair-high _ _ j h ∙ i)), λ i. sym (pair-high (without p q) _ j h) ∙ of-row (64 + j) (omega arith) .1 i)
 
-    -- a table of 2 n masks has masks for them
-    pub row-long : (t : List ℕ) → 2 * n ≤ length t → Long t (without p q) 0 × Long t (without p′ q′) 64
-    row-long t h = long-both t (without p q) (without p′ q′) (λ v hv i. let o = of-row v hv .0 i .0 in omega arith)
+    -- a list of w numbers for each of n vertices has theirs
+    pub row-long : (w : ℕ) (t : List ℕ) → w * n ≤ length t → Long w t (without p q) 0 × Long w t (without p′ q′) 64
+    row-long w t h = long-below w t n (without p q) (without p′ q′) h (λ v hv i. of-row v hv .0 i .0)
 
     module _ (t₀ l₀ c₀ t l c : List ℕ) (g : Descended e n (r + 1) t₀ l₀ c₀ t l c) where
       ready : (u w : ℕ) → row (edgeIn e) n u ≡ r → Arc e u w → Finished e t l c w
@@ -113,11 +119,18 @@ module _ (e : List ℕ) (n top : ℕ) (below : List ℕ) (inside : Inside e n) (
         pub descended-more : (t″ l″ c″ : List ℕ) → Row e (without p′ q′) 64 t′ l′ c′ t″ l″ c″ → Descended e n r t₀ l₀ c₀ t″ l″ c″
         descended-more t″ l″ c″ second = record {
           done = λ v h k. ⊎-elim (λ b. second .kept v (first .kept v (g .done v h (omega arith)))) (λ b. own v h (omega arith)) (lt-or-le r (row (edgeIn e) n v));
-          others = λ v h. same-trans v t₀ l₀ c₀ t′ l′ c′ t″ l″ c″
-              (same-trans v t₀ l₀ c₀ t l c t′ l′ c′ (g .others v h) (first .others v (λ j m i k. let o = low-row j m .0 i .0 in omega arith)))
-              (second .others v (λ j m i k. let o = high-row j m .0 i .0 in omega arith));
+          others = λ v h. same-trans v t₀ l₀ t′ l′ t″ l″ (same-trans v t₀ l₀ t l t′ l′ (g .others v h) (first .others v (out-low v h)))
+              (second .others v (out-high v h));
+          rest = λ k v h o. second .rest k v h (λ z. out-high v (o z)) ∙ first .rest k v h (λ z. out-low v (o z)) ∙ g .rest k v h o;
         }
           where
+            -- who is none of the n vertices is no member
+            out-low : (v : ℕ) → n ≤ v → (j : ℕ) → j < 64 → bit (without p q) j ≡ 1 → v ≢ 0 + j
+            out-low v h j m i k = let o = low-row j m .0 i .0 in omega arith
+
+            out-high : (v : ℕ) → n ≤ v → (j : ℕ) → j < 64 → bit (without p′ q′) j ≡ 1 → v ≢ 64 + j
+            out-high v h j m i k = let o = high-row j m .0 i .0 in omega arith
+
             own : (v : ℕ) → v < n → row (edgeIn e) n v ≡ r → Finished e t″ l″ c″ v
             own v h k =
                 let s = inside .small in
@@ -135,6 +148,7 @@ module _ (e : List ℕ) (n top : ℕ) (below : List ℕ) (inside : Inside e n) (
     farther = λ u v hu hv. all u hu .farther v hv;
     counted = λ u hu. all u hu .counted ∙ reached-count e n inside t′ u (all u hu .reached);
     others = g .others;
+    rest = g .rest;
   }
     where
       all : (u : ℕ) → u < n → Finished e t′ l′ c′ u

@@ -13,6 +13,7 @@ use lib.Bits.{bitOr, bitAnd, and-le-l, or-comm}
 use lib.Count.{trailingZeros}
 use lib.ListN.{length, getD}
 use Rattle.counting.specs.Count.{some}
+use Rattle.counting.specs.Quads.{quad}
 use Rattle.counting.proofs.Truth.{lt-or-le, two-cases, true-or-false}
 use Rattle.counting.proofs.Somes.{some-found, some-which}
 use Rattle.masks.specs.Bits.{bit}
@@ -29,7 +30,7 @@ use Rattle.layers.proofs.Depth.{settled, shallow}
 use Rattle.layers.proofs.Compaction.{Order, rows-below}
 use Rattle.descent.specs.Members.{Below, Long, Pictured, Written}
 use Rattle.descent.specs.Closed.{edgeIn, arc?, Inside, Laid}
-use Rattle.descent.proofs.Gathering.{long-both}
+use Rattle.descent.proofs.Gathering.{long-below}
 use Rattle.descent.proofs.Descending.{Stored, stored-at, same-bits}
 use Rattle.descent.proofs.Arcs.{reached-decided}
 use Rattle.descent.proofs.Ranking.{no-cycle}
@@ -72,26 +73,27 @@ module _ (E : ℕ → ℕ → Bool) (n : ℕ) where
 abbrev pub Some : ℕ → ℕ → ℕ → Type 0
 Some n low high = (v : ℕ) × (v < 128) × (inPair low high v ≡ 1)
 
--- after r rounds: low, high has the vertices whose row may still be higher, s the rows of the others, and `below` the sets up to r
-pub record Round (e : List ℕ) (n r low high : ℕ) (rows s below : List ℕ) : Type 0 where
+-- after r rounds: low, high has the vertices whose row may still be higher, s the rows of the others and else what `places`
+-- has, and `below` the sets up to r
+pub record Round (e : List ℕ) (n r low high : ℕ) (places s below : List ℕ) : Type 0 where
   pub low-fits : low < 2 ^ 64
   pub high-fits : high < 2 ^ 64
   pub growing : (v : ℕ) → v < 128 → inPair low high v ≡ 1 ↔ ((v < n) × (r ≤ rowWithin (edgeIn e) n r v))
   pub alive : Some n low high
-  pub rule : (v : ℕ) → v < n → rowWithin (edgeIn e) n r v < r → getD s v 0 ≡ rowWithin (edgeIn e) n r v
-  pub past : (v : ℕ) → n ≤ v → getD s v 0 ≡ getD rows v 0
+  pub rule : (v : ℕ) → v < n → rowWithin (edgeIn e) n r v < r → quad 2 s v ≡ rowWithin (edgeIn e) n r v
+  pub rest : (k v : ℕ) → k < 4 → (k ≡ 2 → n ≤ v) → quad k s v ≡ quad k places v
   pub sets : (k v : ℕ) → k ≤ r → v < 128 → at 2 below k v ≡ 1 ↔ ((v < n) × (rowWithin (edgeIn e) n r v < k))
 
-pub round-none : (e : List ℕ) (n low high : ℕ) (rows below : List ℕ) → 0 < n → Below n low high → getD below 0 0 ≡ 0 → getD below 1 0 ≡ 0
-    → Round e n 0 low high rows rows below
+pub round-none : (e : List ℕ) (n low high : ℕ) (places below : List ℕ) → 0 < n → Below n low high → getD below 0 0 ≡ 0 → getD below 1 0 ≡ 0
+    → Round e n 0 low high places places below
 unfolding rowWithin
-round-none e n low high rows below pos b z z′ = record {
+round-none e n low high places below pos b z z′ = record {
   low-fits = b .low-fits;
   high-fits = b .high-fits;
   growing = λ v h. ((λ q. (b .members v h .0 q, zero-le)), λ p. b .members v h .1 (p .0));
   alive = (0, omega arith, b .members 0 (omega arith) .1 pos);
   rule = λ v h l. absurd (omega arith);
-  past = λ v h. refl;
+  rest = λ k v h o. refl;
   sets = λ k v h hv. ((λ q. absurd (let w = empty k v h hv in omega arith)), λ p. absurd (let w = p .1 in omega arith));
 }
   where
@@ -121,7 +123,7 @@ pair-none a b v z h =
     let w : inPair (bitOr a b) (bitOr b a) v ≡ 0 = ap₂ (λ (x y : ℕ). inPair x y v) z (or-comm b a ∙ z) ∙ pair-zero v h in
     omega arith
 
-module _ (e : List ℕ) (n : ℕ) (small : n ≤ 128) (r low high first second p q a b : ℕ) (rows s below : List ℕ) (o : Round e n r low high rows s below)
+module _ (e : List ℕ) (n : ℕ) (small : n ≤ 128) (r low high first second p q a b : ℕ) (places s below : List ℕ) (o : Round e n r low high places s below)
     (start : Below n first second) (m : Pictured e low high p q) (ea : a ≡ bitAnd low p) (eb : b ≡ bitAnd high q) where
   fits-a : a < 2 ^ 64
   fits-a = subst (λ (x : ℕ). x < 2 ^ 64) (sym ea) (lt-of-le-of-lt (and-le-l low p) (o .low-fits))
@@ -164,32 +166,39 @@ module _ (e : List ℕ) (n : ℕ) (small : n ≤ 128) (r low high first second p
       let y = pair-lt a b v in
       ((λ i. (omega arith, omega arith)), λ i. let k = i .0 in let l = i .1 in omega arith)
 
+  stopping : (v : ℕ) → v < 128 → inPair (without low a) (without high b) v ≡ 1 → v < n
+  stopping v h i = o .growing v h .0 (stops low high v h .0 i .0) .0
+
+  -- places of n vertices have theirs
+  pub round-room : (t : List ℕ) → 4 * n ≤ length t → Long 4 t (without low a) 0 × Long 4 t (without high b) 64
+  round-room t room = long-below 4 t n (without low a) (without high b) room stopping
+
   module _ (s′ s″ below′ : List ℕ) (w : Written (without low a) 0 r s s′) (w′ : Written (without high b) 64 r s′ s″)
       (t : Stored below (r + 1) (without first a) (without second b) below′) where
-    -- one that does not stop in this round keeps what it has
-    kept : (v : ℕ) → (v < 128 → inPair (without low a) (without high b) v ≡ 1 → ⊥) → getD s″ v 0 ≡ getD s v 0
-    kept v out =
-        w′ .others v (λ j h i k. out (omega arith) (ap (inPair (without low a) (without high b)) k ∙ pair-high _ _ j h ∙ i))
-        ∙ w .others v (λ j h i k. out (omega arith) (ap (inPair (without low a) (without high b)) (k ∙ (let z : 0 + j ≡ j = omega arith in z)) ∙ pair-low _ _ j h ∙ i))
+    -- one that does not stop in this round keeps what it has, and every one all but its row
+    kept : (k v : ℕ) → k < 4 → (k ≡ 2 → v < 128 → inPair (without low a) (without high b) v ≡ 1 → ⊥) → quad k s″ v ≡ quad k s v
+    kept k v hk out =
+        w′ .others k v hk (λ z j h i y. out z (omega arith) (ap (inPair (without low a) (without high b)) y ∙ pair-high _ _ j h ∙ i))
+        ∙ w .others k v hk (λ z j h i y. out z (omega arith) (ap (inPair (without low a) (without high b)) (y ∙ (let x : 0 + j ≡ j = omega arith in x)) ∙ pair-low _ _ j h ∙ i))
 
     -- one that stops has row r
-    written : (v : ℕ) → v < 128 → inPair (without low a) (without high b) v ≡ 1 → getD s″ v 0 ≡ r
+    written : (v : ℕ) → v < 128 → inPair (without low a) (without high b) v ≡ 1 → quad 2 s″ v ≡ r
     written v h i =
         ⊎-elim
-        (λ l. w′ .others v (λ j hj z k. omega arith) ∙ ap (λ (x : ℕ). getD s′ x 0) (let k : v ≡ 0 + v = omega arith in k) ∙ w .done v l (sym (pair-low _ _ v l) ∙ i))
+        (λ l. w′ .others 2 v (omega arith) (λ _ j hj z k. omega arith) ∙ ap (quad 2 s′) (let k : v ≡ 0 + v = omega arith in k) ∙ w .done v l (sym (pair-low _ _ v l) ∙ i))
         (λ l.
         let k : v ≡ 64 + (v - 64) = omega arith in
         let hj : v - 64 < 64 = omega arith in
-        ap (λ (x : ℕ). getD s″ x 0) k ∙ w′ .done (v - 64) hj (sym (pair-high (without low a) _ (v - 64) hj) ∙ subst (λ (x : ℕ). inPair (without low a) (without high b) x ≡ 1) k i))
+        ap (quad 2 s″) k ∙ w′ .done (v - 64) hj (sym (pair-high (without low a) _ (v - 64) hj) ∙ subst (λ (x : ℕ). inPair (without low a) (without high b) x ≡ 1) k i))
         (lt-or-le v 64)
 
-    next-rule : (v : ℕ) → v < n → rowWithin (edgeIn e) n (suc r) v < suc r → getD s″ v 0 ≡ rowWithin (edgeIn e) n (suc r) v
+    next-rule : (v : ℕ) → v < n → rowWithin (edgeIn e) n (suc r) v < suc r → quad 2 s″ v ≡ rowWithin (edgeIn e) n (suc r) v
     next-rule v h l =
         let hv : v < 128 = omega arith in
         let same = same-row (edgeIn e) n r v (omega arith) in
         let none : inPair a b v ≡ 0 = ⊎-elim (λ k. k) (λ k. absurd (let g = grows v hv .0 k .1 in omega arith)) (two-cases (inPair a b v) (pair-lt a b v)) in
         ⊎-elim
-        (λ k. kept v (λ z i. let g = o .growing v hv .0 (stops low high v hv .0 i .0) .1 in omega arith) ∙ o .rule v h k ∙ sym same)
+        (λ k. kept 2 v (omega arith) (λ _ z i. let g = o .growing v hv .0 (stops low high v hv .0 i .0) .1 in omega arith) ∙ o .rule v h k ∙ sym same)
         (λ k. written v hv (stops low high v hv .1 (o .growing v hv .1 (h, k), none)) ∙ omega arith)
         (lt-or-le (rowWithin (edgeIn e) n r v) r)
 
@@ -220,18 +229,18 @@ module _ (e : List ℕ) (n : ℕ) (small : n ≤ 128) (r low high first second p
             let f = below-same (edgeIn e) n r k v (omega arith) in
             ((λ i. let y = old .0 (sym z ∙ i) in (y .0, f .0 (y .1))), λ i. z ∙ old .1 (i .0, f .1 (i .1)))
 
-    next-past : (v : ℕ) → n ≤ v → getD s″ v 0 ≡ getD rows v 0
-    next-past v h = kept v (λ hv i. let g = o .growing v hv .0 (stops low high v hv .0 i .0) .0 in omega arith) ∙ o .past v h
+    next-rest : (k v : ℕ) → k < 4 → (k ≡ 2 → n ≤ v) → quad k s″ v ≡ quad k places v
+    next-rest k v h out = kept k v h (λ z hv i. let g = stopping v hv i in let y = out z in omega arith) ∙ o .rest k v h out
 
     -- some grow on
-    pub round-more : bitOr a b ≢ 0 → Round e n (r + 1) a b rows s″ below′
-    round-more ne = subst (λ (k : ℕ). Round e n k a b rows s″ below′) (sym (add-one r)) (record {
+    pub round-more : bitOr a b ≢ 0 → Round e n (r + 1) a b places s″ below′
+    round-more ne = subst (λ (k : ℕ). Round e n k a b places s″ below′) (sym (add-one r)) (record {
       low-fits = fits-a;
       high-fits = fits-b;
       growing = grows;
       alive = pair-some n a b fits-a fits-b ne;
       rule = next-rule;
-      past = next-past;
+      rest = next-rest;
       sets = next-sets;
     })
 
@@ -256,7 +265,7 @@ module _ (e : List ℕ) (n : ℕ) (small : n ≤ 128) (r low high first second p
           (λ y. omega arith)
           (lt-or-le (row (edgeIn e) n (v .0)) r)
 
-      pub round-over : Laid e n (r + 1) rows s″ below′
+      pub round-over : Laid e n (r + 1) places s″ below′
       round-over = record {
         cyclic = λ y. absurd (omega arith);
         acyclic = λ y. no-cycle e n inside (λ v h. let l = last-rows v h in omega arith);
@@ -270,16 +279,16 @@ module _ (e : List ℕ) (n : ℕ) (small : n ≤ 128) (r low high first second p
               ((λ i. let x = old .0 i in (x .0, f .0 (x .1))), λ i. old .1 (i .0, f .1 (i .1)));
           all = λ v h. let l = last-rows v h in omega arith;
         };
-        past = next-past;
+        rest = next-rest;
       }
 
 -- the vertices that still grow have their masks in a table of 2 n
-pub round-long : (e : List ℕ) (n r low high : ℕ) (rows s below : List ℕ) → Round e n r low high rows s below → 2 * n ≤ length e
-    → Long e low 0 × Long e high 64
-round-long e n r low high rows s below o h = long-both e low high (λ v hv i. let g = o .growing v hv .0 i .0 in omega arith)
+pub round-long : (e : List ℕ) (n r low high : ℕ) (places s below : List ℕ) → Round e n r low high places s below → 2 * n ≤ length e
+    → Long 2 e low 0 × Long 2 e high 64
+round-long e n r low high places s below o h = long-below 2 e n low high h (λ v hv i. o .growing v hv .0 i .0)
 
 -- after n rounds some still grow: a vertex reaches itself
-module _ (e : List ℕ) (n low high : ℕ) (rows s below : List ℕ) (inside : Inside e n) (o : Round e n n low high rows s below) where
+module _ (e : List ℕ) (n low high : ℕ) (places s below : List ℕ) (inside : Inside e n) (o : Round e n n low high places s below) where
   self : ℕ → Bool
   self u = reaches? (arc? e) n u u
 
@@ -293,7 +302,7 @@ module _ (e : List ℕ) (n low high : ℕ) (rows s below : List ℕ) (inside : I
         irrefl = λ u hu i. true≢false (sym (some-found n self u hu i) ∙ none);
       }
 
-  pub round-refused : Laid e n 0 rows s below
+  pub round-refused : Laid e n 0 places s below
   unfolding self
   round-refused = record {
     cyclic = λ y. ⊎-elim
@@ -304,7 +313,7 @@ module _ (e : List ℕ) (n low high : ℕ) (rows s below : List ℕ) (inside : I
     used = λ y. absurd (y refl);
     rule = λ y. absurd (y refl);
     prefixes = λ y. absurd (y refl);
-    past = o .past;
+    rest = o .rest;
   }
     where
       contra : some n self ≡ false → ⊥

@@ -1,12 +1,14 @@
--- What the steps of the descent leave behind. A table has two masks of 64 bits a vertex. Assumes nothing.
+-- What the steps of the descent leave behind. A table has two masks of 64 bits a vertex; the places have four numbers, the third its row,
+-- the last how many vertices it reaches. Assumes nothing.
 use mathlib.Core.Path.{_≡_}
 use mathlib.Core.Logic.{_≢_, _↔_}
 use mathlib.Core.Bool.{Bool, _&&_}
 use mathlib.Core.List.{List}
 use Prim.Native.Nat.{ℕ, _+_, _*_, _≤_, _<_}
 use lib.Dec.{eqb, ltb}
-use lib.ListN.{length, getD, replicate}
+use lib.ListN.{length, getD}
 use Rattle.counting.specs.Count.{sum, count}
+use Rattle.counting.specs.Quads.{quad}
 use Rattle.masks.specs.Bits.{bit}
 use Rattle.masks.specs.Sets.{at}
 use Rattle.reach.specs.Graph.{Reaches, Longer, reaches?}
@@ -35,29 +37,30 @@ abbrev pub Reached : List ℕ → List ℕ → ℕ → Type 0
 Reached e t u = (v : ℕ) → v < 128 → at 2 t u v ≡ 1 ↔ Reaches (Arc e) u v
 
 -- what the lists have for u is right: what u reaches, what it reaches by two edges or more, and how many vertices it reaches
-pub record Finished (e t l c : List ℕ) (u : ℕ) : Type 0 where
+pub record Finished (e t l p : List ℕ) (u : ℕ) : Type 0 where
   pub reached : Reached e t u
   pub farther : (v : ℕ) → v < 128 → at 2 l u v ≡ 1 ↔ Longer (Arc e) u v
-  pub counted : getD c u 0 ≡ sum 128 (at 2 t u)
+  pub counted : quad 3 p u ≡ sum 128 (at 2 t u)
 
--- what the lists have for u is the same
-pub record Same (u : ℕ) (t l c t′ l′ c′ : List ℕ) : Type 0 where
+-- what the tables have for u is the same
+pub record Same (u : ℕ) (t l t′ l′ : List ℕ) : Type 0 where
   pub low : getD t′ (2 * u) 0 ≡ getD t (2 * u) 0
   pub high : getD t′ (2 * u + 1) 0 ≡ getD t (2 * u + 1) 0
   pub low-far : getD l′ (2 * u) 0 ≡ getD l (2 * u) 0
   pub high-far : getD l′ (2 * u + 1) 0 ≡ getD l (2 * u + 1) 0
-  pub number : getD c′ u 0 ≡ getD c u 0
 
 -- one vertex more
-pub record Vertex (e : List ℕ) (u : ℕ) (t l c t′ l′ c′ : List ℕ) : Type 0 where
-  pub own : Finished e t′ l′ c′ u
-  pub others : (w : ℕ) → w ≢ u → Same w t l c t′ l′ c′
+pub record Vertex (e : List ℕ) (u : ℕ) (t l p t′ l′ p′ : List ℕ) : Type 0 where
+  pub own : Finished e t′ l′ p′ u
+  pub others : (w : ℕ) → w ≢ u → Same w t l t′ l′
+  pub rest : (k v : ℕ) → k < 4 → (k ≡ 3 → v ≢ u) → quad k p′ v ≡ quad k p v
 
 -- the members of a mask that begins at vertex `base`
-pub record Row (e : List ℕ) (mask base : ℕ) (t l c t′ l′ c′ : List ℕ) : Type 0 where
-  pub done : (j : ℕ) → j < 64 → bit mask j ≡ 1 → Finished e t′ l′ c′ (base + j)
-  pub kept : (w : ℕ) → Finished e t l c w → Finished e t′ l′ c′ w
-  pub others : (w : ℕ) → ((j : ℕ) → j < 64 → bit mask j ≡ 1 → w ≢ base + j) → Same w t l c t′ l′ c′
+pub record Row (e : List ℕ) (mask base : ℕ) (t l p t′ l′ p′ : List ℕ) : Type 0 where
+  pub done : (j : ℕ) → j < 64 → bit mask j ≡ 1 → Finished e t′ l′ p′ (base + j)
+  pub kept : (w : ℕ) → Finished e t l p w → Finished e t′ l′ p′ w
+  pub others : (w : ℕ) → ((j : ℕ) → j < 64 → bit mask j ≡ 1 → w ≢ base + j) → Same w t l t′ l′
+  pub rest : (k v : ℕ) → k < 4 → (k ≡ 3 → (j : ℕ) → j < 64 → bit mask j ≡ 1 → v ≢ base + j) → quad k p′ v ≡ quad k p v
 
 -- every edge joins two of n vertices
 pub record Inside (e : List ℕ) (n : ℕ) : Type 0 where
@@ -71,27 +74,32 @@ pub record Prefixes (e : List ℕ) (n top : ℕ) (below : List ℕ) : Type 0 whe
   pub members : (r v : ℕ) → r ≤ top → v < 128 → at 2 below r v ≡ 1 ↔ ((v < n) × (row (edgeIn e) n v < r))
   pub all : (v : ℕ) → v < n → row (edgeIn e) n v < top
 
--- where a vertex reaches itself, r is 0; else r is the number of rows used, and s has the row of each of the n vertices. The others have
--- what `rows` has
-pub record Laid (e : List ℕ) (n r : ℕ) (rows s below : List ℕ) : Type 0 where
+-- where a vertex reaches itself, r is 0; else r is the number of rows used, and p′ has the row of each of the n vertices. Every other
+-- number is that of p
+pub record Laid (e : List ℕ) (n r : ℕ) (p p′ below : List ℕ) : Type 0 where
   pub cyclic : r ≡ 0 → (u : ℕ) × (u < n) × Reaches (Arc e) u u
   pub acyclic : r ≢ 0 → (u : ℕ) → Reaches (Arc e) u u → ⊥
   pub used : r ≢ 0 → r ≡ rowsUsed (edgeIn e) n
-  pub rule : r ≢ 0 → (v : ℕ) → v < n → getD s v 0 ≡ row (edgeIn e) n v
+  pub rule : r ≢ 0 → (v : ℕ) → v < n → quad 2 p′ v ≡ row (edgeIn e) n v
   pub prefixes : r ≢ 0 → Prefixes e n r below
-  pub past : (v : ℕ) → n ≤ v → getD s v 0 ≡ getD rows v 0
+  pub rest : (k v : ℕ) → k < 4 → (k ≡ 2 → n ≤ v) → quad k p′ v ≡ quad k p v
 
--- the lists have what is right for each of n vertices, and for the others what they had
-pub record Closed (e : List ℕ) (n : ℕ) (t l c t′ l′ c′ : List ℕ) : Type 0 where
+-- the lists have what is right for each of n vertices, and else what they had
+pub record Closed (e : List ℕ) (n : ℕ) (t l p t′ l′ p′ : List ℕ) : Type 0 where
   pub bits : (u v : ℕ) → u < n → v < 128 → at 2 t′ u v ≡ 1 ↔ Reaches (Arc e) u v
   pub farther : (u v : ℕ) → u < n → v < 128 → at 2 l′ u v ≡ 1 ↔ Longer (Arc e) u v
-  pub counted : (u : ℕ) → u < n → getD c′ u 0 ≡ count 128 (reaches? (arc? e) n u)
-  pub others : (u : ℕ) → n ≤ u → Same u t l c t′ l′ c′
+  pub counted : (u : ℕ) → u < n → quad 3 p′ u ≡ count 128 (reaches? (arc? e) n u)
+  pub others : (u : ℕ) → n ≤ u → Same u t l t′ l′
+  pub rest : (k v : ℕ) → k < 4 → (k ≡ 3 → n ≤ v) → quad k p′ v ≡ quad k p v
 
--- the rows of n vertices and what each reaches, from lists of zeros: refused with 5 where a vertex reaches itself, and then what the lists
+-- of the places only the rows and counts of n vertices change
+abbrev pub Rest : ℕ → List ℕ → List ℕ → Type 0
+Rest n p p′ = (k v : ℕ) → k < 4 → (2 ≤ k → n ≤ v) → quad k p′ v ≡ quad k p v
+
+-- the rows of n vertices and what each reaches, from tables of zeros: refused with 5 where a vertex reaches itself, and then what the tables
 -- hold is left free
-pub record Layered (e : List ℕ) (n : ℕ) (r : Descent) (b t l : List ℕ) : Type 0 where
+pub record Layered (e : List ℕ) (n : ℕ) (p : List ℕ) (r : Descent) (b t l p′ : List ℕ) : Type 0 where
   pub cyclic : r .refusal ≢ 0 → (r ≡ noDescent 5) × ((u : ℕ) × (u < n) × Reaches (Arc e) u u)
-  pub laid : r .refusal ≡ 0 → (r .used ≢ 0) × (length (r .rows) ≡ 128) × Laid e n (r .used) (replicate 128 0) (r .rows) b
-  pub closed : r .refusal ≡ 0 → (length (r .counts) ≡ 128)
-      × ((t₀ l₀ : List ℕ) × Blank t₀ × Blank l₀ × Closed e n t₀ l₀ (replicate 128 0) t l (r .counts))
+  pub made : r .refusal ≡ 0 → (r .used ≢ 0)
+      × ((t₀ l₀ q : List ℕ) × Blank t₀ × Blank l₀ × Laid e n (r .used) p q b × Closed e n t₀ l₀ q t l p′)
+  pub rest : Rest n p p′

@@ -3,7 +3,8 @@ use mathlib.Core.Path.{_≡_}
 use mathlib.Core.Logic.{_≢_, _⊎_, _↔_}
 use mathlib.Core.List.{List}
 use Prim.Native.Nat.{ℕ, _+_, _*_, _^_, _≤_, _<_}
-use lib.ListN.{length, getD}
+use lib.ListN.{length}
+use Rattle.counting.specs.Quads.{quad}
 use Rattle.masks.specs.Bits.{bit}
 use Rattle.masks.specs.Sets.{at}
 use Rattle.masks.specs.Pairs.{inPair}
@@ -14,9 +15,9 @@ pub record Below (n a b : ℕ) : Type 0 where
   pub high-fits : b < 2 ^ 64
   pub members : (v : ℕ) → v < 128 → inPair a b v ≡ 1 ↔ v < n
 
--- the table has two masks for every member of a mask that begins at vertex `base`
-pub record Long (t : List ℕ) (mask base : ℕ) : Type 0 where
-  pub room : (j : ℕ) → j < 64 → bit mask j ≡ 1 → 2 * (base + j) + 2 ≤ length t
+-- a list of w numbers a vertex has those of every member of a mask that begins at vertex `base`
+pub record Long (w : ℕ) (t : List ℕ) (mask base : ℕ) : Type 0 where
+  pub room : (j : ℕ) → j < 64 → bit mask j ≡ 1 → w * (base + j) + w ≤ length t
 
 -- the set a, b is c, d with the sets put in that the table has for the members of a mask that begins at vertex `base`
 pub record Gathered (t : List ℕ) (mask base c d a b : ℕ) : Type 0 where
@@ -36,7 +37,7 @@ pub record Nested (t : List ℕ) (low high : ℕ) : Type 0 where
 pub record Covered (t : List ℕ) (low high a b : ℕ) : Type 0 where
   pub inner : (w v : ℕ) → w < 128 → v < 128 → inPair low high w ≡ 1 → inPair a b w ≡ 1 → at 2 t w v ≡ 1 → inPair a b v ≡ 1
 
--- s is `rows` with r at the members of a mask that begins at vertex `base`
-pub record Written (mask base r : ℕ) (rows s : List ℕ) : Type 0 where
-  pub done : (j : ℕ) → j < 64 → bit mask j ≡ 1 → getD s (base + j) 0 ≡ r
-  pub others : (v : ℕ) → ((j : ℕ) → j < 64 → bit mask j ≡ 1 → v ≢ base + j) → getD s v 0 ≡ getD rows v 0
+-- the places p′ are p with row r at the members of a mask that begins at vertex `base`
+pub record Written (mask base r : ℕ) (p p′ : List ℕ) : Type 0 where
+  pub done : (j : ℕ) → j < 64 → bit mask j ≡ 1 → quad 2 p′ (base + j) ≡ r
+  pub others : (k v : ℕ) → k < 4 → (k ≡ 2 → (j : ℕ) → j < 64 → bit mask j ≡ 1 → v ≢ base + j) → quad k p′ v ≡ quad k p v

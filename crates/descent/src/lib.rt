@@ -1,6 +1,7 @@
 // Layer 1: from the bytes of a graph's edges to its tables (document 01: 'Descent', 'Rows'). The crate `scanning` checks the edges and makes
-// their table. Rows are found by rounds; then, from the highest row down, each vertex gets the union of its successors' sets. A table has two masks of 64 bits a vertex: bit v mod 64, lowest first, of
-// mask 2 u + v / 64 says that v is in the set of u.
+// their table. Rows are found by rounds; then, from the highest row down, each vertex gets the union of its successors' sets. A table has two
+// masks of 64 bits a vertex: bit v mod 64, lowest first, of mask 2 u + v / 64 says that v is in the set of u. The places have four bytes a
+// vertex: the row of v at 4 v + 2, and at 4 v + 3 how many vertices it reaches; the first two are others'.
 ghost use mathlib.Core.Path.{_≡_};
 ghost use Prim.Native.Nat.{ℕ, _+_, _*_, _≤_, _<_, min};
 ghost use lib.Count.{ones};
@@ -14,12 +15,10 @@ ghost use Rattle.descent.specs.Promise.{noDescent, fits?, Descends};
 // The most vertices of a graph.
 const MOST_VERTICES: usize = 128;
 
-// Why the edges are refused, or 0; rows used, the row of each vertex, 0 past the last, and how many vertices each reaches.
+// Why the edges are refused, or 0, and how many rows are used.
 pub struct Descent {
     pub refusal: u8,
     pub used: u8,
-    pub rows: [u8; 128],
-    pub counts: [u8; 128],
 }
 
 // The two masks of a set.
@@ -52,7 +51,7 @@ fn below_n(n: usize) -> Pair
 
 // The set of two masks with the sets of the members of a mask, which begins at vertex `base`, put in.
 fn gather(table: &[u64], mask: u64, base: usize, low: u64, high: u64) -> Pair
-    requires { ⌜ (base ≤ 64) × Long (now table) mask base ⌝ }
+    requires { ⌜ (base ≤ 64) × Long 2 (now table) mask base ⌝ }
     ensures { λ r. ⌜ Gathered (now (table .entry)) mask base low high (r .low) (r .high) ⌝ }
 {
     let mut a = low;
@@ -69,7 +68,7 @@ fn gather(table: &[u64], mask: u64, base: usize, low: u64, high: u64) -> Pair
 
 // The union of the sets of the members of a set of two masks.
 fn image(table: &[u64], low: u64, high: u64) -> Pair
-    requires { ⌜ Long (now table) low 0 × Long (now table) high 64 ⌝ }
+    requires { ⌜ Long 2 (now table) low 0 × Long 2 (now table) high 64 ⌝ }
     ensures { λ r. ⌜ Pictured (now (table .entry)) low high (r .low) (r .high) ⌝ }
 {
     let p = gather(table, low, 0, 0, 0);
@@ -78,7 +77,7 @@ fn image(table: &[u64], low: u64, high: u64) -> Pair
 
 // A set with the sets of the members of its second mask put in, where it holds the sets of those that it has: they are left out.
 fn with_second(table: &[u64], mask: u64, low: u64, high: u64) -> Pair
-    requires { ⌜ Long (now table) mask 64 × Nested (now table) 0 mask × Covered (now table) 0 mask low high ⌝ }
+    requires { ⌜ Long 2 (now table) mask 64 × Nested (now table) 0 mask × Covered (now table) 0 mask low high ⌝ }
     ensures { λ r. ⌜ Gathered (now (table .entry)) mask 64 low high (r .low) (r .high) ⌝ }
 {
     let mut a = low;
@@ -95,7 +94,7 @@ fn with_second(table: &[u64], mask: u64, low: u64, high: u64) -> Pair
 
 // The union of sets that hold the sets of their own members among `low`, `high`: those that are in the union already are left out.
 fn reached(table: &[u64], low: u64, high: u64) -> Pair
-    requires { ⌜ Long (now table) low 0 × Long (now table) high 64 × Nested (now table) low high ⌝ }
+    requires { ⌜ Long 2 (now table) low 0 × Long 2 (now table) high 64 × Nested (now table) low high ⌝ }
     ensures { λ r. ⌜ Pictured (now (table .entry)) low high (r .low) (r .high) ⌝ }
 {
     let mut a: u64 = 0;
@@ -113,23 +112,23 @@ fn reached(table: &[u64], low: u64, high: u64) -> Pair
 // ---- the rows
 
 // Row r for each member of a mask that begins at vertex `base`.
-fn set_rows(mask: u64, base: usize, r: u8, rows: &mut [u8])
-    requires { ⌜ (base ≤ 64) × (length (now rows) ≡ 128) ⌝ }
-    ensures { λ _. ⌜ Written mask base r (now (rows .entry)) (now (rows .exit)) ⌝ }
+fn set_rows(mask: u64, base: usize, r: u8, places: &mut [u8])
+    requires { ⌜ (base ≤ 64) × Long 4 (now places) mask base ⌝ }
+    ensures { λ _. ⌜ Written mask base r (now (places .entry)) (now (places .exit)) ⌝ }
 {
     let mut x = mask;
     while x != 0 {
         let v = base + u64::trailing_zeros(x) as usize;
         x = x & (x - 1);
-        rows[v] = r;
+        places[4 * v + 2] = r;
     }
 }
 
 // The row of each of n vertices, and for each number up to that of the rows used the set of the vertices of lower rows. The number of rows
 // used, or 0 where a vertex reaches itself.
-fn grown(edges: &[u64], n: usize, rows: &mut [u8], below: &mut [u64]) -> usize
-    requires { ⌜ (0 < n) × (2 * n ≤ length (now edges)) × (length (now rows) ≡ 128) × (2 * n + 2 ≤ length (now below)) × Inside (now edges) n ⌝ }
-    ensures { λ r. ⌜ Laid (now (edges .entry)) n r (now (rows .entry)) (now (rows .exit)) (now (below .exit)) ⌝ }
+fn grown(edges: &[u64], n: usize, places: &mut [u8], below: &mut [u64]) -> usize
+    requires { ⌜ (0 < n) × (2 * n ≤ length (now edges)) × (4 * n ≤ length (now places)) × (2 * n + 2 ≤ length (now below)) × Inside (now edges) n ⌝ }
+    ensures { λ r. ⌜ Laid (now (edges .entry)) n r (now (places .entry)) (now (places .exit)) (now (below .exit)) ⌝ }
 {
     let all = below_n(n);
     let first = all.low;
@@ -143,8 +142,8 @@ fn grown(edges: &[u64], n: usize, rows: &mut [u8], below: &mut [u64]) -> usize
         let p = image(edges, low, high);
         let a = low & p.low;
         let b = high & p.high;
-        set_rows(low & !a, 0, r as u8, rows);
-        set_rows(high & !b, 64, r as u8, rows);
+        set_rows(low & !a, 0, r as u8, places);
+        set_rows(high & !b, 64, r as u8, places);
         let s = r + 1;
         below[2 * s] = first & !a;
         below[2 * s + 1] = second & !b;
@@ -171,9 +170,9 @@ fn members(low: u64, high: u64) -> u8
 }
 
 // The sets of u from those of its successors.
-fn close_vertex(u: usize, edges: &[u64], table: &mut [u64], longer: &mut [u64], counts: &mut [u8])
-    requires { ⌜ (u < 128) × (2 * u + 2 ≤ length (now edges)) × (2 * u + 2 ≤ length (now table)) × (2 * u + 2 ≤ length (now longer)) × (length (now counts) ≡ 128) × Ample (now edges) (now table) × ((w : ℕ) → Arc (now edges) u w → Reached (now edges) (now table) w) ⌝ }
-    ensures { λ _. ⌜ Vertex (now (edges .entry)) u (now (table .entry)) (now (longer .entry)) (now (counts .entry)) (now (table .exit)) (now (longer .exit)) (now (counts .exit)) ⌝ }
+fn close_vertex(u: usize, edges: &[u64], table: &mut [u64], longer: &mut [u64], places: &mut [u8])
+    requires { ⌜ (u < 128) × (2 * u + 2 ≤ length (now edges)) × (2 * u + 2 ≤ length (now table)) × (2 * u + 2 ≤ length (now longer)) × (4 * u + 4 ≤ length (now places)) × Ample (now edges) (now table) × ((w : ℕ) → Arc (now edges) u w → Reached (now edges) (now table) w) ⌝ }
+    ensures { λ _. ⌜ Vertex (now (edges .entry)) u (now (table .entry)) (now (longer .entry)) (now (places .entry)) (now (table .exit)) (now (longer .exit)) (now (places .exit)) ⌝ }
 {
     let low = edges[2 * u];
     let high = edges[2 * u + 1];
@@ -184,7 +183,7 @@ fn close_vertex(u: usize, edges: &[u64], table: &mut [u64], longer: &mut [u64], 
     let b = high | p.high;
     table[2 * u] = a;
     table[2 * u + 1] = b;
-    counts[u] = members(a, b);
+    places[4 * u + 3] = members(a, b);
 }
 
 // The sets of the members of a mask that begins at vertex `base`, where those of all their successors stand.
@@ -194,16 +193,16 @@ fn close_row(
     edges: &[u64],
     table: &mut [u64],
     longer: &mut [u64],
-    counts: &mut [u8],
+    places: &mut [u8],
 )
-    requires { ⌜ (base ≤ 64) × Long (now edges) mask base × Long (now table) mask base × Long (now longer) mask base × (length (now counts) ≡ 128) × Ample (now edges) (now table) × ((j : ℕ) → j < 64 → bit mask j ≡ 1 → (w : ℕ) → Arc (now edges) (base + j) w → Finished (now edges) (now table) (now longer) (now counts) w) ⌝ }
-    ensures { λ _. ⌜ Row (now (edges .entry)) mask base (now (table .entry)) (now (longer .entry)) (now (counts .entry)) (now (table .exit)) (now (longer .exit)) (now (counts .exit)) ⌝ }
+    requires { ⌜ (base ≤ 64) × Long 2 (now edges) mask base × Long 2 (now table) mask base × Long 2 (now longer) mask base × Long 4 (now places) mask base × Ample (now edges) (now table) × ((j : ℕ) → j < 64 → bit mask j ≡ 1 → (w : ℕ) → Arc (now edges) (base + j) w → Finished (now edges) (now table) (now longer) (now places) w) ⌝ }
+    ensures { λ _. ⌜ Row (now (edges .entry)) mask base (now (table .entry)) (now (longer .entry)) (now (places .entry)) (now (table .exit)) (now (longer .exit)) (now (places .exit)) ⌝ }
 {
     let mut x = mask;
     while x != 0 {
         let u = base + u64::trailing_zeros(x) as usize;
         x = x & (x - 1);
-        close_vertex(u, edges, table, longer, counts);
+        close_vertex(u, edges, table, longer, places);
     }
 }
 
@@ -215,33 +214,28 @@ fn close(
     top: usize,
     table: &mut [u64],
     longer: &mut [u64],
-    counts: &mut [u8],
+    places: &mut [u8],
 )
-    requires { ⌜ (2 * n ≤ length (now edges)) × (2 * n + 2 ≤ length (now below)) × (2 * n ≤ length (now table)) × (2 * n ≤ length (now longer)) × (length (now counts) ≡ 128) × Inside (now edges) n × Prefixes (now edges) n top (now below) ⌝ }
-    ensures { λ _. ⌜ Closed (now (edges .entry)) n (now (table .entry)) (now (longer .entry)) (now (counts .entry)) (now (table .exit)) (now (longer .exit)) (now (counts .exit)) ⌝ }
+    requires { ⌜ (2 * n ≤ length (now edges)) × (2 * n + 2 ≤ length (now below)) × (2 * n ≤ length (now table)) × (2 * n ≤ length (now longer)) × (4 * n ≤ length (now places)) × Inside (now edges) n × Prefixes (now edges) n top (now below) ⌝ }
+    ensures { λ _. ⌜ Closed (now (edges .entry)) n (now (table .entry)) (now (longer .entry)) (now (places .entry)) (now (table .exit)) (now (longer .exit)) (now (places .exit)) ⌝ }
 {
     let mut r = top;
     while 0 < r {
         r -= 1;
         let a = below[2 * r + 2] & !below[2 * r];
         let b = below[2 * r + 3] & !below[2 * r + 1];
-        close_row(a, 0, edges, table, longer, counts);
-        close_row(b, 64, edges, table, longer, counts);
+        close_row(a, 0, edges, table, longer, places);
+        close_row(b, 64, edges, table, longer, places);
     }
 }
 
 // ---- the whole
 
-// Refused: no row is used, and every number is 0.
+// Refused: no row is used.
 fn no_descent(refusal: u8) -> Descent
     ensures { λ r. ⌜ r ≡ noDescent refusal ⌝ }
 {
-    Descent {
-        refusal,
-        used: 0,
-        rows: [0; 128],
-        counts: [0; 128],
-    }
+    Descent { refusal, used: 0 }
 }
 
 // No bit set in any mask.
@@ -260,24 +254,21 @@ fn layered(
     below: &mut [u64],
     table: &mut [u64],
     longer: &mut [u64],
+    places: &mut [u8],
 ) -> Descent
-    requires { ⌜ (0 < n) × (2 * n ≤ length (now edges)) × (2 * n + 2 ≤ length (now below)) × (2 * n ≤ length (now table)) × (2 * n ≤ length (now longer)) × Inside (now edges) n ⌝ }
-    ensures { λ r. ⌜ Layered (now (edges .entry)) n r (now (below .exit)) (now (table .exit)) (now (longer .exit)) ⌝ }
+    requires { ⌜ (0 < n) × (2 * n ≤ length (now edges)) × (2 * n + 2 ≤ length (now below)) × (2 * n ≤ length (now table)) × (2 * n ≤ length (now longer)) × (4 * n ≤ length (now places)) × Inside (now edges) n ⌝ }
+    ensures { λ r. ⌜ Layered (now (edges .entry)) n (now (places .entry)) r (now (below .exit)) (now (table .exit)) (now (longer .exit)) (now (places .exit)) ⌝ }
 {
     clear(table);
     clear(longer);
-    let mut rows = [0u8; 128];
-    let top = grown(edges, n, &mut rows, below);
+    let top = grown(edges, n, places, below);
     if top == 0 {
         return no_descent(5);
     }
-    let mut counts = [0u8; 128];
-    close(edges, below, n, top, table, longer, &mut counts);
+    close(edges, below, n, top, table, longer, places);
     Descent {
         refusal: 0,
         used: top as u8,
-        rows,
-        counts,
     }
 }
 
@@ -291,9 +282,9 @@ fn room(n: usize) -> usize
     2 * MOST_VERTICES
 }
 
-// Whether work lists of these lengths have room for the sets of n vertices.
-fn is_fit(n: usize, edges: usize, below: usize, table: usize, longer: usize) -> bool
-    ensures { λ r. ⌜ r ≡ fits? n edges below table longer ⌝ }
+// Whether work lists of these lengths have room for the sets and the places of n vertices.
+fn is_fit(n: usize, edges: usize, below: usize, table: usize, longer: usize, places: usize) -> bool
+    ensures { λ r. ⌜ r ≡ fits? n edges below table longer places ⌝ }
 {
     let least = room(n);
     if edges < least {
@@ -305,11 +296,15 @@ fn is_fit(n: usize, edges: usize, below: usize, table: usize, longer: usize) -> 
     if table < least {
         return false;
     }
-    least <= longer
+    if longer < least {
+        return false;
+    }
+    2 * least <= places
 }
 
-// The tables of n vertices and of edges of two bytes each, tail and head. Refused with 8 (a work list lacks room: nothing is changed),
-// 2 (no vertex, more than 128, or more than 4,096 edges), 3 (an end of n or more), 4 (an edge twice) or 5 (a cycle).
+// The tables of n vertices and of edges of two bytes each, tail and head, with rows and counts in `places`. Refused with 8 (a work list
+// lacks room: nothing is changed), 2 (no vertex, more than 128, or more than 4,096 edges), 3 (an end of n or more), 4 (an edge twice) or
+// 5 (a cycle).
 pub fn descend(
     n: usize,
     ends: &[u8],
@@ -317,15 +312,23 @@ pub fn descend(
     below: &mut [u64],
     table: &mut [u64],
     longer: &mut [u64],
+    places: &mut [u8],
 ) -> Descent
-    ensures { λ r. ⌜ Descends n (now (ends .entry)) (now (edges .entry)) (now (below .entry)) (now (table .entry)) (now (longer .entry)) r (now (edges .exit)) (now (below .exit)) (now (table .exit)) (now (longer .exit)) ⌝ }
+    ensures { λ r. ⌜ Descends n (now (ends .entry)) (now (edges .entry)) (now (below .entry)) (now (table .entry)) (now (longer .entry)) (now (places .entry)) r (now (edges .exit)) (now (below .exit)) (now (table .exit)) (now (longer .exit)) (now (places .exit)) ⌝ }
 {
-    if !is_fit(n, edges.len(), below.len(), table.len(), longer.len()) {
+    if !is_fit(
+        n,
+        edges.len(),
+        below.len(),
+        table.len(),
+        longer.len(),
+        places.len(),
+    ) {
         return no_descent(8);
     }
     let k = scanning::scanned(n, ends, edges);
     if k != 0 {
         return no_descent(k);
     }
-    layered(n, edges, below, table, longer)
+    layered(n, edges, below, table, longer, places)
 }

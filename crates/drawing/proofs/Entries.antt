@@ -98,15 +98,15 @@ module _ (c : Content) (p : Plan) (t : Lists) (l : Laid c p t) where
 
   pub vertex-drawn : (v : ℕ) → v < n → _≡_ {A = VertexEntry}
       (record {
-        channel = getD (p .channel) v 0;
-        position = getD (p .position) v 0;
+        channel = quad 0 (t .places) v;
+        position = quad 1 (t .places) v;
         column = getD (t .column) v 0;
-        row = getD (p .row) v 0;
-        descendants = getD (p .descendants) v 0;
+        row = quad 2 (t .places) v;
+        descendants = quad 3 (t .places) v;
       })
       (vertexEntry c planned v)
   unfolding vertexEntry
-  vertex-drawn v h = rw (l .channels v, l .positions v, l .column v h, l .rows v h, l .descendants v (omega (arith, small))) refl
+  vertex-drawn v h = rw (l .channels v h, l .positions v h, l .column v h, l .rows v h, l .descendants v h) refl
 
   pub bundle-drawn : (b : ℕ) → _≡_ {A = BundleEntry}
       (record {
@@ -119,21 +119,20 @@ module _ (c : Content) (p : Plan) (t : Lists) (l : Laid c p t) where
   unfolding bundleEntry
   bundle-drawn b = rw (l .bundles .channel b, l .bundles .first b, l .bundles .last b, l .track b) refl
 
-  -- ---- edges
+  -- ---- edges, by the columns of the n vertices
 
   abbrev columns : List ℕ
   columns = take n (t .column)
 
-  abbrev rows : List ℕ
-  rows = take n (p .row)
+  abbrev places : List ℕ
+  places = t .places
 
-  places-same : (v : ℕ) → v < n → pointOf columns rows v ≡ placeOf c planned v
-  places-same v h = ap₂ point (getD-take n (t .column) v 0 h ∙ l .column v h) (getD-take n (p .row) v 0 h ∙ l .rows v h)
+  places-same : (v : ℕ) → v < n → pointOf columns places v ≡ placeOf c planned v
+  places-same v h = ap₂ point (getD-take n (t .column) v 0 h ∙ l .column v h) (l .rows v h)
 
-  vertices-same : vertexCount columns rows ≡ n
+  vertices-same : vertexCount columns places ≡ n
   vertices-same =
-      let k = small in
-      omega (arith, length-take-le n (t .column) (omega (arith, l .room .column)), length-take-le n (p .row) (omega (arith, l .tabled .0)))
+      omega (arith, length-take-le n (t .column) (omega (arith, l .room .column, small)), l .room .masks .places, small)
 
   -- ---- what candidates ask for
 
@@ -141,39 +140,35 @@ module _ (c : Content) (p : Plan) (t : Lists) (l : Laid c p t) where
   unfolding planOf chart.bundled chart.tracked
   channels-small = omega (arith, l .channel-count, channels-few c (l .sound))
 
-  row-same : (v : ℕ) → v < n → getD rows v 0 ≡ rowOf c v
-  row-same v h = getD-take n (p .row) v 0 h ∙ l .rows v h
-
-  below-same : (k v : ℕ) → k ≤ rowCount c → v < 128 → at 2 (t .below) k v ≡ 1 ↔ ((v < n) × (getD rows v 0 < k))
+  below-same : (k v : ℕ) → k ≤ rowCount c → v < 128 → at 2 (t .below) k v ≡ 1 ↔ ((v < n) × (quad 2 places v < k))
   below-same k v a b = (
-    (λ h. let r = l .below-rows k v a b .0 h in (r .0, omega (arith, r .1, row-same v (r .0)))),
-    (λ h. l .below-rows k v a b .1 (h .0, omega (arith, h .1, row-same v (h .0)))),
+    (λ h. let r = l .below-rows k v a b .0 h in (r .0, omega (arith, r .1, l .rows v (r .0)))),
+    (λ h. l .below-rows k v a b .1 (h .0, omega (arith, h .1, l .rows v (h .0)))),
   )
 
-  channel-known : (v : ℕ) → v < n → getD (p .channel) v 0 < p .channels
+  channel-known : (v : ℕ) → v < n → quad 0 places v < p .channels
   unfolding planOf chart.bundled chart.tracked
-  channel-known v h = omega (arith, l .channels v, l .channel-count, channel-below c (l .sound) v h)
+  channel-known v h = omega (arith, l .channels v h, l .channel-count, channel-below c (l .sound) v h)
 
-  column-own : (v : ℕ) → v < n → getD columns v 0 ≡ ownColumn (widths planned) (getD (p .channel) v 0)
+  column-own : (v : ℕ) → v < n → getD columns v 0 ≡ ownColumn (widths planned) (quad 0 places v)
   unfolding columnIn
-  column-own v h = getD-take n (t .column) v 0 h ∙ l .column v h ∙ ap (ownColumn (widths planned)) (sym (l .channels v))
+  column-own v h = getD-take n (t .column) v 0 h ∙ l .column v h ∙ ap (ownColumn (widths planned)) (sym (l .channels v h))
 
   -- `left` is what `prefixes::prefixes` makes of the channels in a list of so many masks, where there are more than two
   abbrev pub LeftOf : ℕ → List ℕ → Type 0
   LeftOf size left =
-      2 < p .channels → Prefixes 2 (min (min n 128) (length (p .channel))) (λ v. getD (p .channel) v 0) (lastSet (p .channels) size) left
+      2 < p .channels → Prefixes 2 (min (min n 128) (length places / 4)) (quad 0 places) (lastSet (p .channels) size) left
 
   candidates : (size : ℕ) (left : List ℕ) → 2 * n + 2 ≤ size → LeftOf size left
-      → Ready (widths planned) n (rowCount c) (p .channels) (p .channel) columns rows (t .below) left
+      → Ready (widths planned) n (rowCount c) (p .channels) columns places (t .below) left
   candidates size left room q = record {
     counted = vertices-same;
     few = small;
-    long = omega (arith, l .tabled .2, small);
     few-channels = omega (arith, channels-small, small);
-    row-low = λ v h. omega (arith, row-same v h, row-counted c (l .sound) v h);
+    row-low = λ v h. omega (arith, l .rows v h, row-counted c (l .sound) v h);
     by-row = below-same;
     channel-low = channel-known;
-    by-channel = λ h. subst (λ (k : ℕ). Prefixes 2 (min (min n 128) (length (p .channel))) (λ v. getD (p .channel) v 0) k left)
+    by-channel = λ h. subst (λ (k : ℕ). Prefixes 2 (min (min n 128) (length places / 4)) (quad 0 places) k left)
         (last-all (p .channels) size (omega (arith, channels-small, small)) (omega (arith, channels-small))) (q h);
     on-own = column-own;
   }
@@ -200,17 +195,17 @@ module _ (c : Content) (p : Plan) (t : Lists) (l : Laid c p t) where
         ap₂ min (l .bundles .into v (k .1)) (l .bundles .out-of u (k .0))
         ∙ side-number c (l .sound) u v (side-edge c (l .sound) u v (edge-there c (l .sound) e h) (k .0) (k .1) (eqb-true _ _ s) a)
 
-    course-drawn : courseOf (pointOf columns rows) (vertexCount columns rows) u v ≡ courseOf (placeOf c planned) n u v
+    course-drawn : courseOf (pointOf columns places) (vertexCount columns places) u v ≡ courseOf (placeOf c planned) n u v
     course-drawn =
-        ap (λ k. courseOf (pointOf columns rows) k u v) vertices-same
-        ∙ course-same (pointOf columns rows) (placeOf c planned) n u v (ends-known e h .0) (ends-known e h .1) places-same
+        ap (λ k. courseOf (pointOf columns places) k u v) vertices-same
+        ∙ course-same (pointOf columns places) (placeOf c planned) n u v (ends-known e h .0) (ends-known e h .1) places-same
 
-    kind-drawn :
-        kindIn (getD (p .channel) u 0) (getD (p .channel) v 0) (getD (p .position) u 0) (getD (p .position) v 0) into outOf columns rows u v
+    kind-drawn : kindIn (quad 0 places u) (quad 0 places v) (quad 1 places u) (quad 1 places v) into outOf columns places u v
         ≡ kindBetween c planned u v
     unfolding kindIn kindBetween
     kind-drawn =
-        rw (l .channels u, l .channels v, l .positions u, l .positions v)
+        let k = ends-known e h in
+        rw (l .channels u (k .0), l .channels v (k .1), l .positions u (k .0), l .positions v (k .1))
         (kind-picked (eqb (channelOf ls u) (channelOf ls v)) (adjacent? (positionOf ls u) (positionOf ls v)) _ _ _ _ side-same
         (λ f. ap crossing course-drawn))
 
@@ -220,9 +215,7 @@ module _ (c : Content) (p : Plan) (t : Lists) (l : Laid c p t) where
 
     -- the kind by candidates is the chart's
     pub kind-among : (size : ℕ) (left : List ℕ) → 2 * n + 2 ≤ size → LeftOf size left
-        → kindAmong (getD (p .channel) u 0) (getD (p .channel) v 0) (getD (p .position) u 0) (getD (p .position) v 0) into outOf columns rows
-        (t .below) left u v
+        → kindAmong (quad 0 places u) (quad 0 places v) (quad 1 places u) (quad 1 places v) into outOf columns places (t .below) left u v
         ≡ kindBetween c planned u v
     kind-among size left room q =
-        kind-candidates _ _ _ _ _ _ _ _ _ (candidates size left room q) u v (ends-known e h .0) (ends-known e h .1) _ _ _ _ _ _ refl refl
-        ∙ kind-drawn
+        kind-candidates _ _ _ _ _ _ _ _ (candidates size left room q) u v (ends-known e h .0) (ends-known e h .1) _ _ _ _ ∙ kind-drawn

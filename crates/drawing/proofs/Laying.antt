@@ -56,11 +56,7 @@ abbrev planFrom : Checked → ℕ → ℕ → Plan
 planFrom k bs width = record {
   refusal = 0;
   rows = k .used;
-  row = k .rows;
-  descendants = k .counts;
-  channels = k .channels .count;
-  channel = k .channels .channel;
-  position = k .channels .position;
+  channels = k .channels;
   bundles = bs;
   width = width;
 }
@@ -69,7 +65,7 @@ planFrom k bs width = record {
 least : (m x : ℕ) → m ≤ 256 → 4 * m ≤ x → min m (min 256 (x / 4)) ≡ m
 least m x k l = omega arith
 
-module _ {n : ℕ} {k : Checked} {e spans number used column : List ℕ} (x : Passed n k e spans number used column) where
+module _ {n : ℕ} {k : Checked} {e p spans number used column : List ℕ} (x : Passed n k e p spans number used column) where
   abbrev c : Content
   c = graphContent n (x .ends) (x .given) (x .field)
 
@@ -86,13 +82,13 @@ module _ {n : ℕ} {k : Checked} {e spans number used column : List ℕ} (x : Pa
   ls = channelsOf c
 
   abbrev channel : ℕ → ℕ
-  channel v = getD (k .channels .channel) v 0
+  channel = quad 0 p
 
   abbrev position : ℕ → ℕ
-  position v = getD (k .channels .position) v 0
+  position = quad 1 p
 
   abbrev row : ℕ → ℕ
-  row v = getD (k .rows) v 0
+  row = quad 2 p
 
   s : Sound c
   s = accepted-sound c (x .accepted)
@@ -139,10 +135,10 @@ module _ {n : ℕ} {k : Checked} {e spans number used column : List ℕ} (x : Pa
 
   -- ---- channels
 
-  arranged : Arranged ls (k .channels)
+  arranged : Arranged n ls (k .channels) p
   unfolding channelsOf graphContent
   arranged =
-      subst (λ (y : List (List ℕ)). Arranged (choose (x .given) (λ _. linesOf (x .field)) (λ _. y)) (k .channels))
+      subst (λ (y : List (List ℕ)). Arranged n (choose (x .given) (λ _. linesOf (x .field)) (λ _. y)) (k .channels) p)
       (planned-same n (leadsIn t) (leads? c) small table-leads) (x .passes .arranged)
 
   -- ---- rows
@@ -159,37 +155,35 @@ module _ {n : ℕ} {k : Checked} {e spans number used column : List ℕ} (x : Pa
   unfolding rowOf graphContent
   below-laid j v h hv = x .passes .descended .below j v (let q = rows-counted in omega arith) hv
 
-  descendants-laid : (v : ℕ) → v < 128 → getD (k .counts) v 0 ≡ descendantsOf c v
+  descendants-laid : (v : ℕ) → v < n → quad 3 p v ≡ descendantsOf c v
   unfolding descendantsOf leads? graphContent
   descendants-laid v h = x .passes .descended .closure .counted v h
 
   -- ---- bundles and tracks: m channels
 
-  module _ {m bs : ℕ} {spans₁ number′ : List ℕ} (known : m ≡ k .channels .count)
-      (made : Bundled n e m (k .channels .channel) (k .channels .position) (k .rows) spans number bs spans₁ number′) where
+  module _ {m bs : ℕ} {spans₁ number′ : List ℕ} (known : m ≡ k .channels)
+      (made : Bundled n e m p spans number bs spans₁ number′) where
     channels-small : m ≤ 128
     unfolding graphContent
     channels-small = omega (arith, known, arranged .counted, channels-few c s, small)
 
     channel-known : (v : ℕ) → v < n → channel v < m
     unfolding graphContent
-    channel-known v h = omega (arith, known, arranged .channel v, arranged .counted, channel-below c s v h)
+    channel-known v h = omega (arith, known, arranged .channel v h, arranged .counted, channel-below c s v h)
 
     sides-same : (u v : ℕ) → u < n → v < n → tableSide? n e channel position u v ≡ side? n tails heads (channelOf ls) (positionOf ls) u v
     unfolding side? tableSide? apart?
     sides-same u v hu hv =
         let a = arranged in
-        rw (edges-same u v hu hv, a .channel u, a .channel v, a .position u, a .position v) refl
+        rw (edges-same u v hu hv, a .channel u hu, a .channel v hv, a .position u hu, a .position v hv) refl
 
     abbrev counted : ℕ
-    counted = vertices n (k .channels .channel) (k .channels .position) (k .rows) spans number
+    counted = vertices n p spans number
 
     all-of : counted ≡ n
     all-of =
-        let a = arranged .sizes in
         let r = x .room in
-        fitting-all n _ _ _ _ _ small (omega (arith, a .0, small)) (omega (arith, a .1, small))
-        (omega (arith, x .passes .descended .sizes .0, small)) (omega (arith, r .spans, small)) (omega (arith, r .number, small))
+        fitting-all n _ _ _ small (omega (arith, r .masks .places, small)) (omega (arith, r .spans, small)) (omega (arith, r .number, small))
 
     all-channels : min m 128 ≡ length ls
     all-channels = omega (arith, known, arranged .counted, channels-small)
@@ -199,7 +193,7 @@ module _ {n : ℕ} {k : Checked} {e spans number used column : List ℕ} (x : Pa
     bundles-same =
         rw (all-of, all-channels)
         (bundles-ext n (tableSide? n e channel position) (side? n tails heads (channelOf ls) (positionOf ls)) channel (channelOf ls)
-        position (positionOf ls) row (rowOf c) sides-same (λ v h. arranged .channel v) (λ v h. arranged .position v) rows-laid (length ls))
+        position (positionOf ls) row (rowOf c) sides-same (arranged .channel) (arranged .position) rows-laid (length ls))
 
     bundles-laid : Listed n (planOf c .bundles) bs spans₁ number′
     bundles-laid =
@@ -272,30 +266,30 @@ module _ {n : ℕ} {k : Checked} {e spans number used column : List ℕ} (x : Pa
       width-same =
           start-same count (tracksIn (planOf c)) m count-same ∙ ap (blockStart (evenGaps (tracksIn (planOf c)))) (known ∙ arranged .counted)
 
-      pub spaceable : Spaceable n m (k .channels .channel) used′ column
+      pub spaceable : Spaceable n m p used′ column
       spaceable = record {
         few = small;
         few-channels = channels-small;
         known = channel-known;
         page = omega (arith, width-same, width-on-page c s);
         sizes = (
-          omega (arith, small, arranged .sizes .0),
+          omega (arith, small, x .room .masks .places),
           omega (arith, tracked .long .1, x .room .used),
           omega (arith, small, x .room .column),
         );
       }
 
-      module _ {column′ : List ℕ} {width : ℕ} (d : Spaced n m (k .channels .channel) used′ (length column) column′ width) where
+      module _ {column′ : List ℕ} {width : ℕ} (d : Spaced n m p used′ (length column) column′ width) where
         column-laid : (v : ℕ) → v < n → getD column′ v 0 ≡ columnIn (planOf c) v
         unfolding columnIn planOf chart.bundled chart.tracked
         column-laid v h =
             d .standing .made v h
             ∙ d .owns .columns .made (channel v) (channel-known v h)
             ∙ own-same count (tracksIn (planOf c)) m (channel v) (channel-known v h) count-same
-            ∙ ap (ownColumn (widths (planOf c))) (arranged .channel v)
+            ∙ ap (ownColumn (widths (planOf c))) (arranged .channel v h)
 
         abbrev after : Lists
-        after = lists e (x .below) t (x .longer) spans′ number′ used′ column′
+        after = lists e (x .below) t (x .longer) p spans′ number′ used′ column′
 
         -- THE PLAN: what the lower layers made is what the chart is drawn from
         laid : Laid c (planFrom k bs width) after
@@ -304,7 +298,6 @@ module _ {n : ℕ} {k : Checked} {e spans number used column : List ℕ} (x : Pa
           sound = s;
           row-count = rows-counted;
           rows = rows-laid;
-          rows-past = x .passes .descended .past;
           descendants = descendants-laid;
           channel-count = arranged .counted;
           channels = arranged .channel;
@@ -317,7 +310,6 @@ module _ {n : ℕ} {k : Checked} {e spans number used column : List ℕ} (x : Pa
           width = d .owns .end ∙ width-same;
           longer-pairs = longer-laid;
           below-rows = below-laid;
-          tabled = (x .passes .descended .sizes .0, x .passes .descended .sizes .1, arranged .sizes .0, arranged .sizes .1);
           room = record {
             masks = x .room .masks;
             spans = omega (arith, tracked .long .0, made .long .0, x .room .spans);
@@ -328,12 +320,11 @@ module _ {n : ℕ} {k : Checked} {e spans number used column : List ℕ} (x : Pa
         }
 
 -- whatever graph passed
-module _ {n m bs q width : ℕ} {k : Checked} {e spans number used column spans₁ spans′ number′ used′ column′ : List ℕ}
-    (known : m ≡ k .channels .count)
-    (made : Bundled n e m (k .channels .channel) (k .channels .position) (k .rows) spans number bs spans₁ number′)
+module _ {n m bs q width : ℕ} {k : Checked} {e p spans number used column spans₁ spans′ number′ used′ column′ : List ℕ}
+    (known : m ≡ k .channels) (made : Bundled n e m p spans number bs spans₁ number′)
     (tracked : Tracked bs spans₁ used q spans′ used′)
-    (d : Spaced n m (k .channels .channel) used′ (length column) column′ width) where
-  pub all-laid : Filled n k e spans number used column (planFrom k bs width) spans′ number′ used′ column′
+    (d : Spaced n m p used′ (length column) column′ width) where
+  pub all-laid : Filled n k e p spans number used column (planFrom k bs width) spans′ number′ used′ column′
   all-laid = record {
     refusal = refl;
     laid = λ x. laid x known made tracked d;

@@ -30,7 +30,7 @@ module _ (n : ℕ) (t : Lists) where
       and-intro _ _ (le-leb _ _ (r .spans))
       (and-intro _ _ (le-leb _ _ (r .number)) (and-intro _ _ (le-leb _ _ (r .used)) (le-leb _ _ (r .column))))
 
-  tested-roomy : tested n t ≡ true → Sized n (t .edges) (t .below) (t .table) (t .longer) → Roomy n t
+  tested-roomy : tested n t ≡ true → Sized n (t .edges) (t .below) (t .table) (t .longer) (t .places) → Roomy n t
   unfolding roomy?
   tested-roomy h z =
       let a = and-elim (leb (8 * min n 128) (length (t .spans))) _ h in
@@ -60,7 +60,7 @@ module _ (n : ℕ) (t : Lists) where
         laid = λ z. absurd (omega arith);
         none = λ h. made ∙ ap unplannedBy (sym eight);
         kept = λ h. refl;
-        long = record { edges = refl; below = refl; table = refl; longer = refl; spans = refl; number = refl; used = refl; column = refl };
+        long = record { edges = refl; below = refl; table = refl; longer = refl; places = refl; spans = refl; number = refl; used = refl; column = refl };
       }
 
 -- what is not short is long enough
@@ -72,21 +72,21 @@ stable a b h = go (decLt b a)
     go (no g) = omega (arith, g)
 
 module _ {n : ℕ} {ends : List ℕ} {given : Bool} {field : List ℕ} (t : Lists) (fine : tested n t ≡ true)
-    {k : Checked} {e′ b′ t′ l′ : List ℕ}
-    (p : Checks n ends given field (t .edges) (t .below) (t .table) (t .longer) k e′ b′ t′ l′) where
+    {k : Checked} {e′ b′ t′ l′ p′ : List ℕ}
+    (p : Checks n ends given field (t .edges) (t .below) (t .table) (t .longer) (t .places) k e′ b′ t′ l′ p′) where
   answer : Roomy n t → k .refusal ≡ refusalOf (graphContent n ends given field)
   unfolding graphContent
   answer r = p .answer (r .masks)
 
   -- where lists of masks have no room
-  cramped : (Roomy n t → ⊥) → Sized n (t .edges) (t .below) (t .table) (t .longer) → ⊥
+  cramped : (Roomy n t → ⊥) → Sized n (t .edges) (t .below) (t .table) (t .longer) (t .places) → ⊥
   cramped h z = h (tested-roomy n t fine z)
 
   abbrev masked : Lists
-  masked = lists e′ b′ t′ l′ (t .spans) (t .number) (t .used) (t .column)
+  masked = lists e′ b′ t′ l′ p′ (t .spans) (t .number) (t .used) (t .column)
 
-  untouched : (e′ ≡ t .edges) × (b′ ≡ t .below) × (t′ ≡ t .table) × (l′ ≡ t .longer) → masked ≡ t
-  untouched s = rw (s .0, s .1, s .2, s .3) refl
+  untouched : (e′ ≡ t .edges) × (b′ ≡ t .below) × (t′ ≡ t .table) × (l′ ≡ t .longer) × (p′ ≡ t .places) → masked ≡ t
+  untouched s = rw (s .0, s .1, s .2, s .3, s .4) refl
 
   -- a check fails
   pub refused-plan : k .refusal ≢ 0 → (r : Plan) → r ≡ unplannedBy (k .refusal) → Plans n ends given field t r masked
@@ -94,7 +94,7 @@ module _ {n : ℕ} {ends : List ℕ} {given : Bool} {field : List ℕ} (t : List
       let same : r .refusal ≡ k .refusal = ap (λ (x : Plan). x .refusal) made in
       record {
         answer = λ h. same ∙ answer h;
-        short = λ h. let s = p .short (cramped h) in (same ∙ s .0, untouched (s .1, s .2, s .3, s .4));
+        short = λ h. let s = p .short (cramped h) in (same ∙ s .0, untouched (s .1, s .2, s .3, s .4, s .5));
         laid = λ z. absurd (ne (sym same ∙ z));
         none = λ h. made ∙ ap unplannedBy (sym same);
         kept = λ h. refl;
@@ -103,6 +103,7 @@ module _ {n : ℕ} {ends : List ℕ} {given : Bool} {field : List ℕ} (t : List
           below = p .long .1;
           table = p .long .2;
           longer = p .long .3;
+          places = p .long .4;
           spans = refl;
           number = refl;
           used = refl;
@@ -112,7 +113,7 @@ module _ {n : ℕ} {ends : List ℕ} {given : Bool} {field : List ℕ} (t : List
 
   -- nothing is refused
   module _ (z : k .refusal ≡ 0) where
-    fits : (Sized n (t .edges) (t .below) (t .table) (t .longer) → ⊥) → ⊥
+    fits : (Sized n (t .edges) (t .below) (t .table) (t .longer) (t .places) → ⊥) → ⊥
     fits h = let s = p .short h .0 in absurd (omega arith)
 
     roomy : Roomy n t
@@ -121,9 +122,10 @@ module _ {n : ℕ} {ends : List ℕ} {given : Bool} {field : List ℕ} (t : List
       below = stable _ _ (λ h. fits (λ w. h (w .below)));
       table = stable _ _ (λ h. fits (λ w. h (w .table)));
       longer = stable _ _ (λ h. fits (λ w. h (w .longer)));
+      places = stable _ _ (λ h. fits (λ w. h (w .places)));
     })
 
-    pub passed : Passed n k e′ (t .spans) (t .number) (t .used) (t .column)
+    pub passed : Passed n k e′ p′ (t .spans) (t .number) (t .used) (t .column)
     passed = record {
       ends = ends;
       given = given;
@@ -139,6 +141,7 @@ module _ {n : ℕ} {ends : List ℕ} {given : Bool} {field : List ℕ} (t : List
           below = omega (arith, p .long .1, roomy .masks .below);
           table = omega (arith, p .long .2, roomy .masks .table);
           longer = omega (arith, p .long .3, roomy .masks .longer);
+          places = omega (arith, p .long .4, roomy .masks .places);
         };
         spans = roomy .spans;
         number = roomy .number;
@@ -148,8 +151,8 @@ module _ {n : ℕ} {ends : List ℕ} {given : Bool} {field : List ℕ} (t : List
     }
 
     pub laid-plan : {r : Plan} {spans′ number′ used′ column′ : List ℕ}
-        → Filled n k e′ (t .spans) (t .number) (t .used) (t .column) r spans′ number′ used′ column′
-        → Plans n ends given field t r (lists e′ b′ t′ l′ spans′ number′ used′ column′)
+        → Filled n k e′ p′ (t .spans) (t .number) (t .used) (t .column) r spans′ number′ used′ column′
+        → Plans n ends given field t r (lists e′ b′ t′ l′ p′ spans′ number′ used′ column′)
     unfolding passed
     laid-plan f = record {
       answer = λ h. f .refusal ∙ sym z ∙ answer h;
@@ -162,6 +165,7 @@ module _ {n : ℕ} {ends : List ℕ} {given : Bool} {field : List ℕ} (t : List
         below = p .long .1;
         table = p .long .2;
         longer = p .long .3;
+        places = p .long .4;
         spans = f .long .0;
         number = f .long .1;
         used = f .long .2;

@@ -5,7 +5,7 @@ use mathlib.Core.Bool.{Bool, _&&_}
 use mathlib.Core.List.{List}
 use Prim.Native.Nat.{ℕ, _*_, _≤_, _<_, min}
 use lib.Dec.{leb}
-use lib.ListN.{length, getD, replicate}
+use lib.ListN.{length, getD}
 use Rattle.counting.specs.Quads.{quad}
 use Rattle.masks.specs.Sets.{member?, at}
 use Rattle.matching.specs.Lists.{channelOf, positionOf}
@@ -18,24 +18,27 @@ use Rattle.outline.specs.Chart.{leads?, rowOf, rowCount, descendantsOf, planOf,
 use Rattle.drawing.specs.Drawn.{graphContent}
 use Rattle.drawing.specs.declared.Plan.{Plan}
 
--- the lists that are lent: four of masks; the channel, the first row, the last row and the track of each bundle, in turn; the bundle at each
--- end of a vertex; how many tracks each channel has; the column of each vertex
+-- the lists that are lent: four of masks; of each vertex the channel, its position there, its row and how many vertices it reaches, in turn; of
+-- each bundle the channel, the first row, the last row and the track; the bundle at each end of a vertex; how many tracks each channel has; the
+-- column of each vertex
 pub record Lists : Type 0 where
   pub edges : List ℕ
   pub below : List ℕ
   pub table : List ℕ
   pub longer : List ℕ
+  pub places : List ℕ
   pub spans : List ℕ
   pub number : List ℕ
   pub used : List ℕ
   pub column : List ℕ
 
-abbrev pub lists : List ℕ → List ℕ → List ℕ → List ℕ → List ℕ → List ℕ → List ℕ → List ℕ → Lists
-lists edges below table longer spans number used column = record {
+abbrev pub lists : List ℕ → List ℕ → List ℕ → List ℕ → List ℕ → List ℕ → List ℕ → List ℕ → List ℕ → Lists
+lists edges below table longer places spans number used column = record {
   edges = edges;
   below = below;
   table = table;
   longer = longer;
+  places = places;
   spans = spans;
   number = number;
   used = used;
@@ -48,25 +51,24 @@ roomy? m spans number used column = leb (8 * m) spans && (leb (2 * m) number && 
 
 -- the lists have room for n vertices, 128 at most
 pub record Roomy (n : ℕ) (t : Lists) : Type 0 where
-  pub masks : Sized n (t .edges) (t .below) (t .table) (t .longer)
+  pub masks : Sized n (t .edges) (t .below) (t .table) (t .longer) (t .places)
   pub spans : 8 * min n 128 ≤ length (t .spans)
   pub number : 2 * min n 128 ≤ length (t .number)
   pub used : 128 ≤ length (t .used)
   pub column : min n 128 ≤ length (t .column)
 
--- p and t have the rows, channels, bundles, tracks and columns of the graph's chart, 0 past the last of each; `below` has, for each k up
+-- p and t have the rows, channels, bundles, tracks and columns of the graph's chart, 0 past the last bundle and column; `below` has, for each k up
 -- to the rows used, the set of the vertices whose row is below k, and `longer` the pairs of vertices with a vertex between. Left free,
--- since nobody reads it, is what `below` has past the rows used, `longer` past the vertices, `used` past 128 channels, and what `edges` and
+-- since nobody reads it, is what `below` has past the rows used, `longer` and `places` past the vertices, `used` past 128 channels, and what `edges` and
 -- `table` have
 pub record Laid (c : Content) (p : Plan) (t : Lists) : Type 0 where
   pub sound : Sound c
   pub row-count : p .rows ≡ rowCount c
-  pub rows : (v : ℕ) → v < c .vertices → getD (p .row) v 0 ≡ rowOf c v
-  pub rows-past : (v : ℕ) → c .vertices ≤ v → getD (p .row) v 0 ≡ 0
-  pub descendants : (v : ℕ) → v < 128 → getD (p .descendants) v 0 ≡ descendantsOf c v
+  pub rows : (v : ℕ) → v < c .vertices → quad 2 (t .places) v ≡ rowOf c v
+  pub descendants : (v : ℕ) → v < c .vertices → quad 3 (t .places) v ≡ descendantsOf c v
   pub channel-count : p .channels ≡ length (planOf c .channels)
-  pub channels : (v : ℕ) → getD (p .channel) v 0 ≡ channelOf (planOf c .channels) v
-  pub positions : (v : ℕ) → getD (p .position) v 0 ≡ positionOf (planOf c .channels) v
+  pub channels : (v : ℕ) → v < c .vertices → quad 0 (t .places) v ≡ channelOf (planOf c .channels) v
+  pub positions : (v : ℕ) → v < c .vertices → quad 1 (t .places) v ≡ positionOf (planOf c .channels) v
   pub bundles : Listed (c .vertices) (planOf c .bundles) (p .bundles) (t .spans) (t .number)
   pub track : (b : ℕ) → quad 3 (t .spans) b ≡ getD (planOf c .tracks) b 0
   pub used : (l : ℕ) → l < 128 → getD (t .used) l 0 ≡ tracksIn (planOf c) l
@@ -75,7 +77,6 @@ pub record Laid (c : Content) (p : Plan) (t : Lists) : Type 0 where
   pub width : p .width ≡ widthOf (planOf c)
   pub longer-pairs : (u v : ℕ) → u < c .vertices → v < c .vertices → member? (t .longer) (2 * u) v ≡ transitive? (leads? c) (c .vertices) u v
   pub below-rows : (k v : ℕ) → k ≤ rowCount c → v < 128 → at 2 (t .below) k v ≡ 1 ↔ ((v < c .vertices) × (rowOf c v < k))
-  pub tabled : (length (p .row) ≡ 128) × (length (p .descendants) ≡ 128) × (length (p .channel) ≡ 128) × (length (p .position) ≡ 128)
   pub room : Roomy (c .vertices) t
 
 -- a refusal, with nothing planned
@@ -83,11 +84,7 @@ abbrev pub unplannedBy : ℕ → Plan
 unplannedBy k = record {
   refusal = k;
   rows = 0;
-  row = replicate 128 0;
-  descendants = replicate 128 0;
   channels = 0;
-  channel = replicate 128 0;
-  position = replicate 128 0;
   bundles = 0;
   width = 0;
 }
@@ -98,17 +95,18 @@ pub record Long (t s : Lists) : Type 0 where
   pub below : length (s .below) ≡ length (t .below)
   pub table : length (s .table) ≡ length (t .table)
   pub longer : length (s .longer) ≡ length (t .longer)
+  pub places : length (s .places) ≡ length (t .places)
   pub spans : length (s .spans) ≡ length (t .spans)
   pub number : length (s .number) ≡ length (t .number)
   pub used : length (s .used) ≡ length (t .used)
   pub column : length (s .column) ≡ length (t .column)
 
 -- the first check that fails, or 0 and what is planned; 8, and nothing changed, where a list has no room. After another refusal it is
--- left free what the lists of masks hold, and the others are as they were
+-- left free what the lists of masks and the places hold, and the others are as they were
 pub record Plans (n : ℕ) (ends : List ℕ) (given : Bool) (field : List ℕ) (t : Lists) (p : Plan) (s : Lists) : Type 0 where
   pub answer : Roomy n t → p .refusal ≡ refusalOf (graphContent n ends given field)
   pub short : (Roomy n t → ⊥) → (p .refusal ≡ 8) × (s ≡ t)
   pub laid : p .refusal ≡ 0 → Laid (graphContent n ends given field) p s
   pub none : p .refusal ≢ 0 → p ≡ unplannedBy (p .refusal)
-  pub kept : p .refusal ≢ 0 → s ≡ lists (s .edges) (s .below) (s .table) (s .longer) (t .spans) (t .number) (t .used) (t .column)
+  pub kept : p .refusal ≢ 0 → s ≡ lists (s .edges) (s .below) (s .table) (s .longer) (s .places) (t .spans) (t .number) (t .used) (t .column)
   pub long : Long t s

@@ -2,8 +2,9 @@
 use mathlib.Core.Path.{_≡_}
 use mathlib.Core.Bool.{Bool}
 use mathlib.Core.List.{List}
-use Prim.Native.Nat.{ℕ, _≤_, _<_}
+use Prim.Native.Nat.{ℕ, _*_, _≤_, _<_}
 use lib.ListN.{length, getD}
+use Rattle.counting.specs.Quads.{quad}
 use Rattle.geometry.specs.Placement.{Widths, evenGaps, blockStart, ownColumn}
 use Rattle.page.specs.Page as page
 use Rattle.record.specs.Checks.{refusalOf}
@@ -29,21 +30,21 @@ abbrev pub blocksOf : List ℕ → Widths
 blocksOf tracks = evenGaps (λ l. getD tracks l 0)
 
 -- the channels stand on the page, each of n vertices is in one of them, and the list of columns has room
-pub record Spaceable (n channels : ℕ) (channel tracks column : List ℕ) : Type 0 where
+pub record Spaceable (n channels : ℕ) (places tracks column : List ℕ) : Type 0 where
   pub few : n ≤ 128
   pub few-channels : channels ≤ 128
-  pub known : (v : ℕ) → v < n → getD channel v 0 < channels
+  pub known : (v : ℕ) → v < n → quad 0 places v < channels
   pub page : blockStart (blocksOf tracks) channels ≤ page.columns
-  pub sizes : (n ≤ length channel) × (128 ≤ length tracks) × (n ≤ length column)
+  pub sizes : (4 * n ≤ length places) × (128 ≤ length tracks) × (n ≤ length column)
 
 -- each of n vertices stands in its channel's own column, and so wide are all blocks
-pub record Spaced (n channels : ℕ) (channel tracks : List ℕ) (size : ℕ) (column : List ℕ) (width : ℕ) : Type 0 where
+pub record Spaced (n channels : ℕ) (places tracks : List ℕ) (size : ℕ) (column : List ℕ) (width : ℕ) : Type 0 where
   pub own : List ℕ
   pub owns : Owns (blocksOf tracks) channels own width
-  pub standing : Tabled size (λ v. getD own (getD channel v 0) 0) n column
+  pub standing : Tabled size (λ v. getD own (quad 0 places v) 0) n column
 
 -- a graph of n vertices passed the checks with k, and the lists have room for its plan
-pub record Passed (n : ℕ) (k : Checked) (edges spans number used column : List ℕ) : Type 0 where
+pub record Passed (n : ℕ) (k : Checked) (edges places spans number used column : List ℕ) : Type 0 where
   pub ends : List ℕ
   pub given : Bool
   pub field : List ℕ
@@ -51,14 +52,14 @@ pub record Passed (n : ℕ) (k : Checked) (edges spans number used column : List
   pub table : List ℕ
   pub longer : List ℕ
   pub accepted : refusalOf (graphContent n ends given field) ≡ 0
-  pub passes : Passes n ends given field k edges below table longer
-  pub room : Roomy n (lists edges below table longer spans number used column)
+  pub passes : Passes n ends given field k edges below table longer places
+  pub room : Roomy n (lists edges below table longer places spans number used column)
 
 -- whatever graph passed, p and the lists are what is planned of it; the lists stay as long as they were
-pub record Filled (n : ℕ) (k : Checked) (edges spans number used column : List ℕ) (p : Plan) (spans′ number′ used′ column′ : List ℕ)
+pub record Filled (n : ℕ) (k : Checked) (edges places spans number used column : List ℕ) (p : Plan) (spans′ number′ used′ column′ : List ℕ)
     : Type 0 where
   pub refusal : p .refusal ≡ 0
-  pub laid : (x : Passed n k edges spans number used column)
-      → Laid (graphContent n (x .ends) (x .given) (x .field)) p (lists edges (x .below) (x .table) (x .longer) spans′ number′ used′ column′)
+  pub laid : (x : Passed n k edges places spans number used column)
+      → Laid (graphContent n (x .ends) (x .given) (x .field)) p (lists edges (x .below) (x .table) (x .longer) places spans′ number′ used′ column′)
   pub long : (length spans′ ≡ length spans) × (length number′ ≡ length number) × (length used′ ≡ length used)
       × (length column′ ≡ length column)

@@ -1,7 +1,8 @@
 // Columns by blocks (document 01: 'Columns and bends').
 ghost use mathlib.Core.Path.{_≡_};
-ghost use Prim.Native.Nat.{ℕ, _≤_, _<_};
+ghost use Prim.Native.Nat.{ℕ, _*_, _≤_, _<_};
 ghost use lib.ListN.{length, getD, replicate};
+ghost use Rattle.counting.specs.Quads.{quad};
 ghost use Rattle.geometry.specs.Placement.{evenGaps, blockStart};
 ghost use Rattle.page.specs.Page as page;
 ghost use Rattle.drawing.specs.Parts.{Tabled, Owns, Spaceable, Spaced};
@@ -35,29 +36,29 @@ fn clear(columns: &mut [u16])
 }
 
 // Each of n vertices stands in its channel's own column.
-fn vertex_columns<'a>(n: usize, channel: &'a [u8], own: &'a [u16], columns: &mut [u16])
-    requires { ⌜ (n ≤ 128) × (n ≤ length (now columns)) × (n ≤ length (now channel)) × (length (now own) ≡ 128) × ((v : ℕ) → v < n → getD (now channel) v 0 < 128) × (now columns ≡ replicate (length (now columns)) 0) ⌝ }
-    ensures { λ _. ⌜ Tabled (length (now (columns .entry))) (λ v. getD (now (own .entry)) (getD (now (channel .entry)) v 0) 0) n (now (columns .exit)) ⌝ }
+fn vertex_columns<'a>(n: usize, places: &'a [u8], own: &'a [u16], columns: &mut [u16])
+    requires { ⌜ (n ≤ 128) × (n ≤ length (now columns)) × (4 * n ≤ length (now places)) × (length (now own) ≡ 128) × ((v : ℕ) → v < n → quad 0 (now places) v < 128) × (now columns ≡ replicate (length (now columns)) 0) ⌝ }
+    ensures { λ _. ⌜ Tabled (length (now (columns .entry))) (λ v. getD (now (own .entry)) (quad 0 (now (places .entry)) v) 0) n (now (columns .exit)) ⌝ }
 {
     for v in 0..n {
-        columns[v] = own[wide(channel[v])];
+        columns[v] = own[wide(places[4 * v])];
     }
 }
 
 // The columns of n vertices by their channels, 0 past the last, and the columns of all blocks, by the tracks of each channel.
-pub(crate) fn places_of<'a>(
+pub(crate) fn columns_of<'a, 't>(
     n: usize,
     channels: usize,
-    channel: &'a [u8],
-    tracks: &'a [u16],
+    places: &'a [u8],
+    tracks: &'t [u16],
     column: &mut [u16],
 ) -> u16
-    requires { ⌜ Spaceable n channels (now channel) (now tracks) (now column) ⌝ }
-    ensures { λ r. ⌜ Spaced n channels (now (channel .entry)) (now (tracks .entry)) (length (now (column .entry))) (now (column .exit)) r ⌝ }
+    requires { ⌜ Spaceable n channels (now places) (now tracks) (now column) ⌝ }
+    ensures { λ r. ⌜ Spaced n channels (now (places .entry)) (now (tracks .entry)) (length (now (column .entry))) (now (column .exit)) r ⌝ }
 {
     let mut own = [0; 128];
     let width = own_columns(channels, tracks, &mut own);
     clear(column);
-    vertex_columns(n, channel, &own, column);
+    vertex_columns(n, places, &own, column);
     width
 }

@@ -8,23 +8,18 @@ ghost use Rattle.drawing.specs.Parts.{Passed, Filled};
 mod columns;
 
 use bundles::bundled;
-use columns::places_of;
+use columns::columns_of;
 use record::checks::Checked;
 use record::checks::check;
 
 // The most vertices, and channels.
 const MOST: usize = 128;
 
-// Why a graph is refused, or 0; how many rows it has; the row of each vertex, how many vertices it reaches, its channel and its position
-// there, 0 past the last; how many channels and bundles there are, and the columns of all channels.
+// Why a graph is refused, or 0; how many rows, channels and bundles it has, and the columns of all channels.
 pub struct Plan {
     pub refusal: u8,
     pub rows: u8,
-    pub row: [u8; 128],
-    pub descendants: [u8; 128],
     pub channels: u8,
-    pub channel: [u8; 128],
-    pub position: [u8; 128],
     pub bundles: usize,
     pub width: u16,
 }
@@ -43,11 +38,7 @@ fn unplanned(refusal: u8) -> Plan
     Plan {
         refusal,
         rows: 0,
-        row: [0; 128],
-        descendants: [0; 128],
         channels: 0,
-        channel: [0; 128],
-        position: [0; 128],
         bundles: 0,
         width: 0,
     }
@@ -85,39 +76,23 @@ fn filled<'e, 's, 'n, 'u, 'c>(
     n: usize,
     k: Checked,
     edges: &'e [u64],
+    places: &'e [u8],
     spans: &'s mut [u8],
     number: &'n mut [u16],
     used: &'u mut [u16],
     column: &'c mut [u16],
 ) -> Plan
-    requires { ⌜ Passed n k (now edges) (now spans) (now number) (now used) (now column) ⌝ }
-    ensures { λ r. ⌜ Filled n k (now (edges .entry)) (now (spans .entry)) (now (number .entry)) (now (used .entry)) (now (column .entry)) r (now (spans .exit)) (now (number .exit)) (now (used .exit)) (now (column .exit)) ⌝ }
+    requires { ⌜ Passed n k (now edges) (now places) (now spans) (now number) (now used) (now column) ⌝ }
+    ensures { λ r. ⌜ Filled n k (now (edges .entry)) (now (places .entry)) (now (spans .entry)) (now (number .entry)) (now (used .entry)) (now (column .entry)) r (now (spans .exit)) (now (number .exit)) (now (used .exit)) (now (column .exit)) ⌝ }
 {
-    let count = wide(k.channels.count);
-    let bundles = bundled(
-        n,
-        edges,
-        count,
-        &k.channels.channel,
-        &k.channels.position,
-        &k.rows,
-        spans,
-        number,
-    );
+    let count = wide(k.channels);
+    let bundles = bundled(n, edges, count, places, spans, number);
     tracks::tracked(bundles, spans, used);
-    let width = places_of(n, count, &k.channels.channel, used, column);
-    let row = k.rows;
-    let descendants = k.counts;
-    let channel = k.channels.channel;
-    let position = k.channels.position;
+    let width = columns_of(n, count, places, used, column);
     Plan {
         refusal: 0,
         rows: k.used,
-        row,
-        descendants,
-        channels: k.channels.count,
-        channel,
-        position,
+        channels: k.channels,
         bundles,
         width,
     }
@@ -125,10 +100,11 @@ fn filled<'e, 's, 'n, 'u, 'c>(
 
 // What is planned of n vertices, the edges whose ends are bytes, tail and head in turn, and the given channels in the bytes of their
 // field, if there are any; or the number of the first check that fails, of 2 to 7. `below` gets the sets of vertices by row, `longer` the
-// pairs with a vertex between; `spans` four bytes a bundle: its channel, its first row, its last row and its track; `number` the bundle of
-// the edges into each vertex and of those out of it, in turn; `used` how many tracks each channel has, and `column` the column of each
-// vertex. 8, and nothing changed, where a list has no room.
-pub fn planned<'a, 'f, 'e, 'b, 't, 'l, 's, 'n, 'u, 'c>(
+// pairs with a vertex between; `places` four bytes a vertex: its channel, its position there, its row and how many vertices it reaches;
+// `spans` four bytes a bundle: its channel, its first row, its last row and its track; `number` the bundle of the edges into each vertex and
+// of those out of it, in turn; `used` how many tracks each channel has, and `column` the column of each vertex. 8, and nothing changed,
+// where a list has no room.
+pub fn planned<'a, 'f, 'e, 'b, 't, 'l, 'p, 's, 'n, 'u, 'c>(
     n: usize,
     ends: &'a [u8],
     given: bool,
@@ -137,12 +113,13 @@ pub fn planned<'a, 'f, 'e, 'b, 't, 'l, 's, 'n, 'u, 'c>(
     below: &'b mut [u64],
     table: &'t mut [u64],
     longer: &'l mut [u64],
+    places: &'p mut [u8],
     spans: &'s mut [u8],
     number: &'n mut [u16],
     used: &'u mut [u16],
     column: &'c mut [u16],
 ) -> Plan
-    ensures { λ r. ⌜ Plans n (now (ends .entry)) given (now (field .entry)) (lists (now (edges .entry)) (now (below .entry)) (now (table .entry)) (now (longer .entry)) (now (spans .entry)) (now (number .entry)) (now (used .entry)) (now (column .entry))) r (lists (now (edges .exit)) (now (below .exit)) (now (table .exit)) (now (longer .exit)) (now (spans .exit)) (now (number .exit)) (now (used .exit)) (now (column .exit))) ⌝ }
+    ensures { λ r. ⌜ Plans n (now (ends .entry)) given (now (field .entry)) (lists (now (edges .entry)) (now (below .entry)) (now (table .entry)) (now (longer .entry)) (now (places .entry)) (now (spans .entry)) (now (number .entry)) (now (used .entry)) (now (column .entry))) r (lists (now (edges .exit)) (now (below .exit)) (now (table .exit)) (now (longer .exit)) (now (places .exit)) (now (spans .exit)) (now (number .exit)) (now (used .exit)) (now (column .exit))) ⌝ }
 {
     if !is_roomy(
         capped(n),
@@ -153,9 +130,9 @@ pub fn planned<'a, 'f, 'e, 'b, 't, 'l, 's, 'n, 'u, 'c>(
     ) {
         return unplanned(8);
     }
-    let k = check(n, ends, given, field, edges, below, table, longer);
+    let k = check(n, ends, given, field, edges, below, table, longer, places);
     if k.refusal != 0 {
         return unplanned(k.refusal);
     }
-    filled(n, k, edges, spans, number, used, column)
+    filled(n, k, edges, places, spans, number, used, column)
 }

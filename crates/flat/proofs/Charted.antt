@@ -22,16 +22,16 @@ use Rattle.drawing.specs.Laid.{Lists, Laid}
 use Rattle.drawing.specs.declared.Plan.{Plan}
 use Rattle.drawing.proofs.Entries.{edges-counted, small, edges-few, bundles-few, ends-known}
 use Rattle.drawing.proofs.Entries.{vertex-drawn, bundle-drawn, kind-among, mark-drawn}
-use Rattle.flat.specs.declared.ChartCounts.{ChartCounts}
+use Rattle.flat.specs.declared.Counts.{Counts}
 use Rattle.flat.specs.Chart.{wordNumber, arrowNumber, bundleNumber, words, bundles, Numbered}
 use Rattle.flat.specs.Numbers.{implied?, kindAt, wordFrom, arrowFrom, bundleFrom}
 use Rattle.flat.specs.Numbers as numbers
 use Rattle.flat.specs.Pass.{Ready, Passed}
-use Rattle.flat.specs.Hand.{LeftFor}
+use Rattle.flat.specs.Hand.{LeftFor, whole}
 
 -- the counts of what is planned of n vertices and m edges
-abbrev countsOf : ℕ → ℕ → ℕ → Plan → List ℕ → ChartCounts
-countsOf n m firm p used = record {
+abbrev countsOf : ℕ → ℕ → ℕ → Plan → Counts
+countsOf n m firm p = record {
   refusal = 0;
   words = n;
   arrows = m;
@@ -40,7 +40,6 @@ countsOf n m firm p used = record {
   lines = p .channels;
   firm = firm;
   width = p .width;
-  «side_columns» = used;
 }
 
 module _ (n : ℕ) (ends : List ℕ) (given : Bool) (field : List ℕ) (p : Plan) (t : Lists)
@@ -60,13 +59,11 @@ module _ (n : ℕ) (ends : List ℕ) (given : Bool) (field : List ℕ) (p : Plan
 
   -- ---- vertices and bundles: what the fills ask for, and what they put
 
-  pub words-fit : (n ≤ 128) × (n ≤ length (p .channel)) × (n ≤ length (p .position)) × (n ≤ length (t .column)) × (n ≤ length (p .row))
-      × (n ≤ length (p .descendants))
+  pub words-fit : (n ≤ 128) × (4 * n ≤ length (t .places)) × (n ≤ length (t .column))
   unfolding graphContent
   words-fit =
       let f = few in
-      let d = l .tabled in
-      (f, omega (arith, d .2), omega (arith, d .3), omega (arith, l .room .column), omega (arith, d .0), omega (arith, d .1))
+      (f, omega (arith, l .room .masks .places), omega (arith, l .room .column))
 
   pub bundles-fit : (p .bundles ≤ 256) × (p .bundles * 4 ≤ length (t .spans))
   unfolding graphContent
@@ -75,8 +72,7 @@ module _ (n : ℕ) (ends : List ℕ) (given : Bool) (field : List ℕ) (p : Plan
       let b = bundles-few c p t l in
       (omega arith, omega (arith, l .room .spans))
 
-  word-same : (v : ℕ) → v < n
-      → wordFrom (p .channel) (p .position) (t .column) (p .row) (p .descendants) v ≡ vertexEntry c (planOf c) v
+  word-same : (v : ℕ) → v < n → wordFrom (t .places) (t .column) v ≡ vertexEntry c (planOf c) v
   unfolding wordFrom graphContent
   word-same v h = vertex-drawn c p t l v h
 
@@ -105,9 +101,9 @@ module _ (n : ℕ) (ends : List ℕ) (given : Bool) (field : List ℕ) (p : Plan
   arrows-few = omega (arith, edges-few c p t l, counted)
 
   module _ (left : List ℕ) where
-    -- edges are made from the places of the first n vertices
+    -- edges are made from the places and the columns of the n vertices
     abbrev here : numbers.Given
-    here = numbers.given ends (t .longer) (p .channel) (p .position) (t .number) (take n (t .column)) (take n (p .row)) (t .below) left
+    here = numbers.given ends (t .longer) (t .places) (t .number) (take n (t .column)) (t .below) left
 
     pub ready : (e : ℕ) → e < m → Ready here e
     unfolding graphContent
@@ -115,14 +111,12 @@ module _ (n : ℕ) (ends : List ℕ) (given : Bool) (field : List ℕ) (p : Plan
         let k = ends-low e h in
         let f = few in
         let r = l .room in
-        let d = l .tabled in
         record {
           few = omega (arith, arrows-few);
           ends = omega arith;
           low = (omega arith, omega arith);
           longer = omega (arith, r .masks .longer);
-          channel = (omega (arith, d .2), omega (arith, d .2));
-          position = (omega (arith, d .3), omega (arith, d .3));
+          places = (omega (arith, r .masks .places), omega (arith, r .masks .places));
           number = (omega (arith, r .number), omega (arith, r .number));
         }
 
@@ -138,7 +132,7 @@ module _ (n : ℕ) (ends : List ℕ) (given : Bool) (field : List ℕ) (p : Plan
         ∙ ap (λ k. count k (λ e. not (transitiveEdge? c e))) (sym counted)
 
     -- `left` is made of the channels by `prefixes::prefixes`
-    module _ (size : ℕ) (room : 2 * min n 128 + 2 ≤ size) (lefts : LeftFor n (p .channels) (p .channel) size left) where
+    module _ (size : ℕ) (room : 2 * min n 128 + 2 ≤ size) (lefts : LeftFor n (p .channels) (t .places) size left) where
       kind-same : (e : ℕ) → e < m → kindAt here e ≡ kindBetween c (planOf c) (tailOf c e) (headOf c e)
       unfolding kindAt graphContent
       kind-same e h =
@@ -151,9 +145,9 @@ module _ (n : ℕ) (ends : List ℕ) (given : Bool) (field : List ℕ) (p : Plan
 
       -- THE HAND-OVER: the counts are the chart's, the lists have its entries, and every number past them is as it was
       pub charted : (ws es bs ws′ es′ bs′ : List ℕ) (x : ℕ) → length (t .used) ≡ 128
-          → Filled ws (words (wordFrom (p .channel) (p .position) (t .column) (p .row) (p .descendants))) (n * 5) ws′
+          → Filled ws (words (wordFrom (t .places) (t .column))) (n * 5) ws′
           → Passed here es m es′ x → Filled bs (bundles (bundleFrom (t .spans))) (p .bundles * 4) bs′
-          → Numbered c (planOf c) ws es bs (countsOf n m x p (t .used)) ws′ es′ bs′
+          → Numbered c (planOf c) ws es bs (whole (countsOf n m x p) (t .used)) ws′ es′ bs′
       unfolding graphContent
       charted ws es bs ws′ es′ bs′ x long hw he hb = record {
         words-written = refl;

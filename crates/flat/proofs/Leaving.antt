@@ -6,7 +6,7 @@ use Prim.Native.Nat.{ℕ, _+_, _-_, _*_, _/_, _≤_}
 use native.Mathlib.Decide.{ℕ-discrete}
 use native.Mathlib.Omega.{arith}
 use lib.Dec.{ltb}
-use lib.ListN.{length, take, drop}
+use lib.ListN.{length, take, drop, replicate}
 use borrow.Author.Tests.{eq-eqb, ne-eqb, ltb-false}
 use Rattle.counting.specs.Count.{choose}
 use Rattle.counting.proofs.Zeros.{zeros}
@@ -26,13 +26,14 @@ use Rattle.drawing.proofs.Judging.{graph-refused, graph-whole, record-good}
 use Rattle.drawing.proofs.Nothing.{empty}
 use Rattle.drawing.proofs.Shortage.{enough, lent-short, lent-whole}
 use Rattle.flat.specs.declared.ChartCounts.{ChartCounts}
+use Rattle.flat.specs.declared.Counts.{Counts}
 use Rattle.flat.specs.Chart.{Numbered, Left, HandedFlat}
-use Rattle.flat.specs.Hand.{noCounts, roomRefusal}
+use Rattle.flat.specs.Hand.{noCounts, whole, roomRefusal}
 
 -- ---- a refusal
 
 module _ (ws es bs : List ℕ) where
-  nothing-numbered : (k : ℕ) → Numbered nothing (planOf nothing) ws es bs (noCounts k) ws es bs
+  nothing-numbered : (k : ℕ) → Numbered nothing (planOf nothing) ws es bs (whole (noCounts k) (replicate 128 0)) ws es bs
   nothing-numbered k = record {
     words-written = refl;
     arrows-written = sym (empty .edges);
@@ -48,21 +49,22 @@ module _ (ws es bs : List ℕ) where
     bundle-list = filled-to _ _ 0 _ _ (sym (ap (λ (n : ℕ). n * 4) (empty .bundles))) (filled-none _ _);
   }
 
-  nothing-left : (k : ℕ) (r : ChartCounts) → r ≡ noCounts k → Left (refusedBy k) ws es bs r ws es bs
-  nothing-left k r h = subst (λ (x : ChartCounts). Left (refusedBy k) ws es bs x ws es bs) (sym h)
+  nothing-left : (k : ℕ) (r : Counts) (used : List ℕ) → r ≡ noCounts k → used ≡ replicate 128 0
+      → Left (refusedBy k) ws es bs (whole r used) ws es bs
+  nothing-left k r used h z = subst (λ (x : ChartCounts). Left (refusedBy k) ws es bs x ws es bs) (sym (ap₂ whole h z))
       (record { refusal = refl; numbered = nothing-numbered k })
 
   -- what is refused already is never short
-  pub refused-left : (d : Drawn) (k : ℕ) (r : ChartCounts) → d ≡ refusedBy k → r ≡ noCounts k
-      → Left (lent (length ws / 5) (length es / 5) (length bs / 4) d) ws es bs r ws es bs
-  refused-left d k r e h =
+  pub refused-left : (d : Drawn) (k : ℕ) (r : Counts) (used : List ℕ) → d ≡ refusedBy k → r ≡ noCounts k → used ≡ replicate 128 0
+      → Left (lent (length ws / 5) (length es / 5) (length bs / 4) d) ws es bs (whole r used) ws es bs
+  refused-left d k r used e h z =
       rw e (rw (lent-whole (length ws / 5) (length es / 5) (length bs / 4) (refusedBy k)
       (enough _ _ _ (refusedBy k) (omega arith) (omega (arith, empty .edges)) (omega (arith, empty .bundles))))
-      (nothing-left k r h))
+      (nothing-left k r used h z))
 
-  short-left : (d : Drawn) (r : ChartCounts) → short? (length ws / 5) (length es / 5) (length bs / 4) d ≡ true → r ≡ noCounts 8
-      → Left (lent (length ws / 5) (length es / 5) (length bs / 4) d) ws es bs r ws es bs
-  short-left d r s h = rw (lent-short _ _ _ d s) (nothing-left 8 r h)
+  short-left : (d : Drawn) (r : Counts) (used : List ℕ) → short? (length ws / 5) (length es / 5) (length bs / 4) d ≡ true → r ≡ noCounts 8
+      → used ≡ replicate 128 0 → Left (lent (length ws / 5) (length es / 5) (length bs / 4) d) ws es bs (whole r used) ws es bs
+  short-left d r used s h z = rw (lent-short _ _ _ d s) (nothing-left 8 r used h z)
 
 -- ---- one or the other, by the number k that the call tells
 
@@ -118,13 +120,13 @@ module _ (n : ℕ) (ends : List ℕ) (given : Bool) (field : List ℕ) (p : Plan
 
   -- of what is accepted the graph is the drawn one, and the counts that are compared are the chart's
   module _ (z : p .refusal ≡ 0) where
-    whole : drawn ≡ record { refusal = 0; graph = c }
-    whole = graph-whole n ends given field (sym z ∙ answer)
+    accepted-whole : drawn ≡ record { refusal = 0; graph = c }
+    accepted-whole = graph-whole n ends given field (sym z ∙ answer)
 
     sizes : (drawn .graph .vertices ≡ n) × (edgesOf (drawn .graph) ≡ length ends / 2)
         × (length (planOf (drawn .graph) .bundles) ≡ p .bundles)
     unfolding graphContent
-    sizes = rw whole (refl, edges-counted n ends given field, sym (laid z .bundles .counted))
+    sizes = rw accepted-whole (refl, edges-counted n ends given field, sym (laid z .bundles .counted))
 
     -- a list that lacks room is short
     short-same : (v e b : ℕ) → short? v e b drawn ≡ (ltb v n || (ltb e (length ends / 2) || ltb b (p .bundles)))
@@ -134,16 +136,17 @@ module _ (n : ℕ) (ends : List ℕ) (given : Bool) (field : List ℕ) (p : Plan
         ap₂ _||_ (ap (ltb v) (q .0)) (ap₂ _||_ (ap (ltb e) (q .1)) (ap (ltb b) (q .2)))
 
   -- a refusal leaves the lists as they were
-  pub call-refused : (k ≡ 0 → ⊥) → (r : ChartCounts) → r ≡ noCounts k → Left into ws es bs r ws es bs
-  call-refused ne r h = go (ℕ-discrete (p .refusal) 0)
+  pub call-refused : (k ≡ 0 → ⊥) → (r : Counts) (used : List ℕ) → r ≡ noCounts k → used ≡ replicate 128 0
+      → Left into ws es bs (whole r used) ws es bs
+  call-refused ne r used h cleared = go (ℕ-discrete (p .refusal) 0)
     where
-      go : Dec (p .refusal ≡ 0) → Left into ws es bs r ws es bs
+      go : Dec (p .refusal ≡ 0) → Left into ws es bs (whole r used) ws es bs
       go (no d) =
-          refused-left ws es bs drawn (p .refusal) r (graph-refused n ends given field (p .refusal) answer d)
-          (h ∙ ap noCounts (told-refused _ _ _ _ _ _ _ _ told d))
+          refused-left ws es bs drawn (p .refusal) r used (graph-refused n ends given field (p .refusal) answer d)
+          (h ∙ ap noCounts (told-refused _ _ _ _ _ _ _ _ told d)) cleared
       go (yes z) =
           let short = told-short _ _ _ _ _ _ _ _ told z ne in
-          short-left ws es bs drawn r (short-same z _ _ _ ∙ short .1) (h ∙ ap noCounts (short .0))
+          short-left ws es bs drawn r used (short-same z _ _ _ ∙ short .1) (h ∙ ap noCounts (short .0)) cleared
 
   pub call-left : k ≡ 0 → (ws′ es′ bs′ : List ℕ) (r : ChartCounts) → r .refusal ≡ 0
       → Numbered c (planOf c) ws es bs r ws′ es′ bs′ → Left into ws es bs r ws′ es′ bs′
@@ -153,7 +156,7 @@ module _ (n : ℕ) (ends : List ℕ) (given : Bool) (field : List ℕ) (p : Plan
       rw (
         lent-whole (length ws / 5) (length es / 5) (length bs / 4) drawn
             (enough (length ws / 5) (length es / 5) (length bs / 4) drawn (omega arith) (omega arith) (omega arith)),
-        whole (f .0),
+        accepted-whole (f .0),
       )
       (record { refusal = accepted; numbered = h })
 

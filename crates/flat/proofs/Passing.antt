@@ -9,11 +9,11 @@ use lib.Bits.{bitAnd}
 use lib.Dec.{eqb}
 use lib.ListN.{getD, set}
 use Rattle.counting.specs.Count.{count, sum, indicator}
+use Rattle.counting.specs.Quads.{quad}
 use Rattle.counting.proofs.Sums.{sum-more}
 use Rattle.masks.specs.Sets.{member, member?}
 use Rattle.masks.proofs.Bits.{bit-lt}
 use Rattle.masks.proofs.Sets.{member-test}
-use Rattle.outline.specs.declared.Kind.{Kind}
 use Rattle.kinds.specs.Codes.{codeOf}
 use Rattle.kinds.specs.Kinds.{kindAmong}
 use Rattle.kinds.specs.declared.Code.{Code}
@@ -25,13 +25,12 @@ use Rattle.flat.proofs.Blocks.{five}
 
 -- ---- a vertex and a bundle
 
-pub word-stored : (channel position column row descendants : List ℕ) (v : ℕ) (l : List ℕ)
-    → set (set (set (set (set l (v * 5) (getD channel v 0)) (v * 5 + 1) (getD position v 0)) (v * 5 + 2) (getD column v 0)) (v * 5 + 3)
-    (getD row v 0)) (v * 5 + 4) (getD descendants v 0)
-    ≡ stored (wordNumber (wordFrom channel position column row descendants v)) (v * 5) 5 l
+pub word-stored : (places column : List ℕ) (v : ℕ) (l : List ℕ)
+    → set (set (set (set (set l (v * 5) (quad 0 places v)) (v * 5 + 1) (quad 1 places v)) (v * 5 + 2) (getD column v 0)) (v * 5 + 3)
+    (quad 2 places v)) (v * 5 + 4) (quad 3 places v)
+    ≡ stored (wordNumber (wordFrom places column v)) (v * 5) 5 l
 unfolding wordNumber wordFrom
-word-stored channel position column row descendants v l =
-    five (wordNumber (wordFrom channel position column row descendants v)) (v * 5) _ _ _ _ _ l refl refl refl refl refl
+word-stored places column v l = five (wordNumber (wordFrom places column v)) (v * 5) _ _ _ _ _ l refl refl refl refl refl
 
 entry-at : (spans : List ℕ) (b f : ℕ) → f < 4 → getD spans (4 * b + f) 0 ≡ bundleNumber (bundleFrom spans b) f
 unfolding bundleNumber bundleFrom
@@ -47,33 +46,31 @@ bundle-at spans i =
     let e : i ≡ 4 * (i / 4) + i % 4 = omega arith in
     ap (λ (k : ℕ). getD spans k 0) e ∙ entry-at spans (i / 4) (i % 4) (omega arith)
 
--- ---- an edge, as the code has it: u and v are its ends
+-- ---- an edge
 
-module _ (g : Given) (e u v : ℕ) (tail : u ≡ tailAt g e) (head : v ≡ headAt g e) where
-  pub mark-here : (mark : ℕ) → mark ≡ indicator (member? (g .longer) (2 * u) v) → mark ≡ indicator (implied? g e)
+module _ (g : Given) (e : ℕ) where
+  pub mark-here : (u v mark : ℕ) → u ≡ tailAt g e → v ≡ headAt g e → mark ≡ indicator (member? (g .longer) (2 * u) v)
+      → mark ≡ indicator (implied? g e)
   unfolding implied?
-  mark-here mark h = rw tail at (rw head at h)
+  mark-here u v mark tail head h = rw tail at (rw head at h)
 
-  -- what `kinds::kind_of` is asked for
-  abbrev kindHere : Kind
-  kindHere =
-      kindAmong (getD (g .channel) u 0) (getD (g .channel) v 0) (getD (g .position) u 0) (getD (g .position) v 0)
-      (getD (g .number) (2 * v) 0) (getD (g .number) (2 * u + 1) 0) (g .columns) (g .rows) (g .below) (g .left) u v
-
-  kind-here : (k : Code) → k ≡ codeOf kindHere → k ≡ codeOf (kindAt g e)
-  unfolding kindAt
-  kind-here k h = rw tail at (rw head at h)
-
+  -- k is what `kinds::kind_of` answers
   pub arrow-stored : (mark : ℕ) (k : Code) (l x : List ℕ)
-      → k ≡ codeOf kindHere
+      → k ≡ codeOf (kindAt g e)
       → mark ≡ indicator (implied? g e)
       → x ≡ set (set (set (set (set l (e * 5) e) (e * 5 + 1) (k .code)) (e * 5 + 2) (k .value)) (e * 5 + 3) (k .row)) (e * 5 + 4) mark
       → x ≡ stored (arrowAt g e) (e * 5) 5 l
   unfolding arrowNumber arrowFrom
-  arrow-stored mark k l x h q put =
-      let s = kind-here k h in
+  arrow-stored mark k l x s q put =
       put ∙ five (arrowAt g e) (e * 5) e (k .code) (k .value) (k .row) mark l refl
       (ap (λ (x : Code). x .code) s) (ap (λ (x : Code). x .value) s) (ap (λ (x : Code). x .row) s) q
+
+  pub kind-here : (k : Code) → k ≡ codeOf
+      (kindAmong (quad 0 (g .places) (tailAt g e)) (quad 0 (g .places) (headAt g e)) (quad 1 (g .places) (tailAt g e))
+      (quad 1 (g .places) (headAt g e)) (getD (g .number) (2 * headAt g e) 0) (getD (g .number) (2 * tailAt g e + 1) 0) (g .columns)
+      (g .places) (g .below) (g .left) (tailAt g e) (headAt g e)) → k ≡ codeOf (kindAt g e)
+  unfolding kindAt
+  kind-here k h = h
 
 -- ---- marks
 

@@ -4,31 +4,34 @@ use mathlib.Core.Bool.{Bool, _||_}
 use mathlib.Core.List.{List}
 use Prim.Native.Nat.{ℕ, _+_, _*_, _/_, _≤_, _<_, min}
 use lib.Dec.{eqb, ltb}
-use lib.ListN.{length, getD, replicate}
+use lib.ListN.{length}
 use Rattle.counting.specs.Count.{choose}
+use Rattle.counting.specs.Quads.{quad}
 use Rattle.record.specs.Checks.{refusalOf}
 use Rattle.drawing.specs.Drawn.{graphContent, graphDrawn, lent}
 use Rattle.drawing.specs.Laid.{lists, Laid}
 use Rattle.drawing.specs.declared.Plan.{Plan}
 use Rattle.prefixes.specs.Prefixes.{lastSet, Prefixes}
 use Rattle.flat.specs.declared.ChartCounts.{ChartCounts}
+use Rattle.flat.specs.declared.Counts.{Counts}
 use Rattle.flat.specs.Chart.{Left}
 
 -- ---- a plan handed over
 
-module _ (n : ℕ) (ends : List ℕ) (p : Plan) (below longer spans number used column : List ℕ) where
+module _ (n : ℕ) (ends : List ℕ) (p : Plan) (below longer places spans number used column : List ℕ) where
   -- p is the answer on the graph with these ends and given channels, and the lists are those of its plan, with some others
   pub record Planned (given : Bool) (field : List ℕ) : Type 0 where
     pub edges : List ℕ
     pub table : List ℕ
     pub answer : p .refusal ≡ refusalOf (graphContent n ends given field)
-    pub laid : p .refusal ≡ 0 → Laid (graphContent n ends given field) p (lists edges below table longer spans number used column)
+    pub laid : p .refusal ≡ 0 → Laid (graphContent n ends given field) p (lists edges below table longer places spans number used column)
 
-  -- .. of some graph with these ends, and there is room for the sets left of channels
+  -- .. of some graph with these ends, there are 128 side columns, and there is room for the sets left of channels
   pub record Lends (left : ℕ) : Type 0 where
     pub given : Bool
     pub field : List ℕ
     pub planned : Planned given field
+    pub used-long : length used ≡ 128
     pub left-room : 2 * min n 128 + 2 ≤ left
 
   -- the promise, of every such graph
@@ -39,8 +42,8 @@ module _ (n : ℕ) (ends : List ℕ) (p : Plan) (below longer spans number used 
 
 -- `left`, as long as `size`, is what `prefixes::prefixes` makes of the channels, where there are more than two
 abbrev pub LeftFor : ℕ → ℕ → List ℕ → ℕ → List ℕ → Type 0
-LeftFor n count channel size left =
-    2 < count → Prefixes 2 (min (min n 128) (length channel)) (λ v. getD channel v 0) (lastSet count size) left
+LeftFor n count places size left =
+    2 < count → Prefixes 2 (min (min n 128) (length places / 4)) (quad 0 places) (lastSet count size) left
 
 -- ---- the answer
 
@@ -49,8 +52,22 @@ unfoldable pub roomRefusal : ℕ → ℕ → ℕ → ℕ → ℕ → ℕ → ℕ
 roomRefusal refusal n m b words arrows bundles =
     choose (eqb refusal 0) (λ _. choose (ltb words n || (ltb arrows m || ltb bundles b)) (λ _. 8) (λ _. 0)) (λ _. refusal)
 
+-- the counts with the side columns
+abbrev pub whole : Counts → List ℕ → ChartCounts
+whole c used = record {
+  refusal = c .refusal;
+  words = c .words;
+  arrows = c .arrows;
+  bundles = c .bundles;
+  rows = c .rows;
+  lines = c .lines;
+  firm = c .firm;
+  width = c .width;
+  «side_columns» = used;
+}
+
 -- a refusal: no count
-abbrev pub noCounts : ℕ → ChartCounts
+abbrev pub noCounts : ℕ → Counts
 noCounts k = record {
   refusal = k;
   words = 0;
@@ -60,5 +77,4 @@ noCounts k = record {
   lines = 0;
   firm = 0;
   width = 0;
-  «side_columns» = replicate 128 0;
 }

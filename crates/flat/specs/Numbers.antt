@@ -11,13 +11,13 @@ use Rattle.outline.specs.declared.EdgeEntry.{EdgeEntry}
 use Rattle.outline.specs.declared.BundleEntry.{BundleEntry}
 use Rattle.kinds.specs.Kinds.{kindAmong}
 
-unfoldable pub wordFrom : List ℕ → List ℕ → List ℕ → List ℕ → List ℕ → ℕ → VertexEntry
-wordFrom channel position column row descendants v = record {
-  channel = getD channel v 0;
-  position = getD position v 0;
+unfoldable pub wordFrom : List ℕ → List ℕ → ℕ → VertexEntry
+wordFrom places column v = record {
+  channel = quad 0 places v;
+  position = quad 1 places v;
   column = getD column v 0;
-  row = getD row v 0;
-  descendants = getD descendants v 0;
+  row = quad 2 places v;
+  descendants = quad 3 places v;
 }
 
 unfoldable pub bundleFrom : List ℕ → ℕ → BundleEntry
@@ -33,23 +33,19 @@ bundleFrom spans b = record {
 pub record Given : Type 0 where
   pub ends : List ℕ
   pub longer : List ℕ
-  pub channel : List ℕ
-  pub position : List ℕ
+  pub places : List ℕ
   pub number : List ℕ
   pub columns : List ℕ
-  pub rows : List ℕ
   pub below : List ℕ
   pub left : List ℕ
 
-abbrev pub given : List ℕ → List ℕ → List ℕ → List ℕ → List ℕ → List ℕ → List ℕ → List ℕ → List ℕ → Given
-given ends longer channel position number columns rows below left = record {
+abbrev pub given : List ℕ → List ℕ → List ℕ → List ℕ → List ℕ → List ℕ → List ℕ → Given
+given ends longer places number columns below left = record {
   ends = ends;
   longer = longer;
-  channel = channel;
-  position = position;
+  places = places;
   number = number;
   columns = columns;
-  rows = rows;
   below = below;
   left = left;
 }
@@ -66,9 +62,9 @@ module _ (g : Given) where
 
   unfoldable pub kindAt : ℕ → Kind
   kindAt e =
-      kindAmong (getD (g .channel) (tailAt e) 0) (getD (g .channel) (headAt e) 0) (getD (g .position) (tailAt e) 0)
-      (getD (g .position) (headAt e) 0) (getD (g .number) (2 * headAt e) 0) (getD (g .number) (2 * tailAt e + 1) 0) (g .columns) (g .rows)
-      (g .below) (g .left) (tailAt e) (headAt e)
+      kindAmong (quad 0 (g .places) (tailAt e)) (quad 0 (g .places) (headAt e)) (quad 1 (g .places) (tailAt e)) (quad 1 (g .places) (headAt e))
+      (getD (g .number) (2 * headAt e) 0) (getD (g .number) (2 * tailAt e + 1) 0) (g .columns) (g .places) (g .below) (g .left) (tailAt e)
+      (headAt e)
 
   unfoldable pub arrowFrom : ℕ → EdgeEntry
   arrowFrom e = record { number = e; kind = kindAt e; transitive = implied? e }

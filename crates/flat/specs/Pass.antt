@@ -13,14 +13,13 @@ use Rattle.flat.specs.Numbers.{Given, tailAt, headAt, implied?, arrowFro
 abbrev pub arrowAt : Given → ℕ → ℕ → ℕ
 arrowAt g e = arrowNumber (arrowFrom g e)
 
--- edge e has two bytes, which are vertices, and the tables have an entry for each: two masks, a channel, a position and two bundles
+-- edge e has two bytes, which are vertices, and the tables have an entry for each: two masks, a place and two bundles
 pub record Ready (g : Given) (e : ℕ) : Type 0 where
   pub few : e < 4096
   pub ends : 2 * e + 2 ≤ length (g .ends)
   pub low : (tailAt g e < 128) × (headAt g e < 128)
   pub longer : 2 * tailAt g e + 2 ≤ length (g .longer)
-  pub channel : (tailAt g e < length (g .channel)) × (headAt g e < length (g .channel))
-  pub position : (tailAt g e < length (g .position)) × (headAt g e < length (g .position))
+  pub places : (4 * tailAt g e + 4 ≤ length (g .places)) × (4 * headAt g e + 4 ≤ length (g .places))
   pub number : (2 * tailAt g e + 2 ≤ length (g .number)) × (2 * headAt g e + 2 ≤ length (g .number))
 
 -- the first m entries stand in the list, every number past them is as it was, and the reduced ones are counted

@@ -4,6 +4,7 @@ ghost use mathlib.Core.Bool.{not};
 ghost use Prim.Native.Nat.{ℕ, _+_, _*_, _≤_, _<_};
 ghost use lib.ListN.{length, getD, set};
 ghost use Rattle.counting.specs.Count.{indicator};
+ghost use Rattle.counting.specs.Quads.{quad};
 ghost use Rattle.masks.specs.Sets.{member?};
 ghost use Rattle.kinds.specs.Codes.{codeOf};
 ghost use Rattle.kinds.specs.Kinds.{kindAmong};
@@ -47,28 +48,28 @@ fn mark_of(longer: &[u64], u: usize, v: usize) -> u16
 
 // The kind of the edge from u to v as three numbers, from the places and the bundles of its ends.
 fn kind_at<'a>(
-    channel: &'a [u8],
-    position: &'a [u8],
+    places: &'a [u8],
     number: &'a [u16],
     columns: &'a [u16],
-    rows: &'a [u8],
     below: &'a [u64],
     left: &'a [u64],
-    u: usize,
-    v: usize,
+    u: u8,
+    v: u8,
 ) -> Code
-    requires { ⌜ (u < 128) × (v < 128) × (u < length (now channel)) × (v < length (now channel)) × (u < length (now position)) × (v < length (now position)) × (2 * u + 2 ≤ length (now number)) × (2 * v + 2 ≤ length (now number)) ⌝ }
-    ensures { λ r. ⌜ r ≡ codeOf (kindAmong (getD (now (channel .entry)) u 0) (getD (now (channel .entry)) v 0) (getD (now (position .entry)) u 0) (getD (now (position .entry)) v 0) (getD (now (number .entry)) (2 * v) 0) (getD (now (number .entry)) (2 * u + 1) 0) (now (columns .entry)) (now (rows .entry)) (now (below .entry)) (now (left .entry)) u v) ⌝ }
+    requires { ⌜ (4 * u + 4 ≤ length (now places)) × (4 * v + 4 ≤ length (now places)) × (2 * u + 2 ≤ length (now number)) × (2 * v + 2 ≤ length (now number)) ⌝ }
+    ensures { λ r. ⌜ r ≡ codeOf (kindAmong (quad 0 (now (places .entry)) u) (quad 0 (now (places .entry)) v) (quad 1 (now (places .entry)) u) (quad 1 (now (places .entry)) v) (getD (now (number .entry)) (2 * v) 0) (getD (now (number .entry)) (2 * u + 1) 0) (now (columns .entry)) (now (places .entry)) (now (below .entry)) (now (left .entry)) u v) ⌝ }
 {
+    let i = wide(u);
+    let j = wide(v);
     kinds::kind_of(
-        channel[u],
-        channel[v],
-        position[u],
-        position[v],
-        number[2 * v],
-        number[2 * u + 1],
+        places[4 * i],
+        places[4 * j],
+        places[4 * i + 1],
+        places[4 * j + 1],
+        number[2 * j],
+        number[2 * i + 1],
         columns,
-        rows,
+        places,
         below,
         left,
         u,
@@ -81,22 +82,20 @@ fn put_arrow<'e, 'l, 'a>(
     out: &mut [u16],
     ends: &'e [u8],
     longer: &'l [u64],
-    channel: &'a [u8],
-    position: &'a [u8],
+    places: &'a [u8],
     number: &'a [u16],
     columns: &'a [u16],
-    rows: &'a [u8],
     below: &'a [u64],
     left: &'a [u64],
     e: usize,
 ) -> u16
-    requires { ⌜ (e * 5 + 5 ≤ length (now out)) × Ready (given (now ends) (now longer) (now channel) (now position) (now number) (now columns) (now rows) (now below) (now left)) e ⌝ }
-    ensures { λ r. ⌜ (now (out .exit) ≡ stored (arrowAt (given (now (ends .entry)) (now (longer .entry)) (now (channel .entry)) (now (position .entry)) (now (number .entry)) (now (columns .entry)) (now (rows .entry)) (now (below .entry)) (now (left .entry))) e) (e * 5) 5 (now (out .entry))) × (r ≡ indicator (not (implied? (given (now (ends .entry)) (now (longer .entry)) (now (channel .entry)) (now (position .entry)) (now (number .entry)) (now (columns .entry)) (now (rows .entry)) (now (below .entry)) (now (left .entry))) e))) × (r < 2) ⌝ }
+    requires { ⌜ (e * 5 + 5 ≤ length (now out)) × Ready (given (now ends) (now longer) (now places) (now number) (now columns) (now below) (now left)) e ⌝ }
+    ensures { λ r. ⌜ (now (out .exit) ≡ stored (arrowAt (given (now (ends .entry)) (now (longer .entry)) (now (places .entry)) (now (number .entry)) (now (columns .entry)) (now (below .entry)) (now (left .entry))) e) (e * 5) 5 (now (out .entry))) × (r ≡ indicator (not (implied? (given (now (ends .entry)) (now (longer .entry)) (now (places .entry)) (now (number .entry)) (now (columns .entry)) (now (below .entry)) (now (left .entry))) e))) × (r < 2) ⌝ }
 {
-    let u = wide(ends[2 * e]);
-    let v = wide(ends[2 * e + 1]);
-    let mark = mark_of(longer, u, v);
-    let k = kind_at(channel, position, number, columns, rows, below, left, u, v);
+    let u = ends[2 * e];
+    let v = ends[2 * e + 1];
+    let mark = mark_of(longer, wide(u), wide(v));
+    let k = kind_at(places, number, columns, below, left, u, v);
     put_five(
         out,
         e * ARROW_NUMBERS,
@@ -114,60 +113,38 @@ pub(crate) fn put_arrows<'e, 'l, 'a>(
     out: &mut [u16],
     ends: &'e [u8],
     longer: &'l [u64],
-    channel: &'a [u8],
-    position: &'a [u8],
+    places: &'a [u8],
     number: &'a [u16],
     columns: &'a [u16],
-    rows: &'a [u8],
     below: &'a [u64],
     left: &'a [u64],
     m: usize,
 ) -> u16
-    requires { ⌜ (m * 5 ≤ length (now out)) × (m ≤ 4096) × ((e : ℕ) → e < m → Ready (given (now ends) (now longer) (now channel) (now position) (now number) (now columns) (now rows) (now below) (now left)) e) ⌝ }
-    ensures { λ r. ⌜ Passed (given (now (ends .entry)) (now (longer .entry)) (now (channel .entry)) (now (position .entry)) (now (number .entry)) (now (columns .entry)) (now (rows .entry)) (now (below .entry)) (now (left .entry))) (now (out .entry)) m (now (out .exit)) r ⌝ }
+    requires { ⌜ (m * 5 ≤ length (now out)) × (m ≤ 4096) × ((e : ℕ) → e < m → Ready (given (now ends) (now longer) (now places) (now number) (now columns) (now below) (now left)) e) ⌝ }
+    ensures { λ r. ⌜ Passed (given (now (ends .entry)) (now (longer .entry)) (now (places .entry)) (now (number .entry)) (now (columns .entry)) (now (below .entry)) (now (left .entry))) (now (out .entry)) m (now (out .exit)) r ⌝ }
 {
     let mut firm: u16 = 0;
     for e in 0..m {
-        firm += put_arrow(
-            out,
-            ends,
-            longer,
-            channel,
-            position,
-            number,
-            columns,
-            rows,
-            below,
-            left,
-            e,
-        );
+        firm += put_arrow(out, ends, longer, places, number, columns, below, left, e);
     }
     firm
 }
 
 // ---- vertices and bundles
 
-pub(crate) fn put_words<'c, 'p, 'l, 'r, 'd>(
-    out: &mut [u16],
-    channel: &'c [u8],
-    position: &'p [u8],
-    column: &'l [u16],
-    row: &'r [u8],
-    descendants: &'d [u8],
-    n: usize,
-)
-    requires { ⌜ (n * 5 ≤ length (now out)) × (n ≤ 128) × (n ≤ length (now channel)) × (n ≤ length (now position)) × (n ≤ length (now column)) × (n ≤ length (now row)) × (n ≤ length (now descendants)) ⌝ }
-    ensures { λ _. ⌜ Filled (now (out .entry)) (words (wordFrom (now (channel .entry)) (now (position .entry)) (now (column .entry)) (now (row .entry)) (now (descendants .entry)))) (n * 5) (now (out .exit)) ⌝ }
+pub(crate) fn put_words<'p, 'c>(out: &mut [u16], places: &'p [u8], column: &'c [u16], n: usize)
+    requires { ⌜ (n * 5 ≤ length (now out)) × (n ≤ 128) × (4 * n ≤ length (now places)) × (n ≤ length (now column)) ⌝ }
+    ensures { λ _. ⌜ Filled (now (out .entry)) (words (wordFrom (now (places .entry)) (now (column .entry)))) (n * 5) (now (out .exit)) ⌝ }
 {
     for v in 0..n {
         put_five(
             out,
             v * WORD_NUMBERS,
-            channel[v] as u16,
-            position[v] as u16,
+            places[4 * v] as u16,
+            places[4 * v + 1] as u16,
             column[v],
-            row[v] as u16,
-            descendants[v] as u16,
+            places[4 * v + 2] as u16,
+            places[4 * v + 3] as u16,
         );
     }
 }

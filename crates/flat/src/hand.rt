@@ -1,9 +1,9 @@
 // What is planned of a graph, handed over or refused.
 ghost use mathlib.Core.Path.{_≡_};
 ghost use Prim.Native.Nat.{_/_};
-ghost use lib.ListN.{length};
-ghost use Rattle.flat.specs.Hand.{LeftFor, Lends, Hands, roomRefusal};
-use crate::ChartCounts;
+ghost use lib.ListN.{length, replicate};
+ghost use Rattle.flat.specs.Hand.{LeftFor, Lends, Hands, roomRefusal, whole};
+use crate::Counts;
 use crate::entries::ARROW_NUMBERS;
 use crate::entries::BUNDLE_NUMBERS;
 use crate::entries::WORD_NUMBERS;
@@ -43,16 +43,26 @@ fn refusal_of(
 }
 
 // The sets of the vertices left of each channel, where there are more than two: between two nothing stands.
-fn make_left(channel: &[u8], n: usize, count: usize, left: &mut [u64])
-    ensures { λ _. ⌜ LeftFor n count (now (channel .entry)) (length (now (left .entry))) (now (left .exit)) × (length (now (left .exit)) ≡ length (now (left .entry))) ⌝ }
+fn make_left(places: &[u8], n: usize, count: usize, left: &mut [u64])
+    ensures { λ _. ⌜ LeftFor n count (now (places .entry)) (length (now (left .entry))) (now (left .exit)) × (length (now (left .exit)) ≡ length (now (left .entry))) ⌝ }
 {
     if 2 < count {
-        prefixes::prefixes(channel, n, count, left);
+        prefixes::prefixes(places, n, count, left);
     }
 }
 
-// The chart of a graph of n vertices into three lists, from what is planned, or its refusal. What `left` has is lost.
-pub(crate) fn hand_over<'e, 'l, 'b, 's>(
+// No side column.
+fn clear(used: &mut [u16])
+    ensures { λ _. ⌜ now (used .exit) ≡ replicate (length (now (used .entry))) 0 ⌝ }
+{
+    for i in 0..used.len() {
+        used[i] = 0;
+    }
+}
+
+// The chart of a graph of n vertices into three lists, from what is planned, or its refusal, with no side column left in `used`. What
+// `left` has is lost.
+pub(crate) fn hand_over<'e, 'l, 'b, 's, 'u>(
     words: &mut [u16],
     arrows: &mut [u16],
     bundles: &mut [u16],
@@ -60,43 +70,40 @@ pub(crate) fn hand_over<'e, 'l, 'b, 's>(
     longer: &'l [u64],
     below: &'b [u64],
     left: &'b mut [u64],
+    places: &'b [u8],
     spans: &'s [u8],
     number: &'b [u16],
     column: &'b [u16],
-    used: [u16; 128],
+    used: &'u mut [u16],
     n: usize,
     p: Plan,
-) -> ChartCounts
-    requires { ⌜ Lends n (now ends) p (now below) (now longer) (now spans) (now number) used (now column) (length (now left)) ⌝ }
-    ensures { λ r. ⌜ Hands n (now (ends .entry)) p (now (below .entry)) (now (longer .entry)) (now (spans .entry)) (now (number .entry)) used (now (column .entry)) (now (words .entry)) (now (arrows .entry)) (now (bundles .entry)) r (now (words .exit)) (now (arrows .exit)) (now (bundles .exit)) ⌝ }
+) -> Counts
+    requires { ⌜ Lends n (now ends) p (now below) (now longer) (now places) (now spans) (now number) (now used) (now column) (length (now left)) ⌝ }
+    ensures { λ r. ⌜ Hands n (now (ends .entry)) p (now (below .entry)) (now (longer .entry)) (now (places .entry)) (now (spans .entry)) (now (number .entry)) (now (used .entry)) (now (column .entry)) (now (words .entry)) (now (arrows .entry)) (now (bundles .entry)) (whole r (now (used .exit))) (now (words .exit)) (now (arrows .exit)) (now (bundles .exit)) ⌝ }
 {
     let m = ends.len() / 2;
     let b = p.bundles;
     let k = refusal_of(p.refusal, n, m, b, words.len(), arrows.len(), bundles.len());
     if k != 0 {
+        // where only a list is too short, the side columns are there already
+        clear(used);
         return refused(k);
     }
-    let channel = p.channel;
-    let position = p.position;
-    let row = p.row;
-    let descendants = p.descendants;
-    make_left(&channel, n, wide(p.channels), left);
-    put_words(words, &channel, &position, column, &row, &descendants, n);
+    make_left(places, n, wide(p.channels), left);
+    put_words(words, places, column, n);
     let firm = put_arrows(
         arrows,
         ends,
         longer,
-        &channel,
-        &position,
+        places,
         number,
         &column[..n],
-        &row[..n],
         below,
         left,
         m,
     );
     put_bundles(bundles, spans, b);
-    ChartCounts {
+    Counts {
         refusal: 0,
         words: n,
         arrows: m,
@@ -105,6 +112,5 @@ pub(crate) fn hand_over<'e, 'l, 'b, 's>(
         lines: p.channels,
         firm,
         width: p.width,
-        side_columns: used,
     }
 }

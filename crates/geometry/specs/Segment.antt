@@ -2,8 +2,9 @@
 use mathlib.Core.Path.{_≡_}
 use mathlib.Core.Bool.{Bool, true}
 use mathlib.Core.List.{List, _∷_}
-use Prim.Native.Nat.{ℕ, _+_, _*_, _<_, min}
+use Prim.Native.Nat.{ℕ, _+_, _*_, _/_, _<_, min}
 use lib.ListN.{length, getD}
+use Rattle.counting.specs.Quads.{quad}
 use Rattle.masks.specs.Bits.{bit}
 
 pub record Point : Type 0 where
@@ -57,10 +58,10 @@ pub record Struck (mask base : ℕ) (at : ℕ → Point) (n u v : ℕ) : Type 0 
   pub known : base + place < n
   pub hit : Hit (at u) (at v) (at (base + place))
 
--- Vertex v's point, by lists of columns and rows.
+-- Vertex v's point, by lists of columns and of places, four numbers a vertex, of which the third is its row.
 abbrev pub pointOf : List ℕ → List ℕ → ℕ → Point
-pointOf columns rows v = point (getD columns v 0) (getD rows v 0)
+pointOf columns places v = point (getD columns v 0) (quad 2 places v)
 
 -- The vertices are those that both lists have.
 abbrev pub vertexCount : List ℕ → List ℕ → ℕ
-vertexCount columns rows = min (length columns) (length rows)
+vertexCount columns places = min (length columns) (length places / 4)

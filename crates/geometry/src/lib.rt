@@ -1,6 +1,6 @@
 // Whether the straight segment of an edge has a vertex strictly inside, and the course of a cross edge (an edge between channels).
 ghost use mathlib.Core.Path.{_≡_};
-ghost use Prim.Native.Nat.{_+_, _≤_, _<_};
+ghost use Prim.Native.Nat.{_+_, _*_, _≤_, _<_};
 ghost use lib.Dec.{eqb, leb};
 ghost use lib.ListN.{length};
 ghost use Rattle.masks.specs.Pairs.{inPair};
@@ -47,14 +47,15 @@ pub fn inside(ax: u16, ay: u8, bx: u16, by: u8, px: u16, py: u8) -> bool
     aligned(ax, ay, bx, by, px, py)
 }
 
-// As many vertices as both lists have.
-fn vertex_count(columns: &[u16], rows: &[u8]) -> usize
-    ensures { λ r. ⌜ r ≡ vertexCount (now (columns .entry)) (now (rows .entry)) ⌝ }
+// As many vertices as both lists have, the second in four bytes each.
+fn vertex_count(columns: &[u16], places: &[u8]) -> usize
+    ensures { λ r. ⌜ r ≡ vertexCount (now (columns .entry)) (now (places .entry)) ⌝ }
 {
-    if columns.len() < rows.len() {
+    let n = places.len() / 4;
+    if columns.len() < n {
         return columns.len();
     }
-    rows.len()
+    n
 }
 
 // Whether a segment rises by one row at most.
@@ -70,24 +71,24 @@ fn hit_among<'a>(
     mask: u64,
     base: usize,
     columns: &'a [u16],
-    rows: &'a [u8],
+    places: &'a [u8],
     n: usize,
     tail: usize,
     head: usize,
 ) -> bool
-    requires { ⌜ (base ≤ 64) × (n ≤ length (now columns)) × (n ≤ length (now rows)) × (tail < n) × (head < n) ⌝ }
-    ensures { λ r. ⌜ Decides r (Struck mask base (pointOf (now (columns .entry)) (now (rows .entry))) n tail head) ⌝ }
+    requires { ⌜ (base ≤ 64) × (n ≤ length (now columns)) × (4 * n ≤ length (now places)) × (tail < n) × (head < n) ⌝ }
+    ensures { λ r. ⌜ Decides r (Struck mask base (pointOf (now (columns .entry)) (now (places .entry))) n tail head) ⌝ }
 {
     let ax = columns[tail];
-    let ay = rows[tail];
+    let ay = places[4 * tail + 2];
     let bx = columns[head];
-    let by = rows[head];
+    let by = places[4 * head + 2];
     let mut x = mask;
     while x != 0 {
         let w = base + u64::trailing_zeros(x) as usize;
         let rest = x & (x - 1);
         if w < n {
-            if inside(ax, ay, bx, by, columns[w], rows[w]) {
+            if inside(ax, ay, bx, by, columns[w], places[4 * w + 2]) {
                 return true;
             }
         }
@@ -102,13 +103,13 @@ fn blocked_among<'a>(
     low: u64,
     high: u64,
     columns: &'a [u16],
-    rows: &'a [u8],
+    places: &'a [u8],
     tail: usize,
     head: usize,
 ) -> bool
-    ensures { λ r. ⌜ Decides r (BlockedAmong (λ w. eqb (inPair low high w) 1) (pointOf (now (columns .entry)) (now (rows .entry))) (vertexCount (now (columns .entry)) (now (rows .entry))) tail head) ⌝ }
+    ensures { λ r. ⌜ Decides r (BlockedAmong (λ w. eqb (inPair low high w) 1) (pointOf (now (columns .entry)) (now (places .entry))) (vertexCount (now (columns .entry)) (now (places .entry))) tail head) ⌝ }
 {
-    let n = vertex_count(columns, rows);
+    let n = vertex_count(columns, places);
     if n <= tail {
         return false;
     }
@@ -116,13 +117,13 @@ fn blocked_among<'a>(
         return false;
     }
     // Nothing lies strictly between rows next to each other.
-    if low_rise(rows[tail], rows[head]) {
+    if low_rise(places[4 * tail + 2], places[4 * head + 2]) {
         return false;
     }
-    if hit_among(low, 0, columns, rows, n, tail, head) {
+    if hit_among(low, 0, columns, places, n, tail, head) {
         return true;
     }
-    hit_among(high, 64, columns, rows, n, tail, head)
+    hit_among(high, 64, columns, places, n, tail, head)
 }
 
 // One bend in a row, beside column x on the side of column z; straight where the columns are equal.
@@ -145,14 +146,14 @@ pub fn course_among<'a>(
     low: u64,
     high: u64,
     columns: &'a [u16],
-    rows: &'a [u8],
+    places: &'a [u8],
     tail: usize,
     head: usize,
 ) -> Course
-    ensures { λ r. ⌜ r ≡ courseAmong (λ w. eqb (inPair low high w) 1) (pointOf (now (columns .entry)) (now (rows .entry))) (vertexCount (now (columns .entry)) (now (rows .entry))) tail head ⌝ }
+    ensures { λ r. ⌜ r ≡ courseAmong (λ w. eqb (inPair low high w) 1) (pointOf (now (columns .entry)) (now (places .entry))) (vertexCount (now (columns .entry)) (now (places .entry))) tail head ⌝ }
 {
-    if blocked_among(low, high, columns, rows, tail, head) {
-        return bend_beside(columns[tail], columns[head], rows[head] - 1);
+    if blocked_among(low, high, columns, places, tail, head) {
+        return bend_beside(columns[tail], columns[head], places[4 * head + 2] - 1);
     }
     Course::Straight
 }

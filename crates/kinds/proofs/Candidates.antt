@@ -3,11 +3,12 @@ use mathlib.Core.Path.{_≡_, refl, sym, ap, _∙_}
 use mathlib.Core.Logic.{_↔_, ⊎-elim}
 use mathlib.Core.Bool.{true}
 use mathlib.Core.List.{List}
-use Prim.Native.Nat.{ℕ, _+_, _≤_, _<_, min, max}
+use Prim.Native.Nat.{ℕ, _+_, _/_, _≤_, _<_, min, max}
 use native.Mathlib.Decide.{ℕ-discrete}
 use native.Mathlib.Omega.{arith}
 use borrow.Author.Tests.{eq-eqb, lt-ltb}
 use lib.ListN.{length, getD}
+use Rattle.counting.specs.Quads.{quad}
 use Rattle.counting.proofs.Truth.{and-intro, two-cases}
 use Rattle.masks.specs.Sets.{at}
 use Rattle.masks.proofs.Tables.{at-lt}
@@ -23,16 +24,15 @@ use Rattle.kinds.proofs.Coding.{across, within, between-across}
 
 -- n vertices stand by blocks; `below` has the sets of the vertices below each row, and `left` those left of each channel, as `prefixes`
 -- gives them. Between two channels nothing stands: where there are no more, any `left` will do
-pub record Ready (W : Widths) (n top count : ℕ) (channel columns rows below left : List ℕ) : Type 0 where
-  pub counted : vertexCount columns rows ≡ n
+pub record Ready (W : Widths) (n top count : ℕ) (columns places below left : List ℕ) : Type 0 where
+  pub counted : vertexCount columns places ≡ n
   pub few : n ≤ 128
-  pub long : n ≤ length channel
   pub few-channels : count ≤ 128
-  pub row-low : (v : ℕ) → v < n → getD rows v 0 < top
-  pub by-row : (k v : ℕ) → k ≤ top → v < 128 → at 2 below k v ≡ 1 ↔ ((v < n) × (getD rows v 0 < k))
-  pub channel-low : (v : ℕ) → v < n → getD channel v 0 < count
-  pub by-channel : 2 < count → Prefixes 2 (min (min n 128) (length channel)) (λ v. getD channel v 0) (min count 128) left
-  pub on-own : (v : ℕ) → v < n → getD columns v 0 ≡ ownColumn W (getD channel v 0)
+  pub row-low : (v : ℕ) → v < n → quad 2 places v < top
+  pub by-row : (k v : ℕ) → k ≤ top → v < 128 → at 2 below k v ≡ 1 ↔ ((v < n) × (quad 2 places v < k))
+  pub channel-low : (v : ℕ) → v < n → quad 0 places v < count
+  pub by-channel : 2 < count → Prefixes 2 (min (min n 128) (length places / 4)) (quad 0 places) (min count 128) left
+  pub on-own : (v : ℕ) → v < n → getD columns v 0 ≡ ownColumn W (quad 0 places v)
 
 -- a column further right is a later channel's
 own-back : (W : Widths) (c d : ℕ) → ownColumn W c < ownColumn W d → c < d
@@ -47,66 +47,65 @@ strictly-true : (t : List ℕ) (a b w : ℕ) → at 2 t b w ≡ 1 → (at 2 t (a
 strictly-true t a b w p q =
     and-intro _ _ (eq-eqb _ _ p) (⊎-elim (λ z. rw z refl) (λ o. absurd (q o)) (two-cases (at 2 t (a + 1) w) (at-lt 2 t (a + 1) w)))
 
-module _ (W : Widths) (n top count : ℕ) (channel columns rows below left : List ℕ) (R : Ready W n top count channel columns rows below left)
-    (u v w : ℕ) (hu : u < n) (hv : v < n) (hw : w < n) (apart : getD channel u 0 ≡ getD channel v 0 → ⊥)
-    (h : Hit (pointOf columns rows u) (pointOf columns rows v) (pointOf columns rows w)) where
+module _ (W : Widths) (n top count : ℕ) (columns places below left : List ℕ) (R : Ready W n top count columns places below left)
+    (u v w : ℕ) (hu : u < n) (hv : v < n) (hw : w < n) (apart : quad 0 places u ≡ quad 0 places v → ⊥)
+    (h : Hit (pointOf columns places u) (pointOf columns places v) (pointOf columns places w)) where
   -- strictly inside is strictly between by channels
   channel-between :
-      (min (getD channel u 0) (getD channel v 0) < getD channel w 0) × (getD channel w 0 < max (getD channel u 0) (getD channel v 0))
+      (min (quad 0 places u) (quad 0 places v) < quad 0 places w) × (quad 0 places w < max (quad 0 places u) (quad 0 places v))
   channel-between =
       let ou = R .on-own u hu in
       let ov = R .on-own v hv in
       let ow = R .on-own w hw in
-      lower-or-higher (getD channel u 0) (getD channel v 0)
+      lower-or-higher (quad 0 places u) (quad 0 places v)
       (λ l.
       let c = column-past h (let a = own-apart W _ _ l in omega arith) in
-      let p = own-back W (getD channel u 0) (getD channel w 0) (omega (arith, c .0)) in
-      let q = own-back W (getD channel w 0) (getD channel v 0) (omega (arith, c .1)) in
+      let p = own-back W (quad 0 places u) (quad 0 places w) (omega (arith, c .0)) in
+      let q = own-back W (quad 0 places w) (quad 0 places v) (omega (arith, c .1)) in
       (omega arith, omega arith))
       (λ e. absurd (apart e))
       (λ l.
       let c = column-back h (let a = own-apart W _ _ l in omega arith) in
-      let p = own-back W (getD channel v 0) (getD channel w 0) (omega (arith, c .0)) in
-      let q = own-back W (getD channel w 0) (getD channel u 0) (omega (arith, c .1)) in
+      let p = own-back W (quad 0 places v) (quad 0 places w) (omega (arith, c .0)) in
+      let q = own-back W (quad 0 places w) (quad 0 places u) (omega (arith, c .1)) in
       (omega arith, omega arith))
 
-  inside-candidate : candidate? below left (getD rows u 0) (getD rows v 0) (getD channel u 0) (getD channel v 0) w ≡ true
+  inside-candidate : candidate? below left (quad 2 places u) (quad 2 places v) (quad 0 places u) (quad 0 places v) w ≡ true
   unfolding candidate?
   inside-candidate =
       let f = R .few in
-      let a : getD rows u 0 < getD rows w 0 = inside-low (h .rises) (h .inside) in
-      let b : getD rows w 0 < getD rows v 0 = inside-high (h .rises) (h .inside) in
+      let a : quad 2 places u < quad 2 places w = inside-low (h .rises) (h .inside) in
+      let b : quad 2 places w < quad 2 places v = inside-high (h .rises) (h .inside) in
       let c = channel-between in
       let rv = R .row-low v hv in
       let cu = R .channel-low u hu in
       let cv = R .channel-low v hv in
-      let l = R .long in
+      let l = R .counted in
       let m = R .few-channels in
       let by = R .by-channel (omega (arith, c .0, c .1)) in
       and-intro _ _ (lt-ltb w 128 (omega arith)) (and-intro _ _
-      (strictly-true below (getD rows u 0) (getD rows v 0) w
-      (R .by-row (getD rows v 0) w (omega arith) (omega arith) .1 (hw, b))
-      (λ o. let s = R .by-row (getD rows u 0 + 1) w (omega arith) (omega arith) .0 o .1 in omega arith))
-      (strictly-true left (min (getD channel u 0) (getD channel v 0)) (max (getD channel u 0) (getD channel v 0)) w
-      (by .sets-by-key (max (getD channel u 0) (getD channel v 0)) w (omega arith) (omega arith) .1 (omega arith, c .1))
+      (strictly-true below (quad 2 places u) (quad 2 places v) w
+      (R .by-row (quad 2 places v) w (omega arith) (omega arith) .1 (hw, b))
+      (λ o. let s = R .by-row (quad 2 places u + 1) w (omega arith) (omega arith) .0 o .1 in omega arith))
+      (strictly-true left (min (quad 0 places u) (quad 0 places v)) (max (quad 0 places u) (quad 0 places v)) w
+      (by .sets-by-key (max (quad 0 places u) (quad 0 places v)) w (omega arith) (omega arith) .1 (omega arith, c .1))
       (λ o.
-      let s = by .sets-by-key (min (getD channel u 0) (getD channel v 0) + 1) w (omega arith) (omega arith) .0 o .1 in
+      let s = by .sets-by-key (min (quad 0 places u) (quad 0 places v) + 1) w (omega arith) (omega arith) .0 o .1 in
       omega (arith, c .0))))
 
--- The kind by candidates is the kind: c and d are the channels of u and v.
-pub kind-candidates : (W : Widths) (n top count : ℕ) (channel columns rows below left : List ℕ)
-    → Ready W n top count channel columns rows below left → (u v : ℕ) → u < n → v < n
-    → (c d p q into outOf : ℕ) → c ≡ getD channel u 0 → d ≡ getD channel v 0
-    → kindAmong c d p q into outOf columns rows below left u v ≡ kindIn c d p q into outOf columns rows u v
-kind-candidates W n top count channel columns rows below left R u v hu hv c d p q into outOf ec ed =
-    rw (ec, ed) (go (ℕ-discrete (getD channel u 0) (getD channel v 0)))
+-- The kind by candidates is the kind.
+pub kind-candidates : (W : Widths) (n top count : ℕ) (columns places below left : List ℕ)
+    → Ready W n top count columns places below left → (u v : ℕ) → u < n → v < n → (p q into outOf : ℕ)
+    → kindAmong (quad 0 places u) (quad 0 places v) p q into outOf columns places below left u v
+    ≡ kindIn (quad 0 places u) (quad 0 places v) p q into outOf columns places u v
+kind-candidates W n top count columns places below left R u v hu hv p q into outOf = go (ℕ-discrete (quad 0 places u) (quad 0 places v))
   where
-    go : Dec (getD channel u 0 ≡ getD channel v 0)
-        → kindAmong (getD channel u 0) (getD channel v 0) p q into outOf columns rows below left u v
-        ≡ kindIn (getD channel u 0) (getD channel v 0) p q into outOf columns rows u v
-    go (yes e) = within _ _ _ _ _ _ columns rows below left u v e
+    go : Dec (quad 0 places u ≡ quad 0 places v)
+        → kindAmong (quad 0 places u) (quad 0 places v) p q into outOf columns places below left u v
+        ≡ kindIn (quad 0 places u) (quad 0 places v) p q into outOf columns places u v
+    go (yes e) = within _ _ _ _ _ _ columns places below left u v e
     go (no ne) =
-        between-across _ _ _ _ _ _ columns rows below left u v ne
-        ∙ ap crossing (among-enough _ (pointOf columns rows) (vertexCount columns rows) u v
-        (λ w hw h. inside-candidate W n top count channel columns rows below left R u v w hu hv (let e = R .counted in omega arith) ne h))
-        ∙ sym (across (getD channel u 0) (getD channel v 0) p q into outOf columns rows below left u v ne)
+        between-across _ _ _ _ _ _ columns places below left u v ne
+        ∙ ap crossing (among-enough _ (pointOf columns places) (vertexCount columns places) u v
+        (λ w hw h. inside-candidate W n top count columns places below left R u v w hu hv (let e = R .counted in omega arith) ne h))
+        ∙ sym (across (quad 0 places u) (quad 0 places v) p q into outOf columns places below left u v ne)

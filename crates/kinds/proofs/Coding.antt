@@ -4,7 +4,7 @@ use mathlib.Core.Bool.{true, false}
 use mathlib.Core.List.{List}
 use Prim.Native.Nat.{ℕ, _+_, min}
 use lib.Dec.{eqb}
-use lib.ListN.{getD}
+use Rattle.counting.specs.Quads.{quad}
 use borrow.Author.Tests.{eq-eqb, ne-eqb}
 use Rattle.bundles.specs.Sides.{adjacent?}
 use Rattle.geometry.specs.Segment.{pointOf, vertexCount}
@@ -38,12 +38,12 @@ else-adjacent p q e = rw (ne-eqb (p + 1) q e) refl
 -- ---- the three cases
 
 -- of the ends' channels and positions, and the numbers of their bundles
-module _ (c d p q into outOf : ℕ) (columns rows below left : List ℕ) (u v : ℕ) where
+module _ (c d p q into outOf : ℕ) (columns places below left : List ℕ) (u v : ℕ) where
   abbrev kind : Kind
-  kind = kindAmong c d p q into outOf columns rows below left u v
+  kind = kindAmong c d p q into outOf columns places below left u v
 
   abbrev course : Course
-  course = courseAmong (candidate? below left (getD rows u 0) (getD rows v 0) c d) (pointOf columns rows) (vertexCount columns rows) u v
+  course = courseAmong (candidate? below left (quad 2 places u) (quad 2 places v) c d) (pointOf columns places) (vertexCount columns places) u v
 
   between-path : c ≡ d → adjacent? p q ≡ true → kind ≡ Path
   unfolding kindAmong
@@ -70,11 +70,11 @@ module _ (c d p q into outOf : ℕ) (columns rows below left : List ℕ) (u v : 
 
   -- ---- and with every vertex in place of the candidates
 
-  pub across : (c ≡ d → ⊥) → kindIn c d p q into outOf columns rows u v ≡ crossing (courseOf (pointOf columns rows) (vertexCount columns rows) u v)
+  pub across : (c ≡ d → ⊥) → kindIn c d p q into outOf columns places u v ≡ crossing (courseOf (pointOf columns places) (vertexCount columns places) u v)
   unfolding kindIn
   across e = rw (ne-eqb c d e) refl
 
   -- within a channel candidates make no difference
-  pub within : c ≡ d → kind ≡ kindIn c d p q into outOf columns rows u v
+  pub within : c ≡ d → kind ≡ kindIn c d p q into outOf columns places u v
   unfolding kindAmong kindIn
   within e = rw (eq-eqb c d e) refl

@@ -4,7 +4,7 @@ use mathlib.Core.List.{List}
 use Prim.Native.Nat.{ℕ, _+_, _-_, _^_, min, max}
 use lib.Bits.{bitAnd}
 use lib.Dec.{eqb, ltb}
-use lib.ListN.{getD}
+use Rattle.counting.specs.Quads.{quad}
 use Rattle.counting.specs.Count.{choose}
 use Rattle.masks.specs.Sets.{at}
 use Rattle.geometry.specs.Segment.{pointOf, vertexCount}
@@ -15,12 +15,12 @@ use Rattle.outline.specs.declared.Kind.{Kind}
 use Rattle.outline.specs.declared.Kind.the-variants.{Path, PathTransitive}
 
 -- the kind of the edge from u, in channel c at position p, to v, in channel d at position q; `into` is the bundle of the edges into v, and
--- `outOf` that of those out of u
+-- `outOf` that of those out of u. Of four numbers a vertex in `places` the third is its row
 unfoldable pub kindIn : ℕ → ℕ → ℕ → ℕ → ℕ → ℕ → List ℕ → List ℕ → ℕ → ℕ → Kind
-kindIn c d p q into outOf columns rows u v =
+kindIn c d p q into outOf columns places u v =
     choose (eqb c d)
     (λ _. choose (adjacent? p q) (λ _. Path) (λ _. PathTransitive (min into outOf)))
-    (λ _. crossing (courseOf (pointOf columns rows) (vertexCount columns rows) u v))
+    (λ _. crossing (courseOf (pointOf columns places) (vertexCount columns places) u v))
 
 -- ---- the same by candidates
 
@@ -34,11 +34,11 @@ unfoldable pub candidate? : List ℕ → List ℕ → ℕ → ℕ → ℕ → �
 candidate? below left a b c d w = ltb w 128 && (strictly? below a b w && strictly? left (min c d) (max c d) w)
 
 unfoldable pub kindAmong : ℕ → ℕ → ℕ → ℕ → ℕ → ℕ → List ℕ → List ℕ → List ℕ → List ℕ → ℕ → ℕ → Kind
-kindAmong c d p q into outOf columns rows below left u v =
+kindAmong c d p q into outOf columns places below left u v =
     choose (eqb c d)
     (λ _. choose (adjacent? p q) (λ _. Path) (λ _. PathTransitive (min into outOf)))
-    (λ _. crossing (courseAmong (candidate? below left (getD rows u 0) (getD rows v 0) c d)
-    (pointOf columns rows) (vertexCount columns rows) u v))
+    (λ _. crossing (courseAmong (candidate? below left (quad 2 places u) (quad 2 places v) c d)
+    (pointOf columns places) (vertexCount columns places) u v))
 
 -- the vertices of one mask that two sets have and two others lack
 abbrev pub between : ℕ → ℕ → ℕ → ℕ → ℕ

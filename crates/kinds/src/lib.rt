@@ -3,6 +3,7 @@
 ghost use mathlib.Core.Path.{_≡_};
 ghost use Prim.Native.Nat.{_<_, min, max};
 ghost use lib.ListN.{getD};
+ghost use Rattle.counting.specs.Quads.{quad};
 ghost use Rattle.geometry.specs.Segment.{pointOf, vertexCount};
 ghost use Rattle.geometry.specs.Courses.{courseAmong};
 ghost use Rattle.bundles.specs.Sides.{adjacent?};
@@ -43,16 +44,18 @@ fn largest(a: usize, b: usize) -> usize
     a
 }
 
-// Entry i of a list, 0 past its end.
-fn byte_at(list: &[u8], i: usize) -> u8
-    ensures { λ r. ⌜ r ≡ getD (now (list .entry)) i 0 ⌝ }
+// The row of v, the third of its four bytes; 0 past the list's end.
+fn row_at(places: &[u8], v: u8) -> u8
+    ensures { λ r. ⌜ r ≡ quad 2 (now (places .entry)) v ⌝ }
 {
-    if i < list.len() {
-        return list[i];
+    let i = 4 * wide(v) + 2;
+    if i < places.len() {
+        return places[i];
     }
     0
 }
 
+// Entry i of a list, 0 past its end.
 fn mask_at(list: &[u64], i: usize) -> u64
     ensures { λ r. ⌜ r ≡ getD (now (list .entry)) i 0 ⌝ }
 {
@@ -83,14 +86,14 @@ fn course_between<'a>(
     c: u8,
     d: u8,
     columns: &'a [u16],
-    rows: &'a [u8],
-    u: usize,
-    v: usize,
+    places: &'a [u8],
+    u: u8,
+    v: u8,
 ) -> Course
-    ensures { λ r. ⌜ r ≡ courseAmong (candidate? (now (below .entry)) (now (left .entry)) (getD (now (rows .entry)) u 0) (getD (now (rows .entry)) v 0) c d) (pointOf (now (columns .entry)) (now (rows .entry))) (vertexCount (now (columns .entry)) (now (rows .entry))) u v ⌝ }
+    ensures { λ r. ⌜ r ≡ courseAmong (candidate? (now (below .entry)) (now (left .entry)) (quad 2 (now (places .entry)) u) (quad 2 (now (places .entry)) v) c d) (pointOf (now (columns .entry)) (now (places .entry))) (vertexCount (now (columns .entry)) (now (places .entry))) u v ⌝ }
 {
-    let a = byte_at(rows, u);
-    let b = byte_at(rows, v);
+    let a = row_at(places, u);
+    let b = row_at(places, v);
     // Nothing lies strictly between rows next to each other: no set is read.
     if geometry::low_rise(a, b) {
         return Course::Straight;
@@ -103,7 +106,7 @@ fn course_between<'a>(
     let from = 2 * (least(p, q) + 1);
     let first = inner(below, left, high, low, to, from);
     let second = inner(below, left, high + 1, low + 1, to + 1, from + 1);
-    geometry::course_among(first, second, columns, rows, u, v)
+    geometry::course_among(first, second, columns, places, wide(u), wide(v))
 }
 
 // Whether positions are next to each other.
@@ -144,7 +147,7 @@ fn crossed(c: Course) -> Code
 }
 
 // The code of the edge u -> v from channel c and position p to channel d and position q, by the numbers of the bundles of the edges
-// into v and out of u, by columns and rows, and by the sets of the vertices below each row and left of each channel.
+// into v and out of u, by columns and places, and by the sets of the vertices below each row and left of each channel.
 pub fn kind_of<'a>(
     c: u8,
     d: u8,
@@ -153,13 +156,13 @@ pub fn kind_of<'a>(
     into: u16,
     out_of: u16,
     columns: &'a [u16],
-    rows: &'a [u8],
+    places: &'a [u8],
     below: &'a [u64],
     left: &'a [u64],
-    u: usize,
-    v: usize,
+    u: u8,
+    v: u8,
 ) -> Code
-    ensures { λ r. ⌜ r ≡ codeOf (kindAmong c d p q into «out_of» (now (columns .entry)) (now (rows .entry)) (now (below .entry)) (now (left .entry)) u v) ⌝ }
+    ensures { λ r. ⌜ r ≡ codeOf (kindAmong c d p q into «out_of» (now (columns .entry)) (now (places .entry)) (now (below .entry)) (now (left .entry)) u v) ⌝ }
 {
     if c == d {
         if adjacent(p, q) {
@@ -175,5 +178,5 @@ pub fn kind_of<'a>(
             row: 0,
         };
     }
-    crossed(course_between(below, left, c, d, columns, rows, u, v))
+    crossed(course_between(below, left, c, d, columns, places, u, v))
 }

@@ -1,9 +1,8 @@
 -- The loops over vertices: whose successor it is, and which channels have begun. Assumes nothing.
 use mathlib.Core.Path.{_≡_, refl, sym, ap, _∙_, subst}
 use mathlib.Core.Logic.{_≢_, _⊎_, inl, inr}
-use mathlib.Core.Bool.{Bool}
 use mathlib.Core.List.{List, [], _∷_, _++_, append-nil, append-assoc, flatten}
-use Prim.Native.Nat.{ℕ, zero, suc, _+_, _-_, _≤_, _<_}
+use Prim.Native.Nat.{ℕ, zero, suc, _+_, _-_, _*_, _≤_, _<_, min}
 use native.Mathlib.Omega.{arith}
 use native.Mathlib.Decide.{ℕ-discrete}
 use native.Mathlib.Numerals.{add-one}
@@ -13,12 +12,14 @@ use borrow.Author.Tests.{lt-ltb, le-ltb}
 use Rattle.matching.specs.Search.{nobody, matching}
 use Rattle.matching.specs.Lists.{times}
 use Rattle.matching.specs.Chains.{successorFrom, successor, chain, begun, planned}
-use Rattle.matching.proofs.Lists.{flatten-snoc, times-append, times-here, within-has, length-bound}
+use Rattle.matching.proofs.Lists.{flatten-snoc, times-append, times-here, length-bound}
 use Rattle.matching.proofs.Chains.{chain-end, chain-more, begun-yes, begun-none, begun-no, successor-here, successor-on, successor-end, successor-fact, begun-once, begun-within, begun-room}
-use Rattle.planning.specs.Arranged.{Arranged, openedIn, extendedBy}
-use Rattle.planning.specs.Laid.{tables, Successors, followed, Fits, Ready, Behind}
+use Rattle.search.specs.Table.{leadsIn}
+use Rattle.planning.specs.Arranged.{Arranged, Kept}
+use Rattle.planning.specs.Laid.{placed, Successors, followed, Fits, Ready, Behind}
+use Rattle.planning.specs.Promise.{Chained}
 use Rattle.planning.specs.declared.Channels.{Channels}
-use Rattle.planning.proofs.Laying.{Next, arranged-opened, arranged-extended, opens, extends}
+use Rattle.planning.proofs.Laying.{kept-same, kept-on, kept-placed, arranged-opened, arranged-extended}
 
 -- ---- each vertex's successor, from the last vertex down
 
@@ -103,11 +104,11 @@ module _ (n : ℕ) (F : List ℕ) (a : ℕ) where
   mine = followed n F (suc n) a
 
   -- its first p vertices are laid, and w comes next
-  pub record Following (ls : List (List ℕ)) (s : Channels) (w p : ℕ) : Type 0 where
+  pub record Following (ls : List (List ℕ)) (count : ℕ) (s : List ℕ) (w p : ℕ) : Type 0 where
     pub l : List ℕ
     pub size : p ≡ length l
     pub rest : mine ≡ l ++ followed n F (suc n - p) w
-    pub arranged : Arranged (ls ++ (l ∷ [])) s
+    pub arranged : Arranged n (ls ++ (l ∷ [])) (count + 1) s
 
   -- where it fits there is room for it
   fits-few : n ≤ 128 → a < n → (ls : List (List ℕ)) → Fits n ls mine → length ls < 128
@@ -120,15 +121,16 @@ module _ (n : ℕ) (F : List ℕ) (a : ℕ) where
     ap length (followed-more n F n a m),
   )
 
-  following-none : (ls : List (List ℕ)) (r : Channels) → Arranged ls r → Following ls (openedIn r) a 0
-  following-none ls r g = record {
+  following-none : (ls : List (List ℕ)) (count : ℕ) (s : List ℕ) → Arranged n ls count s → Following ls count s a 0
+  following-none ls count s g = record {
     l = [];
     size = refl;
     rest = ap (λ k. followed n F k a) (let e : suc n ≡ suc n - 0 = omega arith in e);
-    arranged = arranged-opened ls r g;
+    arranged = arranged-opened n ls count s g;
   }
 
-  module _ (small : n ≤ 128) (m : a < n) (ls : List (List ℕ)) (fit : Fits n ls mine) (s : Channels) (w p : ℕ) (f : Following ls s w p) where
+  module _ (small : n ≤ 128) (m : a < n) (ls : List (List ℕ)) (fit : Fits n ls mine) (count : ℕ) (s : List ℕ) (w p : ℕ)
+      (f : Following ls count s w p) where
     -- all that is laid by the end of this channel
     whole : flatten (ls ++ (mine ∷ [])) ≡ (flatten ls ++ f .l) ++ followed n F (suc n - p) w
     whole =
@@ -164,79 +166,65 @@ module _ (n : ℕ) (F : List ℕ) (a : ℕ) where
         times-here w (followed n F (suc n - (p + 1)) (getD F w 0)),
       )
 
-      next : Next ls (f .l) w
-      next = record {
-        vertex = omega (arith, within-has n w (flatten (ls ++ (mine ∷ []))) (fit .only) (omega (arith, often)));
-        new = omega (arith, often, fit .once w);
-      }
+      -- so its position is a byte
+      pub following-byte : p < 128
+      following-byte = omega (arith, f .size, lengths, ap length here)
 
-      -- so its entries in the lists are there, and are bytes
-      pub following-asks : (p < 128) × (w < 128)
-      following-asks = (omega (arith, f .size, lengths, ap length here), next .vertex)
-
-      following-more : (w′ : ℕ) → w′ ≡ getD F w 0 → Following ls (extendedBy p w s) w′ (p + 1)
-      following-more w′ ew = record {
+      following-more : 4 * n ≤ length s → (w′ : ℕ) → w′ ≡ getD F w 0 → Following ls count (placed w count p s) w′ (p + 1)
+      following-more room w′ ew = record {
         l = f .l ++ (w ∷ []);
         size = omega (arith, f .size, length-append (f .l) (w ∷ []));
         rest = f .rest ∙ ap (λ x. f .l ++ x) here ∙ sym (append-assoc (f .l) (w ∷ []) (followed n F (suc n - (p + 1)) (getD F w 0)))
             ∙ ap (λ x. (f .l ++ (w ∷ [])) ++ followed n F (suc n - (p + 1)) x) (sym ew);
-        arranged = subst (λ x. Arranged (ls ++ ((f .l ++ (w ∷ [])) ∷ [])) (extendedBy x w s)) (sym (f .size))
-            (arranged-extended ls (f .l) w next s (f .arranged));
+        arranged = subst (λ x. Arranged n (ls ++ ((f .l ++ (w ∷ [])) ∷ [])) (count + 1) (placed w count x s)) (sym (f .size))
+            (arranged-extended n ls (count + 1) s room (f .l) w count (omega (arith, often, fit .once w)) (omega arith) (f .arranged));
       }
 
-    following-all : n ≤ w → Arranged (ls ++ (mine ∷ [])) s
+    following-all : n ≤ w → Arranged n (ls ++ (mine ∷ [])) (count + 1) s
     following-all q =
         let z : mine ≡ f .l = f .rest ∙ ap (λ x. f .l ++ x) (followed-end n F (suc n - p) w q) ∙ append-nil (f .l) in
-        subst (λ x. Arranged (ls ++ (x ∷ [])) s) (sym z) (f .arranged)
+        subst (λ x. Arranged n (ls ++ (x ∷ [])) (count + 1) s) (sym z) (f .arranged)
 
   -- ---- so behind whatever channels r has, if it fits there
 
-  pub record Follows (r s : Channels) (w p : ℕ) : Type 0 where
-    pub each : (ls : List (List ℕ)) → Arranged ls r → Fits n ls mine → Following ls s w p
+  pub record Follows (count : ℕ) (r s : List ℕ) (w p : ℕ) : Type 0 where
+    pub each : (ls : List (List ℕ)) → Arranged n ls count r → Fits n ls mine → Following ls count s w p
+    pub kept : Kept n r s
 
-  pub follows-none : (count : ℕ) (channel position : List ℕ)
-      → Follows (tables count channel position) (tables (count + 1) channel position) a 0
-  follows-none count channel position = record {
-    each = λ ls g t. subst (λ s. Following ls s a 0) (opens count channel position)
-        (following-none ls (tables count channel position) g);
-  }
+  pub follows-none : (count : ℕ) (r : List ℕ) → Follows count r r a 0
+  follows-none count r = record { each = λ ls g t. following-none ls count r g; kept = kept-same n r }
 
-  module _ (small : n ≤ 128) (m : a < n) where
-    pub ready-few : (r : Channels) → Ready n mine r → r .count < 128
-    ready-few r x = omega (arith, x .arranged .counted, fits-few small m (x .ls) (x .fits))
+  module _ (small : n ≤ 128) (m : a < n) (count : ℕ) (r : List ℕ) where
+    pub ready-few : Ready n mine count r → count < 128
+    ready-few x = omega (arith, x .arranged .counted, fits-few small m (x .ls) (x .fits))
 
-    module _ (r : Channels) (count : ℕ) (channel position : List ℕ) (w p : ℕ)
-        (f : Follows r (tables (count + 1) channel position) w p) where
-      abbrev s : Channels
-      s = tables (count + 1) channel position
-
-      pub follows-more : w < n → (w′ : ℕ) → w′ ≡ getD F w 0
-          → Follows r (tables (count + 1) (set channel w count) (set position w p)) w′ (p + 1)
-      follows-more d w′ ew = record {
-        each = λ ls g t. subst (λ x. Following ls x w′ (p + 1)) (extends p w count channel position)
-            (following-more small m ls t s w p (f .each ls g t) d w′ ew);
+    module _ (s : List ℕ) (w p : ℕ) (f : Follows count r s w p) where
+      pub follows-more : 4 * n ≤ length r → w < n → (w′ : ℕ) → w′ ≡ getD F w 0 → Follows count r (placed w count p s) w′ (p + 1)
+      follows-more room d w′ ew = record {
+        each = λ ls g t. following-more small m ls t count s w p (f .each ls g t) d (omega (arith, f .kept .long)) w′ ew;
+        kept = kept-placed n r s (f .kept) w count p d;
       }
 
-      pub follows-all : n ≤ w → Behind n mine r s
-      follows-all q ls g t = following-all small m ls t s w p (f .each ls g t) q
+      pub follows-all : n ≤ w → Behind n mine count r s
+      follows-all q = record { laid = λ ls g t. following-all small m ls t count s w p (f .each ls g t) q; kept = f .kept }
 
 -- ---- the channels, vertex by vertex
 
 module _ (n : ℕ) (P : List ℕ) where
   -- those that begin below v are laid
-  pub record Laid (v : ℕ) (r : Channels) : Type 0 where
+  pub record Laid (v count : ℕ) (r : List ℕ) : Type 0 where
     pub upto : v ≤ n
     pub full : length (begun n P v) ≤ length (flatten (begun n P v))
-    pub arranged : Arranged (begun n P v) r
+    pub arranged : Arranged n (begun n P v) count r
 
-  pub laid-none : (r : Channels) → Arranged [] r → Laid 0 r
+  pub laid-none : (r : List ℕ) → Arranged n [] 0 r → Laid 0 0 r
   laid-none r a = record {
     upto = omega arith;
     full = omega (arith, ap length (begun-none n P));
-    arranged = subst (λ x. Arranged x r) (sym (begun-none n P)) a;
+    arranged = subst (λ x. Arranged n x 0 r) (sym (begun-none n P)) a;
   }
 
-  module _ (small : n ≤ 128) (F : List ℕ) (o : Successors n P F) (v : ℕ) (r : Channels) (g : Laid v r) (l : v < n) where
+  module _ (small : n ≤ 128) (F : List ℕ) (o : Successors n P F) (v count : ℕ) (r : List ℕ) (g : Laid v count r) (l : v < n) where
     module _ (e : getD P v 0 ≡ nobody) where
       -- v begins a channel
       yes-begun : begun n P (suc v) ≡ begun n P v ++ (followed n F (suc n) v ∷ [])
@@ -249,12 +237,12 @@ module _ (n : ℕ) (P : List ℕ) where
         only = λ u h. subst (λ x. times u (flatten x) ≡ 0) yes-begun (begun-within n P small (suc v) l u h);
       }
 
-      pub laid-ready : Ready n (followed n F (suc n) v) r
-      laid-ready = record { ls = begun n P v; arranged = g .arranged; fits = fits }
+      pub laid-ready : 4 * n ≤ length r → Ready n (followed n F (suc n) v) count r
+      laid-ready room = record { room = room; ls = begun n P v; arranged = g .arranged; fits = fits }
 
       -- and is laid
-      pub laid-chain : (s : Channels) → Behind n (followed n F (suc n) v) r s → Laid (v + 1) s
-      laid-chain s b = subst (λ x. Laid x s) (sym (add-one v)) (record {
+      pub laid-chain : (s : List ℕ) → Behind n (followed n F (suc n) v) count r s → Laid (v + 1) (count + 1) s
+      laid-chain s b = subst (λ x. Laid x (count + 1) s) (sym (add-one v)) (record {
         upto = l;
         full = omega (
           arith,
@@ -266,27 +254,50 @@ module _ (n : ℕ) (P : List ℕ) where
           length-append (flatten (begun n P v)) (followed n F (suc n) v),
           ap length (followed-more n F n v l),
         );
-        arranged = subst (λ x. Arranged x s) (sym yes-begun) (b (begun n P v) (g .arranged) fits);
+        arranged = subst (λ x. Arranged n x (count + 1) s) (sym yes-begun) (b .laid (begun n P v) (g .arranged) fits);
       })
 
     -- v begins none
-    pub laid-pass : getD P v 0 ≢ nobody → Laid (v + 1) r
+    pub laid-pass : getD P v 0 ≢ nobody → Laid (v + 1) count r
     laid-pass d =
         let z : begun n P v ≡ begun n P (v + 1) = sym (begun-no n P v d) ∙ ap (begun n P) (sym (add-one v)) in record {
           upto = omega arith;
           full = subst (λ x. length x ≤ length (flatten x)) z (g .full);
-          arranged = subst (λ x. Arranged x r) z (g .arranged);
+          arranged = subst (λ x. Arranged n x count r) z (g .arranged);
         }
 
   -- all are laid, and few enough for a byte
-  module _ (small : n ≤ 128) (v : ℕ) (r : Channels) (g : Laid v r) where
-    pub laid-few : r .count ≤ n
+  module _ (small : n ≤ 128) (v count : ℕ) (r : List ℕ) (g : Laid v count r) where
+    pub laid-few : count ≤ n
     laid-few = omega (arith, g .arranged .counted, g .full, begun-room n P small v (g .upto))
 
-    pub laid-all : n ≤ v → Arranged (begun n P n) r
-    laid-all l = subst (λ x. Arranged (begun n P x) r) (let e : v ≡ n = omega (arith, g .upto) in e) (g .arranged)
+    pub laid-all : n ≤ v → Arranged n (begun n P n) count r
+    laid-all l = subst (λ x. Arranged n (begun n P x) count r) (let e : v ≡ n = omega (arith, g .upto) in e) (g .arranged)
+
+-- ---- the answer
+
+-- no room
+pub chained-short : (n : ℕ) (table p : List ℕ) (r : Channels) → length p < 4 * min n 128 → r ≡ record { refusal = 8; count = 0 } → Chained n table p r p
+chained-short n table p r h e =
+    let z : r .refusal ≡ 8 = ap (λ (x : Channels). x .refusal) e in
+    record {
+      refused = λ l. absurd (omega arith);
+      short = λ _. (z, refl);
+      none = λ _. ap (λ (x : Channels). x .count) e;
+      arranged = λ l. absurd (omega arith);
+      kept = kept-same (min n 128) p;
+    }
 
 -- the channels of the predecessors that the rule gives
-pub laid-planned : (leads : ℕ → ℕ → Bool) (n m : ℕ) (P : List ℕ) (r : Channels) → m ≡ n → P ≡ matching leads n → (r .refusal ≡ 0) × Arranged (begun m P m) r → (r .refusal ≡ 0) × Arranged (planned leads n) r
+pub chained-all : (n : ℕ) (table p : List ℕ) (r : Channels) (m : ℕ) (P p₁ p′ : List ℕ) → m ≡ min n 128 → 4 * m ≤ length p
+    → P ≡ matching (leadsIn table) (min n 128) → Kept m p p₁
+    → (r .refusal ≡ 0) × Arranged m (begun m P m) (r .count) p′ × Kept m p₁ p′ → Chained n table p r p′
 unfolding planned
-laid-planned leads n m P r em e a = (a .0, subst (λ x. Arranged (begun n x n) r) e (subst (λ x. Arranged (begun x P x) r) em (a .1)))
+chained-all n table p r m P p₁ p′ em h e g a = record {
+  refused = λ _. a .0;
+  short = λ l. absurd (omega arith);
+  none = λ d. absurd (d (a .0));
+  arranged = λ _. subst (λ x. Arranged (min n 128) (begun (min n 128) x (min n 128)) (r .count) p′) e
+      (subst (λ x. Arranged x (begun x P x) (r .count) p′) em (a .1));
+  kept = subst (λ x. Kept x p p′) em (kept-on m p p₁ g p′ (a .2));
+}

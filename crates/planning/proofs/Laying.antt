@@ -1,73 +1,96 @@
--- Channels made vertex by vertex: what each step of the code makes of an arrangement. Assumes nothing.
+-- Places stored vertex by vertex: what each step of the code makes of them and of an arrangement. Assumes nothing.
 use mathlib.Core.Path.{_≡_, refl, sym, ap, _∙_}
 use mathlib.Core.Logic.{_≢_}
 use mathlib.Core.List.{List, [], _∷_, _++_, flatten}
-use Prim.Native.Nat.{ℕ, _+_, _-_, _<_}
+use Prim.Native.Nat.{ℕ, _+_, _-_, _*_, _≤_, _<_}
 use native.Mathlib.Omega.{arith}
 use native.Mathlib.Decide.{ℕ-discrete}
-use lib.ListN.{length, getD, set, replicate, length-append, length-set}
-use lib.Seq.{getD-set-same, getD-set-other}
-use Rattle.counting.proofs.Zeros.{zeros}
+use lib.ListN.{length, set, length-append, length-set}
+use Rattle.counting.specs.Quads.{quad}
+use Rattle.counting.proofs.Quads.{quad-same, quad-other}
 use Rattle.matching.specs.Lists.{times, channelFrom, channelOf, positionOf}
 use Rattle.matching.proofs.Lists.{channel-kept, position-kept, channel-new, position-new, channel-opened, position-opened}
-use Rattle.planning.specs.Arranged.{Arranged, openedIn, extendedBy}
-use Rattle.planning.specs.Laid.{tables}
-use Rattle.planning.specs.declared.Channels.{Channels}
+use Rattle.planning.specs.Arranged.{Arranged, Kept}
+use Rattle.planning.specs.Laid.{placed}
 
-pub arranged-none : (refusal : ℕ)
-    → Arranged [] (record { refusal = refusal; count = 0; channel = replicate 128 0; position = replicate 128 0 })
-unfolding channelOf channelFrom positionOf
-arranged-none refusal = record { counted = refl; channel = zeros 128; position = zeros 128; sizes = (refl, refl) }
+-- ---- what two stores change
 
-pub arranged-opened : (ls : List (List ℕ)) (r : Channels) → Arranged ls r → Arranged (ls ++ ([] ∷ [])) (openedIn r)
-unfolding openedIn channelOf
-arranged-opened ls r a = record {
-  counted = omega (arith, a .counted, length-append ls ([] ∷ []));
-  channel = λ v. a .channel v ∙ sym (channel-opened 0 ls v);
-  position = λ v. a .position v ∙ sym (position-opened ls v);
-  sizes = a .sizes;
-}
+module _ (v c q : ℕ) (p : List ℕ) where
+  placed-other : (k u : ℕ) → k < 4 → (u ≡ v → 2 ≤ k) → quad k (placed v c q p) u ≡ quad k p u
+  placed-other k u l o =
+      quad-other (set p (4 * v) c) u k v 1 q l (omega arith) (λ e f. let h = o e in omega arith)
+      ∙ quad-other p u k v 0 c l (omega arith) (λ e f. let h = o e in omega arith)
 
--- v comes next, behind the channels ls and the vertices l of the last: it is new
-pub record Next (ls : List (List ℕ)) (l : List ℕ) (v : ℕ) : Type 0 where
-  pub vertex : v < 128
-  pub new : times v (flatten ls) + times v l ≡ 0
-
-module _ (ls : List (List ℕ)) (l : List ℕ) (v : ℕ) (x : Next ls l v) (r : Channels) where
-  -- a store at v, and what the other vertices keep
-  at-vertex : (t : List ℕ) (y : ℕ) (f g : ℕ → ℕ) → v < length t → ((u : ℕ) → getD t u 0 ≡ f u) → y ≡ g v
-      → ((u : ℕ) → u ≢ v → f u ≡ g u) → (u : ℕ) → getD (set t v y) u 0 ≡ g u
-  at-vertex t y f g h a b c u = go (ℕ-discrete u v)
+  -- channels that have v so, and the other vertices as they stand
+  placed-arranged : (n : ℕ) (ls : List (List ℕ)) (count : ℕ) → (v < n → 4 * v + 1 < length p) → count ≡ length ls
+      → c ≡ channelOf ls v → q ≡ positionOf ls v
+      → ((u : ℕ) → u < n → u ≢ v → (quad 0 p u ≡ channelOf ls u) × (quad 1 p u ≡ positionOf ls u)) → Arranged n ls count (placed v c q p)
+  placed-arranged n ls count h e ec eq o = record {
+    counted = e;
+    channel = λ u m. at 0 (channelOf ls) (omega arith)
+        (λ l. quad-other (set p (4 * v) c) v 0 v 1 q (omega arith) (omega arith) (λ _ f. omega arith)
+        ∙ quad-same p v 0 c (let l = h l in omega arith) ∙ ec)
+        (λ w l d. o w l d .0) u m (ℕ-discrete u v);
+    position = λ u m. at 1 (positionOf ls) (omega arith)
+        (λ l. quad-same (set p (4 * v) c) v 1 q (let l = h l in omega (arith, length-set p (4 * v) c)) ∙ eq)
+        (λ w l d. o w l d .1) u m (ℕ-discrete u v);
+  }
     where
-      go : Dec (u ≡ v) → getD (set t v y) u 0 ≡ g u
-      go (yes q) = ap (λ j. getD (set t v y) j 0) q ∙ getD-set-same t v y 0 h ∙ b ∙ ap g (sym q)
-      go (no q) = getD-set-other t v u y 0 q ∙ a u ∙ c u q
+      at : (k : ℕ) (f : ℕ → ℕ) → k < 4 → (v < n → quad k (placed v c q p) v ≡ f v) → ((u : ℕ) → u < n → u ≢ v → quad k p u ≡ f u)
+          → (u : ℕ) → u < n → Dec (u ≡ v) → quad k (placed v c q p) u ≡ f u
+      at k f b z o u m (yes e) = ap (quad k (placed v c q p)) e ∙ z (omega arith) ∙ ap f (sym e)
+      at k f b z o u m (no d) = placed-other k u b (λ e. absurd (d e)) ∙ o u m d
 
-  pub arranged-extended : Arranged (ls ++ (l ∷ [])) r → Arranged (ls ++ ((l ++ (v ∷ [])) ∷ [])) (extendedBy (length l) v r)
-  unfolding extendedBy channelOf
-  arranged-extended a =
-      let c : r .count ≡ length ls + 1 = omega (arith, a .counted, length-append ls (l ∷ [])) in
-      record {
-        counted = omega (arith, c, length-append ls ((l ++ (v ∷ [])) ∷ []));
-        channel = at-vertex (r .channel) (r .count - 1) (channelOf (ls ++ (l ∷ []))) (channelOf (ls ++ ((l ++ (v ∷ [])) ∷ [])))
-            (omega (arith, x .vertex, a .sizes .0)) (a .channel)
-            (let q : r .count - 1 ≡ 0 + length ls = omega arith in q ∙ sym (channel-new l v 0 ls (omega (arith, x .new))))
-            (λ u d. sym (channel-kept l v 0 ls u d));
-        position = at-vertex (r .position) (length l) (positionOf (ls ++ (l ∷ []))) (positionOf (ls ++ ((l ++ (v ∷ [])) ∷ [])))
-            (omega (arith, x .vertex, a .sizes .1)) (a .position)
-            (sym (position-new l v ls (omega (arith, x .new)) (omega (arith, x .new)))) (λ u d. sym (position-kept l v ls u d));
-        sizes = (length-set (r .channel) _ _ ∙ a .sizes .0, length-set (r .position) _ _ ∙ a .sizes .1);
-      }
+module _ (n : ℕ) where
+  pub kept-same : (p : List ℕ) → Kept n p p
+  kept-same p = record { kept = λ k v l m. refl; past = λ k v l m. refl; long = refl }
 
--- ---- the code's steps
+  module _ (p p′ : List ℕ) (g : Kept n p p′) where
+    pub kept-on : (s : List ℕ) → Kept n p′ s → Kept n p s
+    kept-on s h = record {
+      kept = λ k v l m. h .kept k v l m ∙ g .kept k v l m;
+      past = λ k v l m. h .past k v l m ∙ g .past k v l m;
+      long = h .long ∙ g .long;
+    }
 
--- one channel more is `openedIn`, and two stores for a vertex are `extendedBy`
-pub opens : (count : ℕ) (channel position : List ℕ) → openedIn (tables count channel position) ≡ tables (count + 1) channel position
-unfolding openedIn
-opens count channel position = refl
+    pub kept-placed : (v c q : ℕ) → v < n → Kept n p (placed v c q p′)
+    kept-placed v c q b = kept-on (placed v c q p′) (record {
+      kept = λ k u l m. placed-other v c q p′ k u m (λ _. l);
+      past = λ k u l m. placed-other v c q p′ k u l (λ e. absurd (omega arith));
+      long = length-set (set p′ (4 * v) c) (4 * v + 1) q ∙ length-set p′ (4 * v) c;
+    })
 
-pub extends : (p v count : ℕ) (channel position : List ℕ)
-    → extendedBy p v (tables (count + 1) channel position) ≡ tables (count + 1) (set channel v count) (set position v p)
-unfolding extendedBy
-extends p v count channel position =
-    ap (λ c. tables (count + 1) (set channel v c) (set position v p)) (let e : count + 1 - 1 ≡ count = omega arith in e)
+-- ---- no channel, of one vertex after the other
+
+module _ (v : ℕ) (p : List ℕ) where
+  pub none-more : 4 * v + 1 < length p → Arranged v [] 0 p → Arranged (v + 1) [] 0 (placed v 0 0 p)
+  unfolding channelOf channelFrom positionOf
+  none-more h a =
+      placed-arranged v 0 0 p (v + 1) [] 0 (λ _. h) refl refl refl
+      (λ u m d. (a .channel u (omega arith), a .position u (omega arith)))
+
+  pub none-upto : (n : ℕ) → n ≤ v → Arranged v [] 0 p → Arranged n [] 0 p
+  none-upto n h a = record { counted = refl; channel = λ u m. a .channel u (omega arith); position = λ u m. a .position u (omega arith) }
+
+-- ---- a channel opened, and a vertex more in the last
+
+module _ (n : ℕ) (ls : List (List ℕ)) (count : ℕ) (p : List ℕ) where
+  pub arranged-opened : Arranged n ls count p → Arranged n (ls ++ ([] ∷ [])) (count + 1) p
+  unfolding channelOf
+  arranged-opened a = record {
+    counted = omega (arith, a .counted, length-append ls ([] ∷ []));
+    channel = λ v m. a .channel v m ∙ sym (channel-opened 0 ls v);
+    position = λ v m. a .position v m ∙ sym (position-opened ls v);
+  }
+
+  -- v comes next, behind the channels ls and the vertices l of the last: it is new
+  pub arranged-extended : 4 * n ≤ length p → (l : List ℕ) (v c : ℕ) → times v (flatten ls) + times v l ≡ 0 → c ≡ count - 1
+      → Arranged n (ls ++ (l ∷ [])) count p → Arranged n (ls ++ ((l ++ (v ∷ [])) ∷ [])) count (placed v c (length l) p)
+  unfolding channelOf
+  arranged-extended h l v c new e a =
+      let last : count ≡ length ls + 1 = a .counted ∙ length-append ls (l ∷ []) in
+      placed-arranged v c (length l) p n (ls ++ ((l ++ (v ∷ [])) ∷ [])) count (λ m. omega arith)
+      (last ∙ sym (length-append ls ((l ++ (v ∷ [])) ∷ [])))
+      ((let q : c ≡ 0 + length ls = omega arith in q) ∙ sym (channel-new l v 0 ls (omega arith)))
+      (sym (position-new l v ls (omega arith) (omega arith)))
+      (λ u m d. (a .channel u m ∙ sym (channel-kept l v 0 ls u d), a .position u m ∙ sym (position-kept l v ls u d)))

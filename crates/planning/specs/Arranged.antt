@@ -1,29 +1,19 @@
--- Channels as data: numbers and positions. Assumes nothing.
+-- Channels as data: each vertex's channel and position in a list of places, four numbers a vertex. Assumes nothing.
 use mathlib.Core.Path.{_≡_}
 use mathlib.Core.List.{List}
-use Prim.Native.Nat.{ℕ, _+_, _-_}
-use lib.ListN.{length, getD, set}
+use Prim.Native.Nat.{ℕ, _≤_, _<_}
+use lib.ListN.{length}
+use Rattle.counting.specs.Quads.{quad}
 use Rattle.matching.specs.Lists.{channelOf, positionOf}
-use Rattle.planning.specs.declared.Channels.{Channels}
 
--- r is the channels ls: how many there are, and each vertex's channel and position. Of a vertex in no channel both numbers are 0
-pub record Arranged (ls : List (List ℕ)) (r : Channels) : Type 0 where
-  pub counted : r .count ≡ length ls
-  pub channel : (v : ℕ) → getD (r .channel) v 0 ≡ channelOf ls v
-  pub position : (v : ℕ) → getD (r .position) v 0 ≡ positionOf ls v
-  pub sizes : (length (r .channel) ≡ 128) × (length (r .position) ≡ 128)
+-- p has the channels ls, so many, of n vertices: each vertex's channel and position. Of a vertex in no channel both numbers are 0
+pub record Arranged (n : ℕ) (ls : List (List ℕ)) (count : ℕ) (p : List ℕ) : Type 0 where
+  pub counted : count ≡ length ls
+  pub channel : (v : ℕ) → v < n → quad 0 p v ≡ channelOf ls v
+  pub position : (v : ℕ) → v < n → quad 1 p v ≡ positionOf ls v
 
--- ---- one step of making it
-
--- a channel with no vertex yet is opened
-unfoldable pub openedIn : Channels → Channels
-openedIn r = record { refusal = r .refusal; count = r .count + 1; channel = r .channel; position = r .position }
-
--- the last channel gets v, at position p
-unfoldable pub extendedBy : ℕ → ℕ → Channels → Channels
-extendedBy p v r = record {
-  refusal = r .refusal;
-  count = r .count;
-  channel = set (r .channel) v (r .count - 1);
-  position = set (r .position) v p;
-}
+-- of p nothing but channels and positions of the first n vertices has changed
+pub record Kept (n : ℕ) (p p′ : List ℕ) : Type 0 where
+  pub kept : (k v : ℕ) → 2 ≤ k → k < 4 → quad k p′ v ≡ quad k p v
+  pub past : (k v : ℕ) → k < 4 → n ≤ v → quad k p′ v ≡ quad k p v
+  pub long : length p′ ≡ length p

@@ -1,18 +1,17 @@
--- Channels in two lists, and one laid behind those that stand there already. Assumes nothing.
+-- Channels laid in a list of places, one behind those that stand there already. Assumes nothing.
 use mathlib.Core.Path.{_≡_}
 use mathlib.Core.List.{List, [], _∷_, _++_, flatten}
-use Prim.Native.Nat.{ℕ, zero, suc, _≤_, _<_}
+use Prim.Native.Nat.{ℕ, zero, suc, _+_, _*_, _≤_, _<_}
 use lib.Dec.{ltb}
-use lib.ListN.{length, getD}
+use lib.ListN.{length, getD, set}
 use Rattle.counting.specs.Count.{choose}
 use Rattle.matching.specs.Lists.{times}
 use Rattle.matching.specs.Chains.{successor}
-use Rattle.planning.specs.Arranged.{Arranged}
-use Rattle.planning.specs.declared.Channels.{Channels}
+use Rattle.planning.specs.Arranged.{Arranged, Kept}
 
--- the lists as channels
-abbrev pub tables : ℕ → List ℕ → List ℕ → Channels
-tables count channel position = record { refusal = 0; count = count; channel = channel; position = position }
+-- v gets channel c and position q
+abbrev pub placed : ℕ → ℕ → ℕ → List ℕ → List ℕ
+placed v c q p = set (set p (4 * v) c) (4 * v + 1) q
 
 -- r has each vertex's successor by the predecessors P
 pub record Successors (n : ℕ) (P r : List ℕ) : Type 0 where
@@ -30,12 +29,14 @@ pub record Fits (n : ℕ) (ls : List (List ℕ)) (l : List ℕ) : Type 0 where
   pub once : (v : ℕ) → times v (flatten (ls ++ (l ∷ []))) ≤ 1
   pub only : (v : ℕ) → n ≤ v → times v (flatten (ls ++ (l ∷ []))) ≡ 0
 
--- r has channels behind which l fits
-pub record Ready (n : ℕ) (l : List ℕ) (r : Channels) : Type 0 where
+-- p has channels, so many, behind which l fits, and room
+pub record Ready (n : ℕ) (l : List ℕ) (count : ℕ) (p : List ℕ) : Type 0 where
+  pub room : 4 * n ≤ length p
   pub ls : List (List ℕ)
-  pub arranged : Arranged ls r
+  pub arranged : Arranged n ls count p
   pub fits : Fits n ls l
 
--- s has the channels of r and then l
-abbrev pub Behind : ℕ → List ℕ → Channels → Channels → Type 0
-Behind n l r s = (ls : List (List ℕ)) → Arranged ls r → Fits n ls l → Arranged (ls ++ (l ∷ [])) s
+-- p′ has the channels of p, so many, and then l
+pub record Behind (n : ℕ) (l : List ℕ) (count : ℕ) (p p′ : List ℕ) : Type 0 where
+  pub laid : (ls : List (List ℕ)) → Arranged n ls count p → Fits n ls l → Arranged n (ls ++ (l ∷ [])) (count + 1) p′
+  pub kept : Kept n p p′

@@ -1,24 +1,23 @@
 // Layer 2: channels as data, and planned channels (document 01: 'Lines'), laid by the predecessors that the search finds.
 ghost use mathlib.Core.Path.{_≡_};
 ghost use mathlib.Core.List.{[]};
-ghost use Prim.Native.Nat.{suc, _+_, _≤_, _<_, min};
+ghost use Prim.Native.Nat.{suc, _*_, _≤_, _<_, min, _/_};
 ghost use lib.ListN.{length};
-ghost use Rattle.matching.specs.Chains.{begun, planned};
-ghost use Rattle.search.specs.Table.{leadsIn};
-ghost use Rattle.planning.specs.Arranged.{Arranged};
-ghost use Rattle.planning.specs.Laid.{tables, Successors, followed, Ready, Behind};
+ghost use Rattle.matching.specs.Chains.{begun};
+ghost use Rattle.planning.specs.Arranged.{Arranged, Kept};
+ghost use Rattle.planning.specs.Laid.{Successors, followed, Ready, Behind};
+ghost use Rattle.planning.specs.Promise.{Chained};
 
 // The most vertices, and what stands for no vertex.
 const MOST: usize = 128;
 
 const NOBODY: u8 = 255;
 
-// How many channels there are, and each vertex's channel and position; 0 past the last vertex.
+// Why there are no channels, or 0, and how many there are. Each vertex's channel and position stand in a list of places, four bytes a
+// vertex: the channel first, then the position.
 pub struct Channels {
     pub refusal: u8,
     pub count: u8,
-    pub channel: [u8; 128],
-    pub position: [u8; 128],
 }
 
 // A byte as a usize: asks nothing of the byte, where a cast of an element asks that it fits.
@@ -30,14 +29,26 @@ fn wide(x: u8) -> usize
 
 // No channel at all.
 pub fn empty(refusal: u8) -> Channels
-    ensures { λ r. ⌜ (r .refusal ≡ refusal) × Arranged [] r ⌝ }
+    ensures { λ r. ⌜ r ≡ record { refusal = refusal; count = 0 } ⌝ }
 {
-    Channels {
-        refusal,
-        count: 0,
-        channel: [0; 128],
-        position: [0; 128],
+    Channels { refusal, count: 0 }
+}
+
+// Sets channel and position of the first n vertices to 0, or of as many as the list has room for: gives how many.
+pub fn unplace(n: usize, places: &mut [u8]) -> usize
+    ensures { λ r. ⌜ (r ≡ min n (length (now (places .entry)) / 4)) × Arranged r [] 0 (now (places .exit)) × Kept n (now (places .entry)) (now (places .exit)) ⌝ }
+{
+    let room = places.len() / 4;
+    let mut v: usize = 0;
+    while v < n {
+        if room <= v {
+            return v;
+        }
+        places[4 * v] = 0;
+        places[4 * v + 1] = 0;
+        v += 1;
     }
+    v
 }
 
 // Each vertex's successor: the first vertex whose predecessor it is, or NOBODY. The later ones are stored first.
@@ -59,42 +70,33 @@ fn successors(predecessor: &[u8], n: usize) -> [u8; 128]
 }
 
 // Lays the channel that begins with v and goes on by the vertices' successors, while these are below n, behind the `count` that are laid.
-fn with_chain<'c, 'p>(
-    channel: &'c mut [u8],
-    position: &'p mut [u8],
-    successor: &[u8],
-    n: usize,
-    count: usize,
-    v: usize,
-)
-    requires { ⌜ (n ≤ 128) × (length (now successor) ≡ 128) × (v < n) × Ready n (followed n (now successor) (suc n) v) (tables count (now channel) (now position)) ⌝ }
-    ensures { λ _. ⌜ Behind n (followed n (now (successor .entry)) (suc n) v) (tables count (now (channel .entry)) (now (position .entry))) (tables (count + 1) (now (channel .exit)) (now (position .exit))) ⌝ }
+fn with_chain(places: &mut [u8], successor: &[u8], n: usize, count: usize, v: usize)
+    requires { ⌜ (n ≤ 128) × (length (now successor) ≡ 128) × (v < n) × Ready n (followed n (now successor) (suc n) v) count (now places) ⌝ }
+    ensures { λ _. ⌜ Behind n (followed n (now (successor .entry)) (suc n) v) count (now (places .entry)) (now (places .exit)) ⌝ }
 {
     let mut p: usize = 0;
     let mut w = v;
     while w < n {
-        channel[w] = count as u8;
-        position[w] = p as u8;
+        places[4 * w] = count as u8;
+        places[4 * w + 1] = p as u8;
         p += 1;
         w = wide(successor[w]);
     }
 }
 
-// The channels that the predecessors make, by first vertex, ascending.
-fn chains(predecessor: &[u8], n: usize) -> Channels
-    requires { ⌜ (n ≤ 128) × (length (now predecessor) ≡ 128) ⌝ }
-    ensures { λ r. ⌜ (r .refusal ≡ 0) × Arranged (begun n (now (predecessor .entry)) n) r ⌝ }
+// The channels that the predecessors make, by first vertex, ascending, where no vertex has one yet.
+fn chains(predecessor: &[u8], n: usize, places: &mut [u8]) -> Channels
+    requires { ⌜ (n ≤ 128) × (length (now predecessor) ≡ 128) × (4 * n ≤ length (now places)) × Arranged n [] 0 (now places) ⌝ }
+    ensures { λ r. ⌜ (r .refusal ≡ 0) × Arranged n (begun n (now (predecessor .entry)) n) (r .count) (now (places .exit)) × Kept n (now (places .entry)) (now (places .exit)) ⌝ }
 {
     let successor = successors(predecessor, n);
-    let mut channel = [0u8; 128];
-    let mut position = [0u8; 128];
     let mut count: usize = 0;
     let mut v: usize = 0;
     while v < n {
         let p = predecessor[v];
         let next = v + 1;
         if p == NOBODY {
-            with_chain(&mut channel, &mut position, &successor, n, count, v);
+            with_chain(places, &successor, n, count, v);
             count += 1;
         }
         v = next;
@@ -102,8 +104,6 @@ fn chains(predecessor: &[u8], n: usize) -> Channels
     Channels {
         refusal: 0,
         count: count as u8,
-        channel,
-        position,
     }
 }
 
@@ -117,11 +117,15 @@ fn capped(n: usize) -> usize
     n
 }
 
-// The channels of n vertices by the table, or of 128 where n is over.
-pub fn chained(n: usize, table: &[u64]) -> Channels
-    ensures { λ r. ⌜ (r .refusal ≡ 0) × Arranged (planned (leadsIn (now (table .entry))) (min n 128)) r ⌝ }
+// The channels of n vertices by the table, or of 128 where n is over. Refused with 8 where the list has no room for them.
+pub fn chained(n: usize, table: &[u64], places: &mut [u8]) -> Channels
+    ensures { λ r. ⌜ Chained n (now (table .entry)) (now (places .entry)) r (now (places .exit)) ⌝ }
 {
     let most = capped(n);
+    if places.len() < 4 * most {
+        return empty(8);
+    }
+    unplace(most, places);
     let predecessor = search::matched(table, n);
-    chains(&predecessor, most)
+    chains(&predecessor, most, places)
 }

@@ -1,7 +1,8 @@
 // Sets of vertices by a key, each holding those of all lower keys, so that what lies between two keys is a difference of two sets.
 ghost use mathlib.Core.Path.{_≡_};
-ghost use Prim.Native.Nat.{ℕ, _≤_, _<_, min};
-ghost use lib.ListN.{length, getD, replicate};
+ghost use Prim.Native.Nat.{ℕ, _/_, _≤_, _<_, min};
+ghost use lib.ListN.{length, replicate};
+ghost use Rattle.counting.specs.Quads.{quad};
 ghost use Rattle.prefixes.specs.Prefixes.{lastSet, Prefixes, Stage};
 
 // A byte as a usize.
@@ -55,15 +56,16 @@ fn join(sets: &mut [u64], top: usize)
 }
 
 // Fills a list with sets of vertices by their keys, two masks a set: set k has the vertices whose key is below k, for k up to `top`, at
-// most 128 and no more than the list has room for; gives the last. The vertices are the first n entries of the keys, and at most 128.
-pub fn prefixes(keys: &[u8], n: usize, top: usize, sets: &mut [u64]) -> usize
-    ensures { λ r. ⌜ (r ≡ lastSet top (length (now (sets .entry)))) × Prefixes 2 (min (min n 128) (length (now (keys .entry)))) (λ v. getD (now (keys .entry)) v 0) r (now (sets .exit)) × (length (now (sets .exit)) ≡ length (now (sets .entry))) ⌝ }
+// most 128 and no more than the list has room for; gives the last. The keys are the first numbers of entries of four; the vertices are
+// the first n entries, and at most 128.
+pub fn prefixes(places: &[u8], n: usize, top: usize, sets: &mut [u64]) -> usize
+    ensures { λ r. ⌜ (r ≡ lastSet top (length (now (sets .entry)))) × Prefixes 2 (min (min n 128) (length (now (places .entry)) / 4)) (quad 0 (now (places .entry))) r (now (sets .exit)) × (length (now (sets .exit)) ≡ length (now (sets .entry))) ⌝ }
 {
-    let m = least(least(n, 128), keys.len());
+    let m = least(least(n, 128), places.len() / 4);
     let last = last_set(top, sets.len());
     clear(sets);
     for v in 0..m {
-        masks::insert(sets, 2 * (wide(keys[v]) + 1), v);
+        masks::insert(sets, 2 * (wide(places[4 * v]) + 1), v);
     }
     join(sets, last);
     last

@@ -5,7 +5,6 @@ use mathlib.Core.Bool.{Bool, _&&_}
 use mathlib.Core.List.{List}
 use Prim.Native.Nat.{ℕ, _<_}
 use lib.Dec.{eqb}
-use lib.ListN.{length, getD}
 use Rattle.counting.specs.Count.{count}
 use Rattle.masks.specs.Sets.{at}
 use Rattle.reach.specs.Graph.{Reaches, Edge, edge?, reaches?}
@@ -27,15 +26,14 @@ reachable? n tails heads u v = eqb (refusal n tails heads) 0 && reaches? (edge? 
 pub record Reachability : Type 0 where
   pub edges : List ℕ
   pub table : List ℕ
-  pub counts : List ℕ
+  pub counts : ℕ → ℕ
 
 -- r is the graph's reachability: a table of its edges, document 01's 'descent table', each two masks a vertex, and the number of
 -- descendants of each vertex. A mask past a table's end counts as 0
 pub record Closure (n : ℕ) (tails heads : List ℕ) (r : Reachability) : Type 0 where
   pub edge-bits : (u v : ℕ) → u < 128 → v < 128 → at 2 (r .edges) u v ≡ 1 ↔ Adjacent n tails heads u v
   pub bits : (u v : ℕ) → u < 128 → v < 128 → at 2 (r .table) u v ≡ 1 ↔ Reachable n tails heads u v
-  pub vertices : length (r .counts) ≡ 128
-  pub counted : (u : ℕ) → u < 128 → getD (r .counts) u 0 ≡ count 128 (reachable? n tails heads u)
+  pub counted : (u : ℕ) → u < n → r .counts u ≡ count 128 (reachable? n tails heads u)
 
 -- r is the table t followed by itself: v is in the set of u exactly when some w is in the set of u, and v in that of w
 pub record Composed (t r : List ℕ) : Type 0 where

@@ -20,17 +20,17 @@ use Rattle.record.specs.Reading.{contentOf, unreadBy, Reads}
 use Rattle.record.proofs.Readings.{good-refusal, parts-content, unread-reads, read-reads}
 
 -- arrays of the largest size have room for every graph
-fresh : (n : ℕ) → Sized n (replicate 256 0) (replicate 258 0) (replicate 256 0) (replicate 256 0)
-fresh n = record { edges = omega arith; below = omega arith; table = omega arith; longer = omega arith }
+fresh : (n : ℕ) → Sized n (replicate 256 0) (replicate 258 0) (replicate 256 0) (replicate 256 0) (replicate 512 0)
+fresh n = record { edges = omega arith; below = omega arith; table = omega arith; longer = omega arith; places = omega arith }
 
-module _ (b : List ℕ) (f : Fields) (good : layoutOf b ≡ Good f) (k : Checked) (e′ b′ t′ l′ : List ℕ) where
+module _ (b : List ℕ) (f : Fields) (good : layoutOf b ≡ Good f) (k : Checked) (e′ b′ t′ l′ p′ : List ℕ) where
   abbrev ends : List ℕ
   ends = take ((f .edges + 2 * f .count) - f .edges) (drop (f .edges) b)
 
   abbrev field : List ℕ
   field = take ((f .lines + f .size) - f .lines) (drop (f .lines) b)
 
-  module _ (p : Checks (f .vertices) ends (f .given) field (replicate 256 0) (replicate 258 0) (replicate 256 0) (replicate 256 0) k e′ b′ t′ l′) where
+  module _ (p : Checks (f .vertices) ends (f .given) field (replicate 256 0) (replicate 258 0) (replicate 256 0) (replicate 256 0) (replicate 512 0) k e′ b′ t′ l′ p′) where
     answer : k .refusal ≡ refusalOf (contentOf b f)
     answer = p .answer (fresh (f .vertices)) ∙ ap refusalOf (parts-content b f)
 

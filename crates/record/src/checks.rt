@@ -4,19 +4,16 @@ ghost use mathlib.Core.Bool.{_&&_};
 ghost use lib.Dec.{leb};
 ghost use Rattle.counting.specs.Count.{choose};
 ghost use Rattle.channels.specs.Given.{verticesOf, unknown?};
-ghost use Rattle.channels.specs.Promise.{Plans, Gives};
-ghost use Rattle.record.specs.Checked.{uncheckedBy, Checks};
+ghost use Rattle.channels.specs.Promise.{Answers};
+ghost use Rattle.record.specs.Checked.{uncheckedBy, channelsRefusal, channelsBy, Checks};
 use descent::descend;
 use planning::Channels;
 
-// Why a graph is refused, or 0; how many rows it has, the row of each vertex, 0 past the last, how many vertices each reaches, and the
-// channels. On a refusal every number is 0.
+// Why a graph is refused, or 0; how many rows are used, and how many channels there are. On a refusal both are 0.
 pub struct Checked {
     pub refusal: u8,
     pub used: u8,
-    pub rows: [u8; 128],
-    pub counts: [u8; 128],
-    pub channels: Channels,
+    pub channels: u8,
 }
 
 fn refused(refusal: u8) -> Checked
@@ -25,14 +22,7 @@ fn refused(refusal: u8) -> Checked
     Checked {
         refusal,
         used: 0,
-        rows: [0; 128],
-        counts: [0; 128],
-        channels: Channels {
-            refusal: 0,
-            count: 0,
-            channel: [0; 128],
-            position: [0; 128],
-        },
+        channels: 0,
     }
 }
 
@@ -55,19 +45,26 @@ fn first_of(k: u8, n: usize, given: bool, field: &[u8]) -> u8
 }
 
 // The given channels, or the planned ones.
-fn channels_of<'a>(n: usize, table: &'a [u64], given: bool, field: &'a [u8]) -> Channels
-    ensures { λ r. ⌜ choose given (λ _. Gives n (now (table .entry)) (now (field .entry)) r) (λ _. Plans n (now (table .entry)) r) ⌝ }
+fn channels_of<'a>(
+    n: usize,
+    table: &'a [u64],
+    given: bool,
+    field: &'a [u8],
+    places: &mut [u8],
+) -> Channels
+    ensures { λ r. ⌜ Answers n (channelsRefusal n (now (table .entry)) given (now (field .entry))) (channelsBy n (now (table .entry)) given (now (field .entry))) (now (places .entry)) r (now (places .exit)) ⌝ }
 {
     if given {
-        return channels::given(n, table, field);
+        return channels::given(n, table, field, places);
     }
-    channels::plan(n, table)
+    channels::plan(n, table, places)
 }
 
 // The checks of n vertices, the edges whose ends are bytes, tail and head in turn, and the given channels in the bytes of their field, if
-// there are any: the first that fails refuses. The lists get the edges' masks, the sets of vertices by row, what reaches what, and what
-// does by two edges or more; 8, and nothing changed, where one has too little room.
-pub fn check<'a, 'f, 'e, 'b, 't, 'l>(
+// there are any: the first that fails refuses. The lists get the edges' masks, the sets of vertices by row, what reaches what, what does by
+// two edges or more, and four bytes a vertex: its channel, its position there, its row, and how many vertices it reaches; 8, and nothing
+// changed, where one has too little room.
+pub fn check<'a, 'f, 'e, 'b, 't, 'l, 'p>(
     n: usize,
     ends: &'a [u8],
     given: bool,
@@ -76,24 +73,21 @@ pub fn check<'a, 'f, 'e, 'b, 't, 'l>(
     below: &'b mut [u64],
     table: &'t mut [u64],
     longer: &'l mut [u64],
+    places: &'p mut [u8],
 ) -> Checked
-    ensures { λ r. ⌜ Checks n (now (ends .entry)) given (now (field .entry)) (now (edges .entry)) (now (below .entry)) (now (table .entry)) (now (longer .entry)) r (now (edges .exit)) (now (below .exit)) (now (table .exit)) (now (longer .exit)) ⌝ }
+    ensures { λ r. ⌜ Checks n (now (ends .entry)) given (now (field .entry)) (now (edges .entry)) (now (below .entry)) (now (table .entry)) (now (longer .entry)) (now (places .entry)) r (now (edges .exit)) (now (below .exit)) (now (table .exit)) (now (longer .exit)) (now (places .exit)) ⌝ }
 {
-    let d = descend(n, ends, edges, below, table, longer);
+    let d = descend(n, ends, edges, below, table, longer, places);
     if d.refusal != 0 {
         return refused(first_of(d.refusal, n, given, field));
     }
-    let channels = channels_of(n, table, given, field);
+    let channels = channels_of(n, table, given, field, places);
     if channels.refusal != 0 {
         return refused(channels.refusal);
     }
-    let rows = d.rows;
-    let counts = d.counts;
     Checked {
         refusal: 0,
         used: d.used,
-        rows,
-        counts,
-        channels,
+        channels: channels.count,
     }
 }

@@ -39,6 +39,7 @@ pub fn read(b: &[u8]) -> Reading
     let mut below = [0; 258];
     let mut table = [0; 256];
     let mut longer = [0; 256];
+    let mut places = [0; 512];
     let checked = check(
         fields.vertices,
         &b[from..to],
@@ -48,6 +49,7 @@ pub fn read(b: &[u8]) -> Reading
         &mut below,
         &mut table,
         &mut longer,
+        &mut places,
     );
     if checked.refusal != 0 {
         return unread(checked.refusal);

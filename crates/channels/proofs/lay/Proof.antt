@@ -1,29 +1,43 @@
--- `channels::lay` meets its contract: its stores are `placedAt`. Assumes nothing.
+-- `channels::lay` meets its contract. Assumes nothing.
+use mathlib.Core.Path.{refl}
 use native.Mathlib.Omega.{arith}
-use Rattle.channels.proofs.Laying.{stores}
+use lib.ListN.{length-set}
+use Rattle.planning.proofs.Laying.{kept-same, kept-placed}
 use borrow.Author.Needs.{needs}
 use Rattle.channels.proofs.lay.Statement.{statement}
 use Rattle.channels.proofs.lay.Tie as tie
 
 returns : tie.Need-returns
 returns c =
-    let st = c .before .before .before in
-    let past = c .if1 .taken in
-    record { placed = λ l. absurd (omega arith); some = st .pre .4 (omega arith); few = let q = st .pre .2 in omega arith }
+    let st = c .before .before in
+    let past = c .if1 .taken in record {
+      opened = λ l. absurd (omega arith);
+      stored = λ l. absurd (omega arith);
+      some = st .pre .3 (omega arith);
+      few = let q = st .pre .1 in omega arith;
+      kept = λ n _. kept-same n _;
+    }
 
 opened-requires : tie.Need-opened-requires
 opened-requires c κs =
-    let st = c .before .before .before in
+    let st = c .before .before in
     let room = c .if1 .left in
-    let few = st .pre .2 in
-    (omega arith, λ d. st .pre .4 (let q = st .pre .3 in omega arith))
+    let few = st .pre .1 in
+    (omega arith, λ d. st .pre .3 (let q = st .pre .2 in omega arith))
+
+slice-write-places-2 : tie.Need-slice-write-places-2
+slice-write-places-2 c = simp length-set (omega (arith, c .before .before .before .pre .0))
 
 returns-2 : tie.Need-returns-2
 returns-2 c =
-    let st = c .before .before .before .before in
     let o = c .opened .ensures in
-    let z = st .pre .2 in
-    record { placed = λ _. stores _ _ _ _ _ _ (o .0); some = o .1; few = let q = o .2 in omega arith }
+    let z = c .before .before .before .pre .1 in record {
+      opened = λ _. o .0;
+      stored = λ _. refl;
+      some = o .1;
+      few = let q = o .2 in omega arith;
+      kept = λ n l. kept-placed n _ _ (kept-same n _) _ _ _ l;
+    }
 
 pub lay-spec : {M : Type 1} → statement M
 lay-spec =
@@ -37,5 +51,7 @@ lay-spec =
     (λ c. search needs)
     (λ c. search needs)
     (λ c. search needs)
+    (λ c. search needs)
+    slice-write-places-2
     (λ c. search needs)
     returns-2)

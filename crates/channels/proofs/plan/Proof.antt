@@ -1,30 +1,18 @@
 -- `channels::plan` meets its contract. Assumes nothing.
-use native.Mathlib.Omega.{arith}
-use Rattle.channels.proofs.Answers.{answers-refused, answers-taken, none-outsized, many-outsized, sized, plan-outsized, plan-taken, plan-channels}
+use mathlib.Core.Path.{refl}
+use Rattle.channels.proofs.Answers.{answers-sized, sized, plan-answers}
 use borrow.Author.Needs.{needs}
 use Rattle.channels.proofs.plan.Statement.{statement}
 use Rattle.channels.proofs.plan.Tie as tie
 
 returns : tie.Need-returns
 returns c =
-    answers-refused _ 2 _ _ (plan-outsized _ (none-outsized _ (c .before .if1 .taken))) (λ e. omega arith) (c .empty .ensures)
+    answers-sized _ _ _ _ _ _ (λ _. refl) (c .before .before .sized .ensures) (c .before .if1 .taken) (c .empty .ensures)
 
 returns-2 : tie.Need-returns-2
 returns-2 c =
-    answers-refused _ 2 _ _ (plan-outsized _ (many-outsized _ (c .before .if2 .taken))) (λ e. omega arith) (c .empty2 .ensures)
-
-returns-3 : tie.Need-returns-3
-returns-3 c =
-    let s = c .before in
-    answers-taken _ _ _ (plan-taken _ (sized _ (s .before .if1 .left) (s .if2 .left))) (plan-channels _ _ _ (s .if2 .left) (c .chained .ensures))
+    let f = c .before .before .before .before .before .sized .ensures .fits (c .before .before .before .before .if1 .left) in
+    plan-answers _ _ _ _ _ (f .1) (sized _ (f .0) (f .1)) (f .2) (c .before .before .chained .ensures)
 
 pub plan-spec : {M : Type 1} → statement M
-plan-spec =
-    tie.close
-    (tie.spec
-    (λ c κs. search needs)
-    returns
-    (λ c κs. search needs)
-    returns-2
-    (λ c κs. search needs)
-    returns-3)
+plan-spec = tie.close (tie.spec (λ c κs. search needs) (λ c κs. search needs) returns (λ c κs. search needs) (λ c. search needs) returns-2)

@@ -4,7 +4,8 @@ use Prim.Native.Nat.{_-_, _≤_}
 use native.Mathlib.Omega.{arith}
 use lib.ListN.{length}
 use Rattle.search.specs.Table.{leadsIn}
-use Rattle.planning.specs.Laid.{tables}
+use Rattle.planning.specs.Arranged.{Kept}
+use Rattle.planning.proofs.Laying.{kept-same, kept-on}
 use Rattle.channels.proofs.Walking.{Walking, walking-none, walking-length, walked-unknown, walking-more, walked-all}
 use Rattle.channels.proofs.Tabling.{Tabling, tabling-none, tabling-length, tabling-more, walks-refused, walks-all}
 use borrow.Author.Needs.{needs}
@@ -12,36 +13,40 @@ use Rattle.channels.proofs.walk.Statement.{statement}
 use Rattle.channels.proofs.walk.Tie as tie
 
 abbrev Inv-loop : tie.InvT-loop
-Inv-loop n table field channel₀ position₀ seen₀ fault₀ count₀ vertices₀ p₀ last₀ left₀ i₀
-    channel position seen fault count vertices p last left i =
+Inv-loop n table field places₀ seen₀ fault₀ count₀ vertices₀ p₀ last₀ left₀ i₀
+    places seen fault count vertices p last left i =
     (i ≤ length field) × Walking (leadsIn table) n field i left last seen vertices fault
-    × Tabling n field i left p vertices (tables count channel position)
+    × Tabling n field i left p vertices count places × Kept n places₀ places
 
 abbrev μ-loop : tie.MeasureT-loop
-μ-loop n table field channel₀ position₀ seen₀ fault₀ count₀ vertices₀ p₀ last₀ left₀ i₀
-    channel position seen fault count vertices p last left i = length field - i
+μ-loop n table field places₀ seen₀ fault₀ count₀ vertices₀ p₀ last₀ left₀ i₀
+    places seen fault count vertices p last left i = length field - i
 
 loop-holds : tie.Need-loop-holds Inv-loop μ-loop
 loop-holds c =
-    (omega arith, walking-none _ _ _, tabling-none _ _ _ _ (c .before .before .before .before .pre .2))
+    (omega arith, walking-none _ _ _, tabling-none _ _ _ (c .before .before .before .pre .3), kept-same _ _)
+
+same-length : tie.Need-same-length Inv-loop μ-loop
+same-length c = c .before .before .before .before .before .loop .inv .3 .long
 
 returns : tie.Need-returns Inv-loop μ-loop
 returns c =
     let o = c .before .before .before .before .before in
-    let st = o .before .before .before .before .before in
+    let st = o .before .before .before .before in
     let l = o .loop in
     let here = c .before .before .before .before .loop-test .taken in
-    walks-refused _ _ _ _ _ _ refl
+    walks-refused _ _ _ _ _ (l .inv .3) _ refl
     (walked-unknown _ _ _ (l .i) here (l .left) (l .last) (l .seen) (l .vertices) (l .fault) (l .inv .1)
     _ (c .before .before .wide .ensures .0) (c .before .if1 .left) (st .pre .0) (st .pre .1) (c .if2 .taken))
 
 lay-requires : tie.Need-lay-requires Inv-loop μ-loop
 lay-requires c κs =
-    let o = c .before .before .before .before .before .before .before .before .before .before in
+    let o = c .before .before .before .before .before .before .before .before .before in
     let t = o .loop .inv .2 in
-    let v = c .before .before .before .before .before .if2 .left in
-    let small = o .before .before .before .before .before .pre .1 in
-    (t .sizes .0, t .sizes .1, t .lines, t .place, t .some, omega arith)
+    let v = c .before .before .before .before .if2 .left in
+    let pre = o .before .before .before .before .pre in
+    let small = pre .1 in
+    (omega (arith, pre .2, o .loop .inv .3 .long), t .lines, t .place, t .some, omega arith)
 
 loop-again : tie.Need-loop-again Inv-loop μ-loop
 loop-again c =
@@ -50,33 +55,38 @@ loop-again c =
     let byte = c .before .wide .ensures .0 in (
       omega arith,
       walking-length _ _ _ (l .i) here (l .left) (l .last) (l .seen) (l .vertices) (l .fault) (l .inv .1) _ byte (c .if1 .taken),
-      tabling-length _ _ (l .i) here (l .left) (l .p) (l .vertices) _ (l .inv .2) _ byte (c .if1 .taken),
+      tabling-length _ _ (l .i) here (l .left) (l .p) (l .vertices) _ _ (l .inv .2) _ byte (c .if1 .taken),
+      l .inv .3,
     )
 
 loop-again-2 : tie.Need-loop-again-2 Inv-loop μ-loop
 loop-again-2 c =
-    let t = c .before .before .before .before .lay in
-    let w = c .before .before .before .before .before .before .before .before in
+    let t = c .before .before .lay .ensures in
+    let w = c .before .before .before .before .before in
     let y = w .before .before in
     let d = y .before in
     let byte = d .before .wide .ensures in
     let h = d .before .before .before in
     let l = h .before .loop in
-    let sizes = l .inv .2 .sizes in (
+    let room = h .before .before .before .before .before .pre .2 in (
       omega arith,
       walking-more _ _ _ (l .i) (h .loop-test .taken) (l .left) (l .last) (l .seen) (l .vertices) (l .fault) (l .inv .1)
           _ (byte .0) (d .if1 .left) (byte .1) _ (w .weigh .ensures .1) (y .if2 .left) (w .weigh .kept .1 .0 ∙ l .inv .1 .masks) _ (w .weigh .ensures .0),
-      tabling-more _ _ (l .i) (h .loop-test .taken) (l .left) (l .p) (l .vertices) _ (l .inv .2) _ (byte .0)
-          (l .inv .1 .counted) (d .if1 .left) _ (t .kept .0 ∙ sizes .0, t .kept .1 .0 ∙ sizes .1) (t .ensures),
+      tabling-more _ _ (l .i) (h .loop-test .taken) (l .left) (l .p) (l .vertices) _ _ (l .inv .2) _ (byte .0)
+          (l .inv .1 .counted) (d .if1 .left) (omega (arith, l .inv .3 .long)) _ _ t,
+      kept-on _ _ _ (l .inv .3) _ (t .kept _ (y .if2 .left)),
     )
+
+same-length-2 : tie.Need-same-length-2 Inv-loop μ-loop
+same-length-2 c = c .before .before .loop .inv .3 .long
 
 returns-2 : tie.Need-returns-2 Inv-loop μ-loop
 returns-2 c =
     let o = c .before .before in
-    let st = o .before .before .before .before .before in
+    let st = o .before .before .before .before in
     let l = o .loop in
     let done = c .before .loop-test .left in
-    walks-all _ _ (st .pre .1) _ _ _ _ (l .i) (l .left) (l .p) (l .vertices) (l .fault) (c .settle .ensures)
+    walks-all _ _ _ _ _ (l .inv .3) _ (st .pre .1) (l .i) (l .left) (l .p) (l .vertices) (l .fault) (c .settle .ensures)
     (walked-all _ _ _ (st .pre .0) (st .pre .1) (l .i) (l .left) (l .last) (l .seen) (l .vertices) (l .fault) (l .inv .1) done)
     done (l .inv .2)
 
@@ -91,8 +101,7 @@ walk-spec =
     (λ c κs. search needs)
     (λ c. search needs)
     (λ c. search needs)
-    (λ c. search needs)
-    (λ c. search needs)
+    same-length
     returns
     (λ c. search needs)
     (λ c κs. search needs)
@@ -104,6 +113,5 @@ walk-spec =
     (λ c. search needs)
     loop-again-2
     (λ c κs. search needs)
-    (λ c. search needs)
-    (λ c. search needs)
+    same-length-2
     returns-2)

@@ -1,14 +1,16 @@
 -- `channels_stress::counted` is safe and ends. Assumes nothing.
+use mathlib.Core.Path.{_≡_}
 use Prim.Native.Nat.{_-_, _≤_}
+use lib.ListN.{length}
 use borrow.Author.Needs.{needs}
 use Rattle.channels_stress.proofs.counted.Statement.{statement}
 use Rattle.channels_stress.proofs.counted.Tie as tie
 
 abbrev Inv-loop : tie.InvT-loop
-Inv-loop often table last₀ i₀ last i = i ≤ often
+Inv-loop often table places₀ last₀ i₀ places last i = (i ≤ often) × (512 ≡ length places)
 
 abbrev μ-loop : tie.MeasureT-loop
-μ-loop often table last₀ i₀ last i = often - i
+μ-loop often table places₀ last₀ i₀ places last i = often - i
 
 pub counted-spec : {M : Type 1} → statement M
 counted-spec =
@@ -16,6 +18,7 @@ counted-spec =
     (tie.spec
     Inv-loop
     μ-loop
+    (λ c. search needs)
     (λ c. search needs)
     (λ c. search needs)
     (λ c κs. search needs)

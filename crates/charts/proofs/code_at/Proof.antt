@@ -6,6 +6,7 @@ use Rattle.charts.proofs.code_at.Tie as tie
 returns : tie.Need-returns
 returns c =
     let st = c .before .before .before in
+    let ends = st .before .before .before .before in
     rw (
       st .before .before .before .byte-at .ensures,
       st .before .before .byte-at2 .ensures,
@@ -13,6 +14,8 @@ returns c =
       st .byte-at4 .ensures,
       c .before .before .number-at .ensures,
       c .before .number-at2 .ensures,
+      ends .before .wide .ensures .0,
+      ends .wide2 .ensures .0,
     ) at (c .kind-of .ensures)
 
 pub code-at-spec : {M : Type 1} → statement M
@@ -21,7 +24,15 @@ code-at-spec =
     (tie.spec
     (λ c κs. search needs)
     (λ c κs. search needs)
+    (λ c. search needs)
     (λ c κs. search needs)
+    (λ c. search needs)
+    (λ c κs. search needs)
+    (λ c. search needs)
+    (λ c. search needs)
+    (λ c κs. search needs)
+    (λ c. search needs)
+    (λ c. search needs)
     (λ c κs. search needs)
     (λ c. search needs)
     (λ c κs. search needs)

@@ -1,5 +1,4 @@
 -- `charts::edge_at` meets its contract, from what the calls ensure. Assumes nothing.
-use mathlib.Core.Path.{_∙_}
 use Rattle.charts.proofs.Sheets.{edge-made}
 use borrow.Author.Needs.{needs}
 use Rattle.charts.proofs.edge_at.Statement.{statement}
@@ -7,8 +6,8 @@ use Rattle.charts.proofs.edge_at.Tie as tie
 
 returns : tie.Need-returns
 returns c =
-    edge-made _ _ _ _ _ _ _ (c .before .before .before .before .wide .ensures .0 ∙ c .before .before .before .before .before .byte-at .ensures)
-    (c .before .before .wide2 .ensures .0 ∙ c .before .before .before .byte-at2 .ensures) (c .before .kind-at .ensures) (c .mark-at .ensures)
+    edge-made _ _ _ _ _ _ _ (c .before .before .before .byte-at .ensures) (c .before .before .byte-at2 .ensures)
+    (c .before .kind-at .ensures) (c .mark-at .ensures)
 
 pub edge-at-spec : {M : Type 1} → statement M
 edge-at-spec =
@@ -16,10 +15,8 @@ edge-at-spec =
     (tie.spec
     (λ c. search needs)
     (λ c κs. search needs)
-    (λ c κs. search needs)
     (λ c. search needs)
     (λ c. search needs)
-    (λ c κs. search needs)
     (λ c κs. search needs)
     (λ c κs. search needs)
     (λ c κs. search needs)

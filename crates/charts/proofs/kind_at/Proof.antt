@@ -18,27 +18,17 @@ first-long k n l e h = sym (length-take-le k l (omega arith))
 slice-aggregate-columns : tie.Need-slice-aggregate-columns
 slice-aggregate-columns c = search needs
 
-slice-aggregate-rows : tie.Need-slice-aggregate-rows
-slice-aggregate-rows c = search needs
-
 slice-aggregate-code-at : tie.Need-slice-aggregate-code-at
 slice-aggregate-code-at c =
-    let st = c .before .before .before .before .before .before .before .before .before in
-    let size : 128 ≡ length (st .before .before .before .before .args .t1 .column) = slice-aggregate-columns st in
-    first-long _ _ _ (st .before .before .before .least .ensures) size
-
-slice-aggregate-code-at-2 : tie.Need-slice-aggregate-code-at-2
-slice-aggregate-code-at-2 c =
-    let st = c .before .before .before .before .before .before .before .before .before in
-    let size : 128 ≡ length (st .before .before .before .before .before .args .t1 .row) = slice-aggregate-rows st in
-    first-long _ _ _ (st .before .before .before .before .least .ensures) size
+    let cut = c .before .before .before .before in
+    let size : 128 ≡ length (cut .before .before .before .args .t1 .column) = slice-aggregate-columns cut in
+    first-long _ _ _ (cut .before .before .least .ensures) size
 
 returns : tie.Need-returns
 unfolding kindAt
 returns c =
-    let st = c .before .before .before .before .before .before .before .before .before in
-    rw (← st .before .before .before .before .before .before .before .before .before .before .least .ensures)
-    (c .kind-of .ensures ∙ kind-made _ _ (c .before .code-at .ensures))
+    let cut = c .before .before .before .before .before .before .before .before .before .before .before .before in
+    rw (← cut .before .before .least .ensures) (c .kind-of .ensures ∙ kind-made _ _ (c .before .code-at .ensures))
 
 pub kind-at-spec : {M : Type 1} → statement M
 kind-at-spec =
@@ -46,9 +36,7 @@ kind-at-spec =
     (tie.spec
     (λ c κs. search needs)
     slice-aggregate-columns
-    slice-aggregate-rows
     slice-aggregate-code-at
-    slice-aggregate-code-at-2
     (λ c κs. search needs)
     (λ c κs. search needs)
     returns)

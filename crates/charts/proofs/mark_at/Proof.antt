@@ -6,7 +6,7 @@ use Rattle.charts.proofs.mark_at.Tie as tie
 
 returns : tie.Need-returns
 unfolding transitive?
-returns c = c .contains .ensures
+returns c = rw (c .before .before .wide .ensures .0, c .before .wide2 .ensures .0) at (c .contains .ensures)
 
 pub mark-at-spec : {M : Type 1} → statement M
-mark-at-spec = tie.close (tie.spec (λ c. search needs) (λ c κs. search needs) returns)
+mark-at-spec = tie.close (tie.spec (λ c κs. search needs) (λ c. search needs) (λ c κs. search needs) (λ c κs. search needs) returns)

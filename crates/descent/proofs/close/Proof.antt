@@ -9,12 +9,12 @@ use Rattle.descent.proofs.close.Statement.{statement}
 use Rattle.descent.proofs.close.Tie as tie
 
 abbrev Inv-loop : tie.InvT-loop
-Inv-loop edges below n top table₀ longer₀ counts₀ r₀ table longer counts r =
+Inv-loop edges below n top table₀ longer₀ places₀ r₀ table longer places r =
     (r ≤ top) × (top ≤ n) × (n ≤ 128) × (2 * n + 2 ≤ length below) × (length table ≡ length table₀) × (length longer ≡ length longer₀)
-    × (length counts ≡ 128) × Descended edges n r table₀ longer₀ counts₀ table longer counts
+    × (length places ≡ length places₀) × Descended edges n r table₀ longer₀ places₀ table longer places
 
 abbrev μ-loop : tie.MeasureT-loop
-μ-loop edges below n top table₀ longer₀ counts₀ r₀ table longer counts r = r
+μ-loop edges below n top table₀ longer₀ places₀ r₀ table longer places r = r
 
 loop-holds : tie.Need-loop-holds Inv-loop μ-loop
 loop-holds c =
@@ -22,14 +22,14 @@ loop-holds c =
     let a = st .args in
     let pre = st .pre in
     let none = descended-none (a .edges .now) (a .n) (a .top) (a .below .now) (pre .5) (pre .6) in
-    (omega arith, pre .6 .few, pre .5 .small, pre .1, refl, refl, pre .4, none (a .table .now) (a .longer .now) (a .counts .now))
+    (omega arith, pre .6 .few, pre .5 .small, pre .1, refl, refl, refl, none (a .table .now) (a .longer .now) (a .places .now))
 
 -- the descent so far, one row above the one that is next
-so-far : (c : tie.In-loop Inv-loop μ-loop) → let l = c .before .loop in let a = c .before .before .before .before .before .before .before .args in Descended (a .edges .now) (a .n) (l .r - 1 + 1) (a .table .now) (a .longer .now) (a .counts .now) (l .table) (l .longer) (l .counts)
+so-far : (c : tie.In-loop Inv-loop μ-loop) → let l = c .before .loop in let a = c .before .before .before .before .before .before .before .args in Descended (a .edges .now) (a .n) (l .r - 1 + 1) (a .table .now) (a .longer .now) (a .places .now) (l .table) (l .longer) (l .places)
 so-far c =
     let l = c .before .loop in
     let a = c .before .before .before .before .before .before .before .args in
-    subst (λ (r : ℕ). Descended (a .edges .now) (a .n) r (a .table .now) (a .longer .now) (a .counts .now) (l .table) (l .longer) (l .counts)) (let e : l .r ≡ l .r - 1 + 1 = (let k = c .loop-test .taken in omega arith) in e) (l .inv .7)
+    subst (λ (r : ℕ). Descended (a .edges .now) (a .n) r (a .table .now) (a .longer .now) (a .places .now) (l .table) (l .longer) (l .places)) (let e : l .r ≡ l .r - 1 + 1 = (let k = c .loop-test .taken in omega arith) in e) (l .inv .7)
 
 close-row-requires : tie.Need-close-row-requires Inv-loop μ-loop
 close-row-requires c κs =
@@ -44,13 +44,13 @@ close-row-requires c κs =
     (known (2 * (l .r - 1)) .fits) (known (2 * (l .r - 1) + 1) .fits) in
     let room : 2 * a .n ≤ length (l .table) = (let k = pre .2 in let q = l .inv .4 in omega arith) in (
       zero-le,
-      long (a .edges .now) (pre .0) .0,
-      long (l .table) room .0,
-      long (l .longer) (let k = pre .3 in let q = l .inv .5 in omega arith) .0,
-      l .inv .6,
+      long 2 (a .edges .now) (pre .0) .0,
+      long 2 (l .table) room .0,
+      long 2 (l .longer) (let k = pre .3 in let q = l .inv .5 in omega arith) .0,
+      long 4 (l .places) (let k = pre .4 in let q = l .inv .6 in omega arith) .0,
       inside-ample (a .edges .now) (l .table) (a .n) (pre .5) room,
       ready-low (a .edges .now) (a .n) (a .top) (a .below .now) (pre .5) (pre .6) (l .r - 1) _ _ _ _ hr refl refl refl refl (known (2 * (l .r - 1)) .fits) (known (2 * (l .r - 1) + 1) .fits)
-          (a .table .now) (a .longer .now) (a .counts .now) (l .table) (l .longer) (l .counts) (so-far turn),
+          (a .table .now) (a .longer .now) (a .places .now) (l .table) (l .longer) (l .places) (so-far turn),
     )
 
 close-row-requires-2 : tie.Need-close-row-requires-2 Inv-loop μ-loop
@@ -68,13 +68,13 @@ close-row-requires-2 c κs =
     let room : 2 * a .n ≤ length (first .last .1 .1 .1 .0) =
     (let k = pre .2 in let q = first .kept .1 .1 .1 .0 ∙ l .inv .4 in omega arith) in (
       omega arith,
-      long (a .edges .now) (pre .0) .1,
-      long (first .last .1 .1 .1 .0) room .1,
-      long (first .last .1 .1 .1 .1 .0) (let k = pre .3 in let q = first .kept .1 .1 .1 .1 .0 ∙ l .inv .5 in omega arith) .1,
-      first .kept .1 .1 .1 .1 .1 .0 ∙ l .inv .6,
+      long 2 (a .edges .now) (pre .0) .1,
+      long 2 (first .last .1 .1 .1 .0) room .1,
+      long 2 (first .last .1 .1 .1 .1 .0) (let k = pre .3 in let q = first .kept .1 .1 .1 .1 .0 ∙ l .inv .5 in omega arith) .1,
+      long 4 (first .last .1 .1 .1 .1 .1 .0) (let k = pre .4 in let q = first .kept .1 .1 .1 .1 .1 .0 ∙ l .inv .6 in omega arith) .1,
       inside-ample (a .edges .now) (first .last .1 .1 .1 .0) (a .n) (pre .5) room,
       ready-high (a .edges .now) (a .n) (a .top) (a .below .now) (pre .5) (pre .6) (l .r - 1) _ _ _ _ hr refl refl refl refl (known (2 * (l .r - 1)) .fits) (known (2 * (l .r - 1) + 1) .fits)
-          (a .table .now) (a .longer .now) (a .counts .now) (l .table) (l .longer) (l .counts) (so-far turn) _ _ _ (first .ensures),
+          (a .table .now) (a .longer .now) (a .places .now) (l .table) (l .longer) (l .places) (so-far turn) _ _ _ (first .ensures),
     )
 
 loop-again : tie.Need-loop-again Inv-loop μ-loop
@@ -96,7 +96,7 @@ loop-again c =
       second .kept .1 .1 .1 .1 .0 ∙ first .kept .1 .1 .1 .1 .0 ∙ l .inv .5,
       second .kept .1 .1 .1 .1 .1 .0 ∙ first .kept .1 .1 .1 .1 .1 .0 ∙ l .inv .6,
       descended-more (a .edges .now) (a .n) (a .top) (a .below .now) (pre .5) (pre .6) (l .r - 1) _ _ _ _ hr refl refl refl refl (known (2 * (l .r - 1)) .fits) (known (2 * (l .r - 1) + 1) .fits)
-          (a .table .now) (a .longer .now) (a .counts .now) (l .table) (l .longer) (l .counts) (so-far turn) _ _ _ (first .ensures) _ _ _ (second .ensures),
+          (a .table .now) (a .longer .now) (a .places .now) (l .table) (l .longer) (l .places) (so-far turn) _ _ _ (first .ensures) _ _ _ (second .ensures),
     )
 
 returns : tie.Need-returns Inv-loop μ-loop
@@ -104,8 +104,8 @@ returns c =
     let st = c .before .before .before .before .before .before .before in
     let a = st .args in
     let l = c .before .loop in
-    descended-all (a .edges .now) (a .n) (a .top) (a .below .now) (st .pre .5) (st .pre .6) (a .table .now) (a .longer .now) (a .counts .now) (l .table) (l .longer) (l .counts)
-    (subst (λ (r : ℕ). Descended (a .edges .now) (a .n) r (a .table .now) (a .longer .now) (a .counts .now) (l .table) (l .longer) (l .counts)) (let e : l .r ≡ 0 = (let k = c .loop-test .left in omega arith) in e) (l .inv .7))
+    descended-all (a .edges .now) (a .n) (a .top) (a .below .now) (st .pre .5) (st .pre .6) (a .table .now) (a .longer .now) (a .places .now) (l .table) (l .longer) (l .places)
+    (subst (λ (r : ℕ). Descended (a .edges .now) (a .n) r (a .table .now) (a .longer .now) (a .places .now) (l .table) (l .longer) (l .places)) (let e : l .r ≡ 0 = (let k = c .loop-test .left in omega arith) in e) (l .inv .7))
 
 pub close-spec : {M : Type 1} → statement M
 close-spec =

@@ -10,19 +10,19 @@ use Rattle.descent.proofs.close_row.Statement.{statement}
 use Rattle.descent.proofs.close_row.Tie as tie
 
 abbrev Inv-loop : tie.InvT-loop
-Inv-loop mask base edges table₀ longer₀ counts₀ x₀ table longer counts x =
-    (length table ≡ length table₀) × (length longer ≡ length longer₀) × (length counts ≡ 128)
-    × Closing edges mask base table₀ longer₀ counts₀ table longer counts x
+Inv-loop mask base edges table₀ longer₀ places₀ x₀ table longer places x =
+    (length table ≡ length table₀) × (length longer ≡ length longer₀) × (length places ≡ length places₀)
+    × Closing edges mask base table₀ longer₀ places₀ table longer places x
 
 abbrev μ-loop : tie.MeasureT-loop
-μ-loop mask base edges table₀ longer₀ counts₀ x₀ table longer counts x = x
+μ-loop mask base edges table₀ longer₀ places₀ x₀ table longer places x = x
 
 loop-holds : tie.Need-loop-holds Inv-loop μ-loop
 loop-holds c =
     let st = c .before .before .before .before in
     let a = st .args in
-    let none = closing-none (a .edges .now) (a .mask) (a .base) (a .table .now) (a .longer .now) (a .counts .now) (st .fits .mask .fits) in
-    (refl, refl, st .pre .4, none)
+    let none = closing-none (a .edges .now) (a .mask) (a .base) (a .table .now) (a .longer .now) (a .places .now) (st .fits .mask .fits) in
+    (refl, refl, refl, none)
 
 -- the number of the member is below 64
 small : (c : tie.In-loop Inv-loop μ-loop) → trailingZeros 64 (c .before .loop .x) < 64
@@ -45,13 +45,15 @@ close-vertex-requires c κs =
     let e = st .pre .1 .room _ k inside in
     let t = st .pre .2 .room _ k inside in
     let f = st .pre .3 .room _ k inside in
+    let g = st .pre .4 .room _ k inside in
     let q = l .inv .0 in
-    let p = l .inv .1 in (
+    let p = l .inv .1 in
+    let o = l .inv .2 in (
       omega arith,
       e,
       omega arith,
       omega arith,
-      l .inv .2,
+      omega arith,
       ample-same _ _ _ q (st .pre .5),
       λ w arc. l .inv .3 .kept w (st .pre .6 _ k inside w arc) .reached,
     )
@@ -67,7 +69,7 @@ loop-again c =
       call .kept .1 .1 .0 ∙ l .inv .0,
       call .kept .1 .1 .1 .0 ∙ l .inv .1,
       call .kept .1 .1 .1 .1 .0 ∙ l .inv .2,
-      closing-more (a .edges .now) (a .mask) (a .base) (a .table .now) (a .longer .now) (a .counts .now) (l .table) (l .longer) (l .counts) (l .x) _ _ _ _ (l .inv .3)
+      closing-more (a .edges .now) (a .mask) (a .base) (a .table .now) (a .longer .now) (a .places .now) (l .table) (l .longer) (l .places) (l .x) _ _ _ _ (l .inv .3)
           (c .before .before .before .before .before .before .before .before .before .before .loop-test .taken) refl (call .ensures),
     )
 
@@ -75,7 +77,7 @@ returns : tie.Need-returns Inv-loop μ-loop
 returns c =
     let a = c .before .before .before .before .before .before .args in
     let l = c .before .loop in
-    closing-all (a .edges .now) (a .mask) (a .base) (a .table .now) (a .longer .now) (a .counts .now) (l .table) (l .longer) (l .counts) (l .x) (l .inv .3) (c .loop-test .left)
+    closing-all (a .edges .now) (a .mask) (a .base) (a .table .now) (a .longer .now) (a .places .now) (l .table) (l .longer) (l .places) (l .x) (l .inv .3) (c .loop-test .left)
 
 pub close-row-spec : {M : Type 1} → statement M
 close-row-spec =

@@ -3,7 +3,7 @@ use Prim.Native.Nat.{_+_, _*_, _^_, _<_}
 use native.Mathlib.Omega.{arith}
 use lib.Bits.{bitOr, or-lt}
 use lib.ListN.{getD, length-set}
-use lib.Seq.{getD-set-same, getD-set-other}
+use Rattle.counting.proofs.Quads.{quad-same, quad-other}
 use Rattle.descent.proofs.Descending.{stored-law, long-law, nested-law, vertex-law}
 use borrow.Author.Needs.{needs}
 use Rattle.descent.proofs.close_vertex.Statement.{statement}
@@ -44,11 +44,11 @@ returns c =
     let a = st .args in
     let pre = st .pre in
     let p = k .before .before .reached in
-    vertex-law (a .edges .now) (a .table .now) (a .longer .now) (a .counts .now) (a .u) _ _ (p .result .low) (p .result .high)
+    vertex-law (a .edges .now) (a .table .now) (a .longer .now) (a .places .now) (a .u) _ _ (p .result .low) (p .result .high)
     (pre .0) refl refl (p .ensures) (pre .6) _ _ _ (stored-law (a .table .now) (a .u) _ _ (omega arith))
     (stored-law (a .longer .now) (a .u) _ _ (omega arith))
-    (getD-set-same (a .counts .now) (a .u) _ 0 (omega arith) ∙ c .members .ensures)
-    (λ w d. getD-set-other (a .counts .now) (a .u) w _ 0 d) (first-fits k) (second-fits k)
+    (quad-same (a .places .now) (a .u) 3 _ (omega arith) ∙ c .members .ensures)
+    (λ i v h o. quad-other (a .places .now) v i (a .u) 3 _ h (omega arith) (λ e f. o f e)) (first-fits k) (second-fits k)
 
 pub close-vertex-spec : {M : Type 1} → statement M
 close-vertex-spec =
@@ -77,6 +77,8 @@ close-vertex-spec =
     (λ c. search needs)
     slice-write-table-2
     (λ c κs. search needs)
+    (λ c. search needs)
+    (λ c. search needs)
     (λ c. search needs)
     (λ c. search needs)
     (λ c. search needs)

@@ -8,45 +8,45 @@ use Rattle.descent.proofs.descend.Tie as tie
 
 -- where it began
 abbrev start : tie.After-is-fit → tie.Start
-start c = c .before .before .before .before .before .before
+start c = c .before .before .before .before .before .before .before
 
 returns : tie.Need-returns
 returns c =
     let a = start (c .before .before) .args in
-    descends-misfit (a .n) (a .ends .now) (a .edges .now) (a .below .now) (a .table .now) (a .longer .now) _ _
+    descends-misfit (a .n) (a .ends .now) (a .edges .now) (a .below .now) (a .table .now) (a .longer .now) (a .places .now) _ _
     (c .before .before .is-fit .ensures) (not-true _ (c .before .if1 .taken)) (c .no-descent .ensures)
 
 -- the lists have room
-sized : (c : tie.Else1) → let a = start (c .before) .args in Sized (a .n) (a .edges .now) (a .below .now) (a .table .now) (a .longer .now)
-sized c = fits-sized _ _ _ _ _ (sym (c .before .is-fit .ensures) ∙ not-false _ (c .if1 .left))
+sized : (c : tie.Else1) → let a = start (c .before) .args in Sized (a .n) (a .edges .now) (a .below .now) (a .table .now) (a .longer .now) (a .places .now)
+sized c = fits-sized _ _ _ _ _ _ (sym (c .before .is-fit .ensures) ∙ not-false _ (c .if1 .left))
 
 returns-2 : tie.Need-returns-2
 returns-2 c =
     let s = c .before .before .before .before in
     let right = s .before .before in
     let a = start (right .before) .args in
-    descends-ends (a .n) (a .ends .now) (a .edges .now) (a .below .now) (a .table .now) (a .longer .now) (sized right)
+    descends-ends (a .n) (a .ends .now) (a .edges .now) (a .below .now) (a .table .now) (a .longer .now) (a .places .now) (sized right)
     (s .scanned .result) _ (s .scanned .ensures) _ (c .no-descent2 .ensures) (c .before .if2 .taken)
 
 layered-requires : tie.Need-layered-requires
 layered-requires c κs =
-    let good = c .before .before .before .before in
+    let good = c .before .before .before .before .before in
     let s = good .before .before .before in
     let right = s .before .before in
     let a = start (right .before) .args in
-    descends-ready (a .n) (a .ends .now) (a .edges .now) (a .below .now) (a .table .now) (a .longer .now) (sized right)
+    descends-ready (a .n) (a .ends .now) (a .edges .now) (a .below .now) (a .table .now) (a .longer .now) (a .places .now) (sized right)
     (s .scanned .result) _ (s .scanned .ensures) (good .if2 .left)
 
 returns-3 : tie.Need-returns-3
 returns-3 c =
-    let l = c .before .before .before .before .before .before in
-    let good = l .before .before .before .before .before in
+    let l = c .before .before .before .before .before .before .before .before in
+    let good = l .before .before .before .before .before .before in
     let s = good .before .before .before in
     let right = s .before .before in
     let a = start (right .before) .args in
-    descends-layered (a .n) (a .ends .now) (a .edges .now) (a .below .now) (a .table .now) (a .longer .now) (sized right)
-    (s .scanned .result) _ (s .scanned .ensures) (good .if2 .left) _ _ _ _ (l .layered .ensures)
-    (s .scanned .kept .1 .1 .0, l .layered .kept .1 .1 .0, l .layered .kept .1 .1 .1 .0, l .layered .kept .1 .1 .1 .1 .0)
+    descends-layered (a .n) (a .ends .now) (a .edges .now) (a .below .now) (a .table .now) (a .longer .now) (a .places .now) (sized right)
+    (s .scanned .result) _ (s .scanned .ensures) (good .if2 .left) _ _ _ _ _ (l .layered .ensures)
+    (s .scanned .kept .1 .1 .0, l .layered .kept .1 .1 .0, l .layered .kept .1 .1 .1 .0, l .layered .kept .1 .1 .1 .1 .0, l .layered .kept .1 .1 .1 .1 .1 .0)
 
 pub descend-spec : {M : Type 1} → statement M
 descend-spec =
@@ -60,6 +60,7 @@ descend-spec =
     (λ c. search needs)
     returns-2
     layered-requires
+    (λ c. search needs)
     (λ c. search needs)
     (λ c. search needs)
     (λ c. search needs)

@@ -11,7 +11,7 @@ use Rattle.descent.proofs.gather.Statement.{statement}
 use Rattle.descent.proofs.gather.Tie as tie
 
 abbrev Inv-loop : tie.InvT-loop
-Inv-loop table mask base low high a₀ b₀ x₀ a b x = (base ≤ 64) × Long table mask base × Gathering table mask base low high a b x
+Inv-loop table mask base low high a₀ b₀ x₀ a b x = (base ≤ 64) × Long 2 table mask base × Gathering table mask base low high a b x
 
 abbrev μ-loop : tie.MeasureT-loop
 μ-loop table mask base low high a₀ b₀ x₀ a b x = x

@@ -5,17 +5,17 @@ use lib.ListN.{length, length-set}
 use borrow.Author.Needs.{needs}
 use Rattle.descent.specs.Members.{Below}
 use Rattle.descent.proofs.Descending.{stored-law}
-use Rattle.descent.proofs.Rounding.{Round, round-none, round-long, round-more, round-over, round-refused}
+use Rattle.descent.proofs.Rounding.{Round, round-none, round-long, round-room, round-more, round-over, round-refused}
 use Rattle.descent.proofs.grown.Statement.{statement}
 use Rattle.descent.proofs.grown.Tie as tie
 
 abbrev Inv-loop : tie.InvT-loop
-Inv-loop edges n rows₀ below₀ first second low₀ high₀ r₀ rows below low high r =
-    (r ≤ n) × (n ≤ 128) × (2 * n ≤ length edges) × (length rows ≡ 128) × (length below ≡ length below₀) × (2 * n + 2 ≤ length below)
-    × Below n first second × Round edges n r low high rows₀ rows below
+Inv-loop edges n places₀ below₀ first second low₀ high₀ r₀ places below low high r =
+    (r ≤ n) × (n ≤ 128) × (2 * n ≤ length edges) × (length places ≡ length places₀) × (length below ≡ length below₀) × (2 * n + 2 ≤ length below)
+    × Below n first second × Round edges n r low high places₀ places below
 
 abbrev μ-loop : tie.MeasureT-loop
-μ-loop edges n rows₀ below₀ first second low₀ high₀ r₀ rows below low high r = n - r
+μ-loop edges n places₀ below₀ first second low₀ high₀ r₀ places below low high r = n - r
 
 below-n-requires : tie.Need-below-n-requires Inv-loop μ-loop
 below-n-requires c κs = c .before .before .before .pre .4 .small
@@ -35,21 +35,38 @@ loop-holds c =
       zero-le,
       pre .4 .small,
       pre .1,
-      pre .2,
+      refl,
       refl,
       simp length-set (pre .3),
       c .below-n .ensures,
-      round-none (a .edges .now) (a .n) (c .below-n .result .low) (c .below-n .result .high) (a .rows .now) _ (pre .0) (c .below-n .ensures) (zeros .low) (zeros .high),
+      round-none (a .edges .now) (a .n) (c .below-n .result .low) (c .below-n .result .high) (a .places .now) _ (pre .0) (c .below-n .ensures) (zeros .low) (zeros .high),
     )
 
 image-requires : tie.Need-image-requires Inv-loop μ-loop
 image-requires c κs = let l = c .before .loop in round-long _ _ (l .r) (l .low) (l .high) _ _ _ (l .inv .7) (l .inv .2)
 
 set-rows-requires : tie.Need-set-rows-requires Inv-loop μ-loop
-set-rows-requires c κs = (zero-le, c .before .before .before .before .before .loop .inv .3)
+set-rows-requires c κs =
+    let st = c .before .before .before .before .before .before .before .before .before .before in
+    let a = st .args in
+    let l = c .before .before .before .before .before .loop in
+    let image = c .before .before .before .image in (
+      zero-le,
+      round-room (a .edges .now) (a .n) (l .inv .1) (l .r) (l .low) (l .high) _ _ (image .result .low) (image .result .high) _ _ (a .places .now) (l .places) (l .below) (l .inv .7) (l .inv .6) (image .ensures) refl refl
+          (l .places) (let k = st .pre .2 in let q = l .inv .3 in omega arith) .0,
+    )
 
 set-rows-requires-2 : tie.Need-set-rows-requires-2 Inv-loop μ-loop
-set-rows-requires-2 c κs = (omega arith, c .before .before .before .set-rows .kept .1 .1 .1 .0 ∙ c .before .before .before .before .before .before .before .before .before .loop .inv .3)
+set-rows-requires-2 c κs =
+    let st = c .before .before .before .before .before .before .before .before .before .before .before .before .before .before in
+    let a = st .args in
+    let l = c .before .before .before .before .before .before .before .before .before .loop in
+    let image = c .before .before .before .before .before .before .before .image in
+    let one = c .before .before .before .set-rows in (
+      omega arith,
+      round-room (a .edges .now) (a .n) (l .inv .1) (l .r) (l .low) (l .high) _ _ (image .result .low) (image .result .high) _ _ (a .places .now) (l .places) (l .below) (l .inv .7) (l .inv .6) (image .ensures) refl refl
+          (one .last .1 .1 .1 .0) (let k = st .pre .2 in let q = one .kept .1 .1 .1 .0 ∙ l .inv .3 in omega arith) .1,
+    )
 
 slice-write-below-4 : tie.Need-slice-write-below-4 Inv-loop μ-loop
 slice-write-below-4 c = simp length-set (omega arith)
@@ -68,7 +85,7 @@ returns c =
     let image = c .before .before .before .before .before .before .before .before .before .before .before .image in
     let one = c .before .before .before .before .before .before .before .set-rows in
     let two = c .before .before .before .set-rows2 in
-    round-over (a .edges .now) (a .n) (l .inv .1) (l .r) (l .low) (l .high) _ _ (image .result .low) (image .result .high) _ _ (a .rows .now) (l .rows) (l .below) (l .inv .7) (l .inv .6) (image .ensures) refl refl
+    round-over (a .edges .now) (a .n) (l .inv .1) (l .r) (l .low) (l .high) _ _ (image .result .low) (image .result .high) _ _ (a .places .now) (l .places) (l .below) (l .inv .7) (l .inv .6) (image .ensures) refl refl
     _ _ _ (one .ensures) (two .ensures) (stored-law (l .below) (l .r + 1) _ _ (omega arith)) (st .pre .4) (omega arith) (c .if1 .taken)
 
 loop-again : tie.Need-loop-again Inv-loop μ-loop
@@ -87,7 +104,7 @@ loop-again c =
       simp length-set (simp length-set at (l .inv .4)),
       simp length-set (l .inv .5),
       l .inv .6,
-      round-more (a .edges .now) (a .n) (l .inv .1) (l .r) (l .low) (l .high) _ _ (image .result .low) (image .result .high) _ _ (a .rows .now) (l .rows) (l .below) (l .inv .7) (l .inv .6) (image .ensures) refl refl
+      round-more (a .edges .now) (a .n) (l .inv .1) (l .r) (l .low) (l .high) _ _ (image .result .low) (image .result .high) _ _ (a .places .now) (l .places) (l .below) (l .inv .7) (l .inv .6) (image .ensures) refl refl
           _ _ _ (one .ensures) (two .ensures) (stored-law (l .below) (l .r + 1) _ _ (omega arith)) (c .if1 .left),
     )
 
@@ -99,8 +116,8 @@ returns-2 c =
     let st = c .before .before .before .before .before .before in
     let a = st .args in
     let l = c .before .loop in
-    round-refused (a .edges .now) (a .n) (l .low) (l .high) (a .rows .now) (l .rows) (l .below) (st .pre .4)
-    (subst (λ (r : ℕ). Round (a .edges .now) (a .n) r (l .low) (l .high) (a .rows .now) (l .rows) (l .below)) (let e : l .r ≡ a .n = (let k = c .loop-test .left in let i = l .inv .0 in omega arith) in e) (l .inv .7))
+    round-refused (a .edges .now) (a .n) (l .low) (l .high) (a .places .now) (l .places) (l .below) (st .pre .4)
+    (subst (λ (r : ℕ). Round (a .edges .now) (a .n) r (l .low) (l .high) (a .places .now) (l .places) (l .below)) (let e : l .r ≡ a .n = (let k = c .loop-test .left in let i = l .inv .0 in omega arith) in e) (l .inv .7))
 
 pub grown-spec : {M : Type 1} → statement M
 grown-spec =

@@ -32,14 +32,27 @@ returns-3 c =
     let same = c .before .before .before .room .ensures in
     simp (sym same, le-leb _ _ (c .before .before .if1 .left), le-leb _ _ (roomy (c .before)), lt-leb _ _ (c .if3 .taken))
 
--- where the first three have room, it is the last that says
-last : (n k e b t l : ℕ) → k ≡ 2 * min n 128 → k ≤ e → k + 2 ≤ b → k ≤ t → leb k l ≡ fits? n e b t l
-unfolding fits?
-last n k e b t l q he hb ht = simp (sym q, le-leb _ _ he, le-leb _ _ hb, le-leb _ _ ht)
-
 returns-4 : tie.Need-returns-4
+unfolding fits?
 returns-4 c =
-    last _ _ _ _ _ _ (c .before .before .before .room .ensures) (c .before .before .if1 .left) (roomy (c .before)) (c .if3 .left)
+    let k = c .before in
+    let same = k .before .before .before .room .ensures in
+    simp (sym same, le-leb _ _ (k .before .before .if1 .left), le-leb _ _ (roomy (k .before)), le-leb _ _ (k .if3 .left), lt-leb _ _ (c .if4 .taken))
+
+mul-result : tie.Need-mul-result
+mul-result c = omega (arith, c .before .before .before .before .room .ensures)
+
+-- where the first four have room, it is the last that says
+last : (n k e b t l p : ℕ) → k ≡ 2 * min n 128 → k ≤ e → k + 2 ≤ b → k ≤ t → k ≤ l → leb (2 * k) p ≡ fits? n e b t l p
+unfolding fits?
+last n k e b t l p q he hb ht hl =
+    let d : 4 * min n 128 ≡ 2 * k = omega arith in
+    simp (d, sym q, le-leb _ _ he, le-leb _ _ hb, le-leb _ _ ht, le-leb _ _ hl)
+
+returns-5 : tie.Need-returns-5
+returns-5 c =
+    let k = c .before in
+    last _ _ _ _ _ _ _ (k .before .before .before .room .ensures) (k .before .before .if1 .left) (roomy (k .before)) (k .if3 .left) (c .if4 .left)
 
 pub is-fit-spec : {M : Type 1} → statement M
-is-fit-spec = tie.close (tie.spec (λ c κs. search needs) returns add-if2 returns-2 returns-3 returns-4)
+is-fit-spec = tie.close (tie.spec (λ c κs. search needs) returns add-if2 returns-2 returns-3 returns-4 mul-result returns-5)

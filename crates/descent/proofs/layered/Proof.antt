@@ -1,4 +1,3 @@
-use mathlib.Core.Path.{refl}
 use native.Mathlib.Omega.{arith}
 use borrow.Author.Needs.{needs}
 use Rattle.descent.proofs.Answering.{layered-cyclic, layered-made}
@@ -13,43 +12,42 @@ abbrev first : tie.After-grown → tie.After-clear
 first c = second c .before .before .before .before
 
 abbrev start : tie.After-grown → tie.Start
-start c = first c .before .before .before .before .before .before
+start c = first c .before .before .before .before .before .before .before
 
 returns : tie.Need-returns
 returns c =
-    let g = c .before .before .before .before .before in
-    layered-cyclic _ (start g .args .n) (g .grown .result) _ _ (g .grown .ensures) (c .before .if1 .taken) _ _ _ (c .no-descent .ensures)
+    let g = c .before .before .before .before .before .before in
+    layered-cyclic _ (start g .args .n) (g .grown .result) _ _ _ (g .grown .ensures) (c .before .if1 .taken) _ _ _ (c .no-descent .ensures)
 
 close-requires : tie.Need-close-requires
 close-requires c κs =
     let e = c .before .before .before .before in
-    let g = e .before .before .before .before in
+    let g = e .before .before .before .before .before in
     let p = start g .pre in (
       p .1,
       (let h = p .2 in let q = g .grown .kept .1 .1 .1 .0 in omega arith),
       (let h = p .3 in let q = first g .clear .kept .0 in omega arith),
       (let h = p .4 in let q = second g .clear2 .kept .0 in omega arith),
-      refl,
-      p .5,
+      (let h = p .5 in let q = g .grown .kept .1 .1 .0 in omega arith),
+      p .6,
       g .grown .ensures .prefixes (e .if1 .left),
     )
 
-cast-t27 : tie.Need-cast-t27
-cast-t27 c =
-    let e = c .before .before .before .before .before .before .before .before .before .before in
-    let g = e .before .before .before .before in
-    let small = start g .pre .5 .small in
+cast-t26 : tie.Need-cast-t26
+cast-t26 c =
+    let e = c .before .before .before .before .before .before .before .before .before .before .before in
+    let g = e .before .before .before .before .before in
+    let small = start g .pre .6 .small in
     let few = g .grown .ensures .prefixes (e .if1 .left) .few in
     omega arith
 
 returns-2 : tie.Need-returns-2
 returns-2 c =
-    let k = c .before .before .before .before .before in
+    let k = c .before .before .before .before .before .before in
     let e = k .before .before .before .before .before in
-    let g = e .before .before .before .before in
-    layered-made _ (start g .args .n) (g .grown .result) _ _ (g .grown .ensures) (e .if1 .left) _ _ _ _ _
+    let g = e .before .before .before .before .before in
+    layered-made _ (start g .args .n) (g .grown .result) _ _ _ (g .grown .ensures) (e .if1 .left) _ _ _ _ _
     (first g .clear .ensures) (second g .clear2 .ensures) (k .close .ensures)
-    (g .grown .kept .1 .1 .0) (k .close .kept .1 .1 .1 .1 .1 .1 .0)
 
 pub layered-spec : {M : Type 1} → statement M
 layered-spec =
@@ -57,16 +55,16 @@ layered-spec =
     (tie.spec
     (λ c κs. search needs)
     (λ c κs. search needs)
+    (λ c κs. search needs)
+    (λ c κs. search needs)
     (λ c. search needs)
-    (λ c κs. search needs)
-    (λ c κs. search needs)
     (λ c. search needs)
     (λ c. search needs)
     (λ c. search needs)
     returns
-    (λ c. search needs)
     close-requires
-    cast-t27
+    cast-t26
+    (λ c. search needs)
     (λ c. search needs)
     (λ c. search needs)
     (λ c. search needs)

@@ -11,7 +11,7 @@ use Rattle.descent.proofs.reached.Statement.{statement}
 use Rattle.descent.proofs.reached.Tie as tie
 
 abbrev Inv-loop : tie.InvT-loop
-Inv-loop table low high a₀ b₀ x₀ a b x = Long table low 0 × First table low high a b x
+Inv-loop table low high a₀ b₀ x₀ a b x = Long 2 table low 0 × First table low high a b x
 
 abbrev μ-loop : tie.MeasureT-loop
 μ-loop table low high a₀ b₀ x₀ a b x = x

@@ -11,7 +11,7 @@ use Rattle.descent.proofs.with_second.Statement.{statement}
 use Rattle.descent.proofs.with_second.Tie as tie
 
 abbrev Inv-loop : tie.InvT-loop
-Inv-loop table mask low high a₀ b₀ x₀ a b x = Long table mask 64 × Second table mask low high a b x
+Inv-loop table mask low high a₀ b₀ x₀ a b x = Long 2 table mask 64 × Second table mask low high a b x
 
 abbrev μ-loop : tie.MeasureT-loop
 μ-loop table mask low high a₀ b₀ x₀ a b x = x

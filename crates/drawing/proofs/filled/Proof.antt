@@ -3,21 +3,21 @@ use Rattle.drawing.proofs.Laying.{spaceable, all-laid}
 use Rattle.drawing.proofs.filled.Statement.{statement}
 use Rattle.drawing.proofs.filled.Tie as tie
 
-places-of-requires : tie.Need-places-of-requires
-places-of-requires c κs =
-    let t = c .before .before .before .before .before .before .before .before .before in
+columns-of-requires : tie.Need-columns-of-requires
+columns-of-requires c κs =
+    let t = c .before .before .before .before .before .before in
     let b = t .before .before .before .before .before .before .before in
-    let w = b .before .before .before .before .before .before .before .before .before .before in
-    let st = w .before .before .before .before .before .before in
+    let w = b .before .before .before in
+    let st = w .before .before .before .before .before .before .before in
     spaceable (st .pre) (w .wide .ensures .0) (b .bundled .ensures) (t .tracked .ensures)
 
 returns : tie.Need-returns
 returns c =
-    let p = c .before .before .before .before .before .before in
-    let t = p .before .before .before .before .before .before .before .before .before .before in
+    let p = c .before .before in
+    let t = p .before .before .before .before .before .before .before in
     let b = t .before .before .before .before .before .before .before in
-    let w = b .before .before .before .before .before .before .before .before .before .before in
-    all-laid (w .wide .ensures .0) (b .bundled .ensures) (t .tracked .ensures) (p .places-of .ensures)
+    let w = b .before .before .before in
+    all-laid (w .wide .ensures .0) (b .bundled .ensures) (t .tracked .ensures) (p .columns-of .ensures)
 
 pub filled-spec : {M : Type 1} → statement M
 filled-spec =
@@ -26,7 +26,7 @@ filled-spec =
     (λ c κs. search needs)
     (λ c κs. search needs)
     (λ c κs. search needs)
-    places-of-requires
+    columns-of-requires
     (λ c. search needs)
     (λ c. search needs)
     (λ c. search needs)

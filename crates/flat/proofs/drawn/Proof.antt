@@ -1,24 +1,24 @@
 -- `flat::drawn` meets its contract: what is planned is handed over. Assumes nothing.
-use mathlib.Core.Path.{refl, _∙_}
+use mathlib.Core.Path.{_∙_}
 use native.Mathlib.Omega.{arith}
 use Rattle.flat.proofs.drawn.Statement.{statement}
 use Rattle.flat.proofs.drawn.Tie as tie
 
 -- from where the plan is handed over back to where it is made, and to the start
-abbrev made : tie.After-hand-over-arg9 → tie.After-planned
+abbrev made : tie.After-hand-over-arg11 → tie.After-planned
 made c =
-    let lent = c .before .before .before .before .before .before .before .before .before in
-    lent .before .before .before .before .before .before .before .before .before .before .before .before .before .before .before
+    let lent = c .before .before .before .before .before .before .before .before .before .before .before .before in
+    lent .before .before .before .before .before .before .before .before .before .before .before .before .before .before .before .before .before
 
 abbrev start : tie.After-planned → tie.Start
 start c =
-    let lent = c .before .before .before .before .before .before .before .before in
-    lent .before .before .before .before .before .before .before .before .before .before .before .before .before
+    let lent = c .before .before .before .before .before .before .before .before .before .before in
+    lent .before .before .before .before .before .before .before .before .before .before .before .before .before .before
 
-abbrev handed : tie.After-slice-known21 → tie.After-hand-over
-handed c = c .before .before .before .before .before .before .before .before
+abbrev handed : tie.After-slice-known26 → tie.After-hand-over
+handed c = c .before .before .before .before .before .before .before .before .before .before
 
-abbrev plan : tie.After-slice-known21 → tie.After-planned
+abbrev plan : tie.After-slice-known26 → tie.After-planned
 plan c = made (handed c .before)
 
 hand-over-requires : tie.Need-hand-over-requires
@@ -29,6 +29,7 @@ hand-over-requires c κs =
       given = st .args .given;
       field = st .args .field .now;
       planned = record { edges = _; table = _; answer = p .answer (st .pre .0); laid = p .laid };
+      used-long = omega (arith, p .long .used, st .pre .2);
       left-room = omega (arith, p .long .table, st .pre .1);
     }
 
@@ -43,7 +44,6 @@ pub drawn-spec : {M : Type 1} → statement M
 drawn-spec =
     tie.close
     (tie.spec
-    (λ c. refl)
     (λ c κs. tt)
     hand-over-requires
     (λ c. handed c .hand-over .kept .0)
@@ -53,7 +53,9 @@ drawn-spec =
     (λ c. plan c .planned .ensures .long .below)
     (λ c. handed c .hand-over .kept .1 .1 .1 .1 .1 .1 .0 ∙ plan c .planned .ensures .long .table)
     (λ c. plan c .planned .ensures .long .longer)
+    (λ c. plan c .planned .ensures .long .places)
     (λ c. plan c .planned .ensures .long .spans)
     (λ c. plan c .planned .ensures .long .number)
     (λ c. plan c .planned .ensures .long .column)
+    (λ c. handed c .hand-over .kept .1 .1 .1 .1 .1 .1 .1 .1 .1 .1 .1 .0 ∙ plan c .planned .ensures .long .used)
     returns)

@@ -4,8 +4,8 @@ use borrow.Author.Needs.{needs}
 use Rattle.flat.proofs.many.Statement.{statement}
 use Rattle.flat.proofs.many.Tie as tie
 
-abbrev called : tie.After-column2 → tie.After-drawn
-called c = c .before .before .before .before .before .before .before .before .before .before .before .before .before
+abbrev called : tie.After-slice-known8 → tie.After-drawn
+called c = c .before .before .before .before .before .before .before .before .before .before .before .before .before .before .before .before
 
 pub many-spec : {M : Type 1} → statement M
 many-spec =
@@ -18,8 +18,10 @@ many-spec =
     (λ c. refl)
     (λ c. refl)
     (λ c. refl)
+    (λ c. refl)
     (λ c κs. search needs)
     (λ c. called c .drawn .kept .1 .1 .1 .1 .0)
     (λ c. called c .drawn .kept .1 .1 .1 .1 .1 .0)
     (λ c. called c .drawn .kept .1 .1 .1 .1 .1 .1 .0)
+    (λ c. called c .drawn .kept .1 .1 .1 .1 .1 .1 .1 .1 .1 .1 .1 .1 .1 .1 .1 .0)
     (λ c. called c .drawn .ensures))

@@ -14,23 +14,8 @@ use Rattle.geometry.proofs.course_among.Tie as tie
 known : (c : tie.Then1) →
     let a = c .before .before .before .before .args in
     BlockedAmong (λ w. eqb (inPair (a .low) (a .high) w) 1)
-    (pointOf (a .columns .now) (a .rows .now)) (vertexCount (a .columns .now) (a .rows .now)) (a .tail) (a .head)
+    (pointOf (a .columns .now) (a .places .now)) (vertexCount (a .columns .now) (a .places .now)) (a .tail) (a .head)
 known c = c .before .blocked-among .ensures .holds (c .if1 .taken)
-
-mul-bend-beside : tie.Need-mul-bend-beside
-mul-bend-beside c = let b = known c .blocked in omega arith
-
-shared-slice-read-bend-beside : tie.Need-shared-slice-read-bend-beside
-shared-slice-read-bend-beside c = let b = known (c .before) .blocked in omega arith
-
-mul-bend-beside-2 : tie.Need-mul-bend-beside-2
-mul-bend-beside-2 c = let b = known (c .before) .blocked in omega arith
-
-shared-slice-read-bend-beside-2 : tie.Need-shared-slice-read-bend-beside-2
-shared-slice-read-bend-beside-2 c = let b = known (c .before .before) .blocked in omega arith
-
-shared-slice-read-bend-beside-3 : tie.Need-shared-slice-read-bend-beside-3
-shared-slice-read-bend-beside-3 c = let b = known (c .before .before .before) .blocked in omega arith
 
 sub-bend-beside : tie.Need-sub-bend-beside
 sub-bend-beside c = omega (arith, hit-rise (known (c .before .before .before) .blocked .hit))
@@ -46,11 +31,13 @@ course-among-spec =
     tie.close
     (tie.spec
     (λ c κs. search needs)
-    mul-bend-beside
-    shared-slice-read-bend-beside
-    mul-bend-beside-2
-    shared-slice-read-bend-beside-2
-    shared-slice-read-bend-beside-3
+    (λ c. let b = known c .blocked in omega arith)
+    (λ c. let b = known (c .before) .blocked in omega arith)
+    (λ c. let b = known (c .before) .blocked in omega arith)
+    (λ c. let b = known (c .before .before) .blocked in omega arith)
+    (λ c. let b = known (c .before .before) .blocked in omega arith)
+    (λ c. let b = known (c .before .before) .blocked in omega arith)
+    (λ c. let b = known (c .before .before .before) .blocked in omega arith)
     sub-bend-beside
     (λ c κs. search needs)
     returns

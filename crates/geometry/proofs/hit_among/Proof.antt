@@ -9,10 +9,10 @@ use Rattle.geometry.proofs.hit_among.Statement.{statement}
 use Rattle.geometry.proofs.hit_among.Tie as tie
 
 abbrev Inv-loop : tie.InvT-loop
-Inv-loop mask base columns rows n tail head ax ay bx by x₀ x = Visited mask x (Missed mask base (pointOf columns rows) n tail head)
+Inv-loop mask base columns places n tail head ax ay bx by x₀ x = Visited mask x (Missed mask base (pointOf columns places) n tail head)
 
 abbrev μ-loop : tie.MeasureT-loop
-μ-loop mask base columns rows n tail head ax ay bx by x₀ x = x
+μ-loop mask base columns places n tail head ax ay bx by x₀ x = x
 
 loop-holds : tie.Need-loop-holds Inv-loop μ-loop
 loop-holds c = visited-none _ _ (search needs)
@@ -59,9 +59,15 @@ hit-among-spec =
     (λ c. search needs)
     (λ c. search needs)
     (λ c. search needs)
+    (λ c. search needs)
+    (λ c. search needs)
+    (λ c. search needs)
+    (λ c. search needs)
     loop-holds
     cast-w
     add-w
+    (λ c. search needs)
+    (λ c. search needs)
     (λ c. search needs)
     (λ c. search needs)
     (λ c. search needs)

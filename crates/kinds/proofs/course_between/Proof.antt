@@ -3,8 +3,11 @@ use mathlib.Core.Path.{sym, ap₂, _∙_}
 use Prim.Native.Nat.{_+_, _≤_, min, max}
 use native.Mathlib.Omega.{arith}
 use borrow.Author.Tests.{leb-true}
-use lib.ListN.{getD}
+use Rattle.counting.specs.Quads.{quad}
+use Rattle.geometry.specs.Segment.{pointOf, vertexCount}
+use Rattle.geometry.specs.Courses.{courseAmong}
 use Rattle.geometry.proofs.Among.{among-low}
+use Rattle.kinds.specs.Kinds.{candidate?}
 use Rattle.kinds.proofs.Betweens.{course-masked}
 use borrow.Author.Needs.{needs}
 use Rattle.kinds.proofs.course_between.Statement.{statement}
@@ -14,25 +17,30 @@ returns : tie.Need-returns
 returns c =
     let b = c .before .before in
     let a = b .before .before .before .before .before .before .args in
-    let l : b .byte-at2 .result ≤ b .before .byte-at .result + 1 = leb-true _ _ (sym (c .before .low-rise .ensures) ∙ c .if1 .taken) in
-    let p = b .before .byte-at .ensures in
-    let q = b .byte-at2 .ensures in
-    sym (among-low _ _ _ _ _ (let h : getD (a .rows .now) (a .v) 0 ≤ getD (a .rows .now) (a .u) 0 + 1 = omega arith in h))
+    let l : b .row-at2 .result ≤ b .before .row-at .result + 1 = leb-true _ _ (sym (c .before .low-rise .ensures) ∙ c .if1 .taken) in
+    let p = b .before .row-at .ensures in
+    let q = b .row-at2 .ensures in
+    sym (among-low _ _ _ _ _ (let h : quad 2 (a .places .now) (a .v) ≤ quad 2 (a .places .now) (a .u) + 1 = omega arith in h))
 
 returns-2 : tie.Need-returns-2
 returns-2 c =
-    let w = c .before .before .before .before .before in
+    let ends = c .before in
+    let sets = ends .before .before in
+    let w = sets .before .before .before .before in
     let r = w .before .before .before .before .before .before in
     let s = r .before .before .before .before in
     let a = s .before .before .args in
     c .course-among .ensures ∙ course-masked (a .below .now) (a .left .now)
     (λ x. s .before .shared-slice-known .given x .fits) (λ x. s .shared-slice-known2 .given x .fits)
     _ _ _ _ _ _ _ _ _ _
-    (w .before .before .wide2 .ensures .0 ∙ r .before .byte-at .ensures)
-    (w .before .before .before .wide .ensures .0 ∙ r .byte-at2 .ensures)
-    (c .before .before .before .least .ensures ∙ ap₂ min (w .before .wide3 .ensures .0) (w .wide4 .ensures .0))
-    (c .before .before .before .before .largest .ensures ∙ ap₂ max (w .before .wide3 .ensures .0) (w .wide4 .ensures .0))
-    (c .before .before .inner .ensures) (c .before .inner2 .ensures) _ _ _ _
+    (w .before .before .wide2 .ensures .0 ∙ r .before .row-at .ensures)
+    (w .before .before .before .wide .ensures .0 ∙ r .row-at2 .ensures)
+    (sets .before .before .least .ensures ∙ ap₂ min (w .before .wide3 .ensures .0) (w .wide4 .ensures .0))
+    (sets .before .before .before .largest .ensures ∙ ap₂ max (w .before .wide3 .ensures .0) (w .wide4 .ensures .0))
+    (sets .before .inner .ensures) (sets .inner2 .ensures) _ _ _ _
+    ∙ ap₂ (courseAmong (candidate? (a .below .now) (a .left .now) (quad 2 (a .places .now) (a .u)) (quad 2 (a .places .now) (a .v)) (a .c) (a .d))
+    (pointOf (a .columns .now) (a .places .now)) (vertexCount (a .columns .now) (a .places .now)))
+    (ends .before .wide5 .ensures .0) (ends .wide6 .ensures .0)
 
 pub course-between-spec : {M : Type 1} → statement M
 course-between-spec =
@@ -59,6 +67,8 @@ course-between-spec =
     (λ c. search needs)
     (λ c. search needs)
     (λ c. search needs)
+    (λ c κs. search needs)
+    (λ c κs. search needs)
     (λ c κs. search needs)
     (λ c κs. search needs)
     returns-2)

@@ -1,4 +1,4 @@
--- `kinds::clear` meets its contract. Assumes nothing.
+-- `prefixes::clear` meets its contract. Assumes nothing.
 use mathlib.Core.Path.{_≡_, refl}
 use Prim.Native.Nat.{_-_, _≤_, zero-le}
 use native.Mathlib.Omega.{arith}

@@ -1,4 +1,4 @@
--- `kinds::join` meets its contract: the sets passed have all they are to have. Assumes nothing.
+-- `prefixes::join` meets its contract: the sets passed have all they are to have. Assumes nothing.
 use mathlib.Core.Path.{_≡_, refl, _∙_, subst}
 use Prim.Native.Nat.{ℕ, _+_, _-_, _*_, _≤_, zero-le}
 use native.Mathlib.Omega.{arith}

@@ -1,8 +1,9 @@
--- `kinds::prefixes` meets its contract: the vertices passed stand in the sets after their keys. Assumes nothing.
+-- `prefixes::prefixes` meets its contract: the vertices passed stand in the sets after their keys. Assumes nothing.
 use mathlib.Core.Path.{_≡_, refl, _∙_}
-use Prim.Native.Nat.{_-_, _≤_, min, zero-le}
+use Prim.Native.Nat.{_-_, _/_, _≤_, min, zero-le}
 use native.Mathlib.Omega.{arith}
-use lib.ListN.{length, getD}
+use lib.ListN.{length}
+use Rattle.counting.specs.Quads.{quad}
 use Rattle.prefixes.specs.Prefixes.{Stage}
 use Rattle.prefixes.proofs.Stages.{stage-start, put-step, stage-joined}
 use borrow.Author.Needs.{needs}
@@ -10,11 +11,11 @@ use Rattle.prefixes.proofs.prefixes.Statement.{statement}
 use Rattle.prefixes.proofs.prefixes.Tie as tie
 
 abbrev Inv-loop : tie.InvT-loop
-Inv-loop keys n top sets₀ m last v₀ sets v =
-    (v ≤ m) × (length sets ≡ length sets₀) × Stage 2 v (λ w. getD keys w 0) last 0 sets
+Inv-loop places n top sets₀ m last v₀ sets v =
+    (v ≤ m) × (length sets ≡ length sets₀) × Stage 2 v (quad 0 places) last 0 sets
 
 abbrev μ-loop : tie.MeasureT-loop
-μ-loop keys n top sets₀ m last v₀ sets v = m - v
+μ-loop places n top sets₀ m last v₀ sets v = m - v
 
 loop-holds : tie.Need-loop-holds Inv-loop μ-loop
 loop-holds c =
@@ -44,7 +45,7 @@ returns c =
     let i = c .before .before .before .before .before in
     let l = i .loop in
     let a = i .before .before .before .before .before .before .before .before .before .before .args in
-    let full : l .v ≡ min (min (a .n) 128) (length (a .keys .now)) = omega arith in
+    let full : l .v ≡ min (min (a .n) 128) (length (a .places .now) / 4) = omega arith in
     (i .before .before .before .before .before .last-set .ensures, stage-joined _ _ _ _ _ _ full (l .inv .2) (c .before .before .join .ensures), same-length c)
 
 pub prefixes-spec : {M : Type 1} → statement M
@@ -58,6 +59,7 @@ prefixes-spec =
     (λ c κs. search needs)
     (λ c κs. search needs)
     loop-holds
+    (λ c. search needs)
     (λ c. search needs)
     (λ c κs. search needs)
     (λ c. search needs)

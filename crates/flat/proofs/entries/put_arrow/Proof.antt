@@ -2,7 +2,7 @@
 use native.Mathlib.Omega.{arith}
 use borrow.Author.Needs.{needs}
 use Rattle.flat.specs.Numbers.{given, implied?}
-use Rattle.flat.proofs.Passing.{arrow-stored, mark-here, unmarked}
+use Rattle.flat.proofs.Passing.{arrow-stored, kind-here, mark-here, unmarked}
 use Rattle.flat.proofs.entries.put_arrow.Statement.{statement}
 use Rattle.flat.proofs.entries.put_arrow.Tie as tie
 
@@ -10,14 +10,10 @@ returns : tie.Need-returns
 returns c =
     let kinds = c .before .before .before .before .before .before in
     let heads = kinds .before .before in
-    let tails = heads .before .before in
-    let a = tails .before .before .before .before .before .before .before .before .before .before .before .before .args in
-    let g = given (a .ends .now) (a .longer .now) (a .channel .now) (a .position .now) (a .number .now) (a .columns .now)
-    (a .rows .now) (a .below .now) (a .left .now) in
-    let tail = tails .wide .ensures .0 in
-    let head = heads .wide2 .ensures .0 in
-    let mark = mark-here g (a .e) _ _ tail head _ (kinds .before .mark-of .ensures .0) in (
-      arrow-stored g (a .e) _ _ tail head _ _ _ _ (kinds .kind-at .ensures) mark (c .before .before .put-five .ensures),
+    let a = heads .before .before .before .before .before .before .before .before .before .before .before .before .args in
+    let g = given (a .ends .now) (a .longer .now) (a .places .now) (a .number .now) (a .columns .now) (a .below .now) (a .left .now) in
+    let mark = mark-here g (a .e) _ _ _ (heads .before .wide .ensures .0) (heads .wide2 .ensures .0) (kinds .before .mark-of .ensures .0) in (
+      arrow-stored g (a .e) _ _ _ _ (kind-here g (a .e) _ (kinds .kind-at .ensures)) mark (c .before .before .put-five .ensures),
       unmarked (implied? g (a .e)) _ mark,
       omega arith,
     )
@@ -28,10 +24,10 @@ put-arrow-spec =
     (tie.spec
     (λ c. search needs)
     (λ c. search needs)
+    (λ c. search needs)
+    (λ c. search needs)
+    (λ c. search needs)
     (λ c κs. search needs)
-    (λ c. search needs)
-    (λ c. search needs)
-    (λ c. search needs)
     (λ c κs. search needs)
     (λ c κs. search needs)
     (λ c κs. search needs)

@@ -13,27 +13,26 @@ use Rattle.flat.proofs.entries.put_arrows.Statement.{statement}
 use Rattle.flat.proofs.entries.put_arrows.Tie as tie
 
 abbrev Inv-loop : tie.InvT-loop
-Inv-loop out₀ ends longer channel position number columns rows below left m firm₀ e₀ out firm e =
-    let g = given ends longer channel position number columns rows below left in
+Inv-loop out₀ ends longer places number columns below left m firm₀ e₀ out firm e =
+    let g = given ends longer places number columns below left in
     (e ≤ m) × (out ≡ entered 5 (arrowAt g) out₀ e) × (firm ≡ count e (λ i. not (implied? g i))) × (firm ≤ e)
 
 abbrev μ-loop : tie.MeasureT-loop
-μ-loop out₀ ends longer channel position number columns rows below left m firm₀ e₀ out firm e = m - e
+μ-loop out₀ ends longer places number columns below left m firm₀ e₀ out firm e = m - e
 
 loop-holds : tie.Need-loop-holds Inv-loop μ-loop
 loop-holds c = (omega arith, entered-none _ _ _, firm-none _, omega arith)
 
 put-arrow-requires : tie.Need-put-arrow-requires Inv-loop μ-loop
 put-arrow-requires c κs =
-    let st = c .before .before .before .before .before .before .before .before .before .before .before .before .before in
+    let st = c .before .before .before .before .before .before .before .before .before .before .before in
     (omega (arith, entered-long _ _ _ _ _ (c .before .before .loop .inv .1)), st .pre .2 _ (omega arith))
 
 loop-again : tie.Need-loop-again Inv-loop μ-loop
 loop-again c =
     let st = c .before .before .before .before .before in
-    let a = st .before .before .before .before .before .before .before .before .before .before .before .args in
-    let g = given (a .ends .now) (a .longer .now) (a .channel .now) (a .position .now) (a .number .now) (a .columns .now)
-    (a .rows .now) (a .below .now) (a .left .now) in
+    let a = st .before .before .before .before .before .before .before .before .before .args in
+    let g = given (a .ends .now) (a .longer .now) (a .places .now) (a .number .now) (a .columns .now) (a .below .now) (a .left .now) in
     let put = c .before .before .put-arrow .ensures in
     let inv = st .loop .inv in
     (omega arith, entered-more 5 (arrowAt g) _ _ _ _ (inv .1) (put .0), firm-more g _ _ _ (inv .2) (put .1), omega arith)

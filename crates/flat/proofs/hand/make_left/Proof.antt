@@ -1,7 +1,8 @@
 use mathlib.Core.Path.{refl, subst}
-use Prim.Native.Nat.{ℕ, min}
+use Prim.Native.Nat.{ℕ, _/_, min}
 use native.Mathlib.Omega.{arith}
-use lib.ListN.{length, getD}
+use lib.ListN.{length}
+use Rattle.counting.specs.Quads.{quad}
 use Rattle.prefixes.specs.Prefixes.{Prefixes}
 use borrow.Author.Needs.{needs}
 use Rattle.flat.proofs.hand.make_left.Statement.{statement}
@@ -12,7 +13,7 @@ returns c =
     let a = c .before .before .before .before .before .before .before .args in
     let made = c .before .before .prefixes in (
       λ h. subst
-          (λ (k : ℕ). Prefixes 2 (min (min (a .n) 128) (length (a .channel .now))) (λ v. getD (a .channel .now) v 0) k
+          (λ (k : ℕ). Prefixes 2 (min (min (a .n) 128) (length (a .places .now) / 4)) (quad 0 (a .places .now)) k
           (made .last .1 .1 .1 .0))
           (made .ensures .0) (made .ensures .1),
       made .ensures .2,

@@ -41,15 +41,15 @@ part-check-end-2 c = omega (arith, laid (c .before .before .before .before) .lin
 
 returns-2 : tie.Need-returns-2
 returns-2 c =
-    let k = c .before .before .before .before .before .before .before in
-    let l = k .before .before .before .before .before .before .before .before .before .before in
-    read-refused _ _ (good l) _ _ _ _ _ (k .check .ensures) (c .before .if1 .taken) _ (c .unread2 .ensures)
+    let k = c .before .before .before .before .before .before .before .before in
+    let l = k .before .before .before .before .before .before .before .before .before .before .before in
+    read-refused _ _ (good l) _ _ _ _ _ _ (k .check .ensures) (c .before .if1 .taken) _ (c .unread2 .ensures)
 
 returns-3 : tie.Need-returns-3
 returns-3 c =
-    let k = c .before .before .before .before .before .before in
-    let l = k .before .before .before .before .before .before .before .before .before .before in
-    read-passed _ _ (good l) _ _ _ _ _ (k .check .ensures) (c .if1 .left) _ refl
+    let k = c .before .before .before .before .before .before .before in
+    let l = k .before .before .before .before .before .before .before .before .before .before .before in
+    read-passed _ _ (good l) _ _ _ _ _ _ (k .check .ensures) (c .if1 .left) _ refl
 
 pub read-spec : {M : Type 1} → statement M
 read-spec =
@@ -69,6 +69,7 @@ read-spec =
     (λ c. search needs)
     (λ c. search needs)
     part-check-end-2
+    (λ c. search needs)
     (λ c. search needs)
     (λ c. search needs)
     (λ c. search needs)

@@ -2,11 +2,12 @@ use mathlib.Core.Path.{_≡_, _∙_, subst}
 use Prim.Native.Nat.{ℕ}
 use native.Mathlib.Omega.{arith}
 use lib.ListN.{length, getD}
+use Rattle.counting.specs.Quads.{quad}
 use Rattle.drawing.specs.Parts.{Tabled}
 use Rattle.counting.proofs.Clearing.{cleared-length, cleared-own}
 use borrow.Author.Needs.{needs}
-use Rattle.drawing.proofs.columns.places_of.Statement.{statement}
-use Rattle.drawing.proofs.columns.places_of.Tie as tie
+use Rattle.drawing.proofs.columns.columns_of.Statement.{statement}
+use Rattle.drawing.proofs.columns.columns_of.Tie as tie
 
 vertex-columns-requires : tie.Need-vertex-columns-requires
 vertex-columns-requires c κs =
@@ -40,12 +41,12 @@ returns c =
     record {
       own = own .last .1 .1 .0;
       owns = own .ensures;
-      standing = subst (λ (k : ℕ). Tabled k (λ v. getD (own .last .1 .1 .0) (getD (st .args .channel .now) v 0) 0) (st .args .n)
+      standing = subst (λ (k : ℕ). Tabled k (λ v. getD (own .last .1 .1 .0) (quad 0 (st .args .places .now) v) 0) (st .args .n)
           (c .before .before .vertex-columns .last .1 .1 .1 .0)) long (c .before .before .vertex-columns .ensures);
     }
 
-pub places-of-spec : {M : Type 1} → statement M
-places-of-spec =
+pub columns-of-spec : {M : Type 1} → statement M
+columns-of-spec =
     tie.close
     (tie.spec
     (λ c. search needs)

@@ -1,0 +1,31 @@
+-- `channels::sized` meets its contract, return by return. Assumes nothing.
+use mathlib.Core.Path.{sym}
+use native.Mathlib.Omega.{arith}
+use Rattle.channels.proofs.Answers.{none-outsized, many-outsized, sized, plan-outsized, plan-taken}
+use borrow.Author.Needs.{needs}
+use Rattle.channels.proofs.sized.Statement.{statement}
+use Rattle.channels.proofs.sized.Tie as tie
+
+returns-2 : tie.Need-returns-2
+returns-2 c =
+    let many = c .before .if1 .taken in
+    let room = c .if2 .left in
+    record { short = λ l. absurd (omega arith); size = λ _. sym (plan-outsized _ (many-outsized _ many)); fits = λ z. absurd (omega arith) }
+
+returns-4 : tie.Need-returns-4
+returns-4 c =
+    let room = c .before .if3 .left in record {
+      short = λ l. absurd (omega arith);
+      size = λ _. sym (plan-outsized _ (none-outsized _ (c .if4 .taken)));
+      fits = λ z. absurd (omega arith);
+    }
+
+returns-5 : tie.Need-returns-5
+returns-5 c =
+    let some = c .if4 .left in
+    let few = c .before .before .if1 .left in
+    let room = c .before .if3 .left in
+    record { short = λ l. absurd (omega arith); size = λ _. sym (plan-taken _ (sized _ some few)); fits = λ _. (some, few, room) }
+
+pub sized-spec : {M : Type 1} → statement M
+sized-spec = tie.close (tie.spec (λ c. search needs) (λ c. search needs) returns-2 (λ c. search needs) (λ c. search needs) returns-4 returns-5)
