@@ -1,12 +1,5 @@
 -- What the call answers: the bundles of the rule, channel after channel. Assumes nothing.
-use mathlib.Core.Path.{_≡_, refl, sym, ap, ap₂, _∙_, subst}
-use mathlib.Core.Bool.{Bool, true, false}
-use mathlib.Core.List.{List}
-use Prim.Native.Nat.{ℕ, _+_, _*_, _/_, _≤_, _<_, min}
-use native.Mathlib.Omega.{arith}
-use borrow.Author.Tests.{lt-ltb}
-use lib.Dec.{ltb}
-use lib.ListN.{length, getD}
+use Rattle.counting.proofs.Prelude.{_≡_, refl, sym, ap, ap₂, _∙_, subst, Bool, true, false, List, ℕ, _+_, _*_, _/_, _≤_, _<_, min, arith, ltb, length, getD, lt-ltb}
 use Rattle.counting.specs.Quads.{quad}
 use Rattle.counting.proofs.Truth.{and-elim, same-truth, and-intro}
 use Rattle.bundles.specs.Bundles.{Bundle, along, bundles}

@@ -1,14 +1,6 @@
 -- Laws of the choice: no vertex goes before the best. Assumes nothing.
-use mathlib.Core.Path.{_≡_, refl, sym, ap, _∙_, subst}
-use mathlib.Core.Logic.{_⊎_, inl, inr, ⊎-elim}
-use mathlib.Core.Bool.{Bool, true, false, true≢false, _&&_, _||_}
-use mathlib.Core.List.{List}
-use Prim.Native.Nat.{ℕ, zero, suc, _≤_, _<_}
+use Rattle.counting.proofs.Prelude.{_≡_, refl, sym, ap, _∙_, subst, _⊎_, inl, inr, ⊎-elim, Bool, true, false, true≢false, _&&_, _||_, List, ℕ, zero, suc, _≤_, _<_, arith, eqb, ltb, getD, eq-eqb, ne-eqb, eqb-true, ltb-true, ltb-false}
 use native.Mathlib.Nat.{not-suc-le-zero}
-use native.Mathlib.Omega.{arith}
-use borrow.Author.Tests.{eq-eqb, ne-eqb, eqb-true, ltb-true, ltb-false}
-use lib.Dec.{eqb, ltb}
-use lib.ListN.{getD}
 use Rattle.counting.specs.Count.{choose}
 use Rattle.counting.specs.Quads.{quad}
 use Rattle.counting.proofs.Truth.{true-or-false, lt-or-le, and-intro, and-elim, or-elim, or-neither}

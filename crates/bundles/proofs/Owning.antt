@@ -1,17 +1,9 @@
 -- The masks of each channel's vertices: how they are filled, and which edges out of a vertex they leave; and how a loop finds that there is
 -- none to bundle. Assumes nothing.
-use mathlib.Core.Path.{_≡_, sym, ap, _∙_, subst}
-use mathlib.Core.Logic.{⊎-elim}
-use mathlib.Core.Bool.{Bool, true, false, not, _&&_}
-use mathlib.Core.List.{List}
-use Prim.Native.Nat.{ℕ, _+_, _-_, _*_, _/_, _%_, _^_, _≤_, _<_, min}
+use Rattle.counting.proofs.Prelude.{_≡_, sym, ap, _∙_, subst, ⊎-elim, Bool, true, false, not, _&&_, List, ℕ, _+_, _-_, _*_, _/_, _%_, _^_, _≤_, _<_, min, arith, eqb, ltb, getD, set, replicate, length-replicate, eq-eqb, eqb-true, lt-ltb, le-ltb, ltb-true}
 use native.Mathlib.Nat.{not-suc-le-zero}
 use native.Mathlib.Decide.{ℕ-discrete}
-use native.Mathlib.Omega.{arith}
-use borrow.Author.Tests.{eq-eqb, eqb-true, lt-ltb, le-ltb, ltb-true}
 use lib.Bits.{bitAnd, bitOr}
-use lib.Dec.{eqb, ltb}
-use lib.ListN.{getD, set, replicate, length-replicate}
 use lib.Pow.{pow-pos}
 use Rattle.counting.specs.Quads.{quad}
 use Rattle.counting.proofs.Truth.{true-or-false, lt-or-le, and-intro, and-elim, same-truth}

@@ -1,14 +1,6 @@
 -- The state stands for the bundles made so far: at the start, after a bundle, and at the end. Assumes nothing.
-use mathlib.Core.Path.{_≡_, refl, sym, ap, ap₂, _∙_}
-use mathlib.Core.Logic.{_≢_, _⊎_, inl, inr, ⊎-elim}
-use mathlib.Core.Bool.{Bool, true, false, true≢false, not, _&&_}
-use mathlib.Core.List.{List, [], _∷_, _++_}
-use Prim.Native.Nat.{ℕ, zero, suc, _+_, _*_, _≤_, _<_, min, max}
+use Rattle.counting.proofs.Prelude.{_≡_, refl, sym, ap, ap₂, _∙_, _≢_, _⊎_, inl, inr, ⊎-elim, Bool, true, false, true≢false, not, _&&_, List, [], _∷_, _++_, ℕ, zero, suc, _+_, _*_, _≤_, _<_, min, max, arith, eqb, ltb, length, getD, set, length-set, length-append, List·getD-append, List·getD-eq-default, eq-eqb, ne-eqb, lt-ltb, ltb-true}
 use native.Mathlib.Decide.{ℕ-discrete}
-use native.Mathlib.Omega.{arith}
-use borrow.Author.Tests.{eq-eqb, ne-eqb, lt-ltb, ltb-true}
-use lib.Dec.{eqb, ltb}
-use lib.ListN.{length, getD, set, length-set, length-append, List·getD-append, List·getD-eq-default}
 use lib.Seq.{getD-set-same, getD-set-other, getD-append-seam}
 use Rattle.counting.specs.Count.{indicator, count}
 use Rattle.counting.specs.Quads.{quad}

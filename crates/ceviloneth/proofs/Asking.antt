@@ -1,11 +1,5 @@
 -- What is told of two words of a record, case by case. Assumes nothing.
-use mathlib.Core.Path.{_≡_, sym, ap, _∙_}
-use mathlib.Core.Bool.{Bool, true, false, _||_}
-use mathlib.Core.List.{List}
-use Prim.Native.Nat.{ℕ, _*_, _<_, _≤_}
-use native.Mathlib.Omega.{arith}
-use lib.Dec.{leb}
-use borrow.Author.Tests.{eq-eqb, ne-eqb, le-leb, lt-leb}
+use Rattle.counting.proofs.Prelude.{_≡_, sym, ap, _∙_, Bool, true, false, _||_, List, ℕ, _*_, _<_, _≤_, arith, leb, eq-eqb, ne-eqb, le-leb, lt-leb}
 use Rattle.counting.proofs.Truth.{or-left, or-right}
 use Rattle.counting.proofs.Falsity.{neither}
 use Rattle.masks.specs.Sets.{member?, at}

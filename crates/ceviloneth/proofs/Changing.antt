@@ -1,11 +1,5 @@
 -- From `editing`'s promises to those of the calls on lists that spell sessions. Assumes nothing.
-use mathlib.Core.Path.{_≡_, refl, sym, ap, subst, _∙_}
-use mathlib.Core.Bool.{false}
-use mathlib.Core.List.{List}
-use Prim.Native.Nat.{ℕ, _<_, _≤_}
-use native.Mathlib.Omega.{arith}
-use lib.ListN.{length, take, drop, getD}
-use borrow.Author.Tests.{lt-ltb, le-ltb}
+use Rattle.counting.proofs.Prelude.{_≡_, refl, sym, ap, subst, _∙_, false, List, ℕ, _<_, _≤_, arith, length, take, drop, getD, lt-ltb, le-ltb}
 use Rattle.editing.specs.Promise.{StartPromise, AddPromise, LeadsPromise}
 use Rattle.editing.specs.declared.Session.{Session}
 use Rattle.editing.specs.declared.Changed.{Changed}

@@ -1,9 +1,5 @@
 -- What a caller knows of a refused chart: every list is as it was, and every count is 0. Assumes nothing.
-use mathlib.Core.Path.{_≡_, refl, subst, _∙_}
-use mathlib.Core.List.{List}
-use Prim.Native.Nat.{ℕ, _/_, _<_}
-use native.Mathlib.Omega.{arith}
-use lib.ListN.{length, getD}
+use Rattle.counting.proofs.Prelude.{_≡_, refl, subst, _∙_, List, ℕ, _/_, _<_, arith, length, getD}
 use Rattle.lists.proofs.Written.{untouched}
 use Rattle.record.specs.Checks.{Content}
 use Rattle.outline.specs.Chart.{planOf}

@@ -1,12 +1,5 @@
 -- Every list of calls after a start: the session that the list spells and every answer are those of `editing`'s machine. Assumes nothing.
-use mathlib.Core.Path.{_≡_, refl, sym, ap, subst, _∙_}
-use mathlib.Core.Bool.{Bool, true, false}
-use mathlib.Core.List.{List}
-use Prim.Native.Nat.{ℕ, _≤_}
-use native.Mathlib.Omega.{arith}
-use lib.Dec.{eqb, ltb}
-use lib.ListN.{length}
-use borrow.Author.Tests.{ltb-false}
+use Rattle.counting.proofs.Prelude.{_≡_, refl, sym, ap, subst, _∙_, Bool, true, false, List, ℕ, _≤_, arith, eqb, ltb, length, ltb-false}
 use Rattle.counting.specs.Count.{choose, indicator}
 use Rattle.editing.specs.Machine.{Call, Answer, fresh, startRefusal}
 use Rattle.editing.specs.Promise.{replyAnswer}

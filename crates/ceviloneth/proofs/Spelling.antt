@@ -1,11 +1,6 @@
 -- Sessions and the lists that spell them. Assumes nothing.
-use mathlib.Core.Path.{_≡_, refl, sym, ap, _∙_}
-use mathlib.Core.List.{List}
-use Prim.Native.Nat.{ℕ, _+_, _-_, _<_, _≤_}
-use native.Mathlib.Omega.{arith}
-use lib.ListN.{length, getD, take, drop, replicate, length-drop, length-replicate}
+use Rattle.counting.proofs.Prelude.{_≡_, refl, sym, ap, _∙_, List, ℕ, _+_, _-_, _<_, _≤_, arith, length, getD, take, drop, replicate, length-drop, length-replicate, ne-eqb, lt-ltb, le-ltb}
 use lib.Seq.{length-take-le, getD-take, getD-drop, ext-getD}
-use borrow.Author.Tests.{ne-eqb, lt-ltb, le-ltb}
 use Rattle.lists.specs.Filled.{Filled}
 use Rattle.editing.specs.declared.Session.{Session}
 use Rattle.ceviloneth.specs.State.{sessionOf, stateNumber, Stored}

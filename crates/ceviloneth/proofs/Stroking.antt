@@ -1,6 +1,5 @@
 -- From `page`'s promise to the strokes as numbers. Assumes nothing.
-use mathlib.Core.Path.{_≡_, sym, ap, subst, _∙_}
-use mathlib.Core.List.{List}
+use Rattle.counting.proofs.Prelude.{_≡_, sym, ap, subst, _∙_, List}
 use Rattle.page.specs.Page.{Answer, answerOf, AllAt, Answers}
 use Rattle.page.specs.declared.Cell.{Cell}
 use Rattle.page.specs.declared.Point.{Point}

@@ -1,10 +1,6 @@
 -- Channels by a table and by a relation that agrees with it on the vertices below n: they are the same. Assumes nothing.
-use mathlib.Core.Path.{_≡_, refl, ap, ap₂}
-use mathlib.Core.Bool.{Bool, true, false, not, _&&_, _||_}
+use Rattle.counting.proofs.Prelude.{_≡_, refl, ap, ap₂, Bool, true, false, not, _&&_, _||_, ℕ, _<_, leb, leb-false}
 use mathlib.Core.List.{List, [], _∷_, _++_, flatten}
-use Prim.Native.Nat.{ℕ, _<_}
-use lib.Dec.{leb}
-use borrow.Author.Tests.{leb-false}
 use Rattle.counting.specs.Count.{choose}
 use Rattle.counting.proofs.Truth.{or-neither}
 use Rattle.matching.specs.Lists.{linked, every, allLinked}

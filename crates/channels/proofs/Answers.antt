@@ -1,13 +1,5 @@
 -- The answers of the public calls, case by case. Assumes nothing.
-use mathlib.Core.Path.{_≡_, refl, sym, ap, _∙_, subst}
-use mathlib.Core.Logic.{_≢_}
-use mathlib.Core.Bool.{Bool, true, false, _||_}
-use mathlib.Core.List.{List}
-use Prim.Native.Nat.{ℕ, _*_, _≤_, _<_, min}
-use native.Mathlib.Omega.{arith}
-use lib.Dec.{eqb, ltb}
-use lib.ListN.{length}
-use borrow.Author.Tests.{eq-eqb, ne-eqb, lt-ltb, le-ltb}
+use Rattle.counting.proofs.Prelude.{_≡_, refl, sym, ap, _∙_, subst, _≢_, Bool, true, false, _||_, List, ℕ, _*_, _≤_, _<_, min, arith, eqb, ltb, length, eq-eqb, ne-eqb, lt-ltb, le-ltb}
 use Rattle.counting.specs.Count.{choose}
 use Rattle.counting.proofs.Truth.{or-left, or-right}
 use Rattle.matching.specs.Chains.{planned}

@@ -1,14 +1,6 @@
 -- The checks of given channels: what each says, and what each step of its loop keeps. Assumes nothing.
-use mathlib.Core.Path.{_≡_, refl, sym, ap, _∙_, subst}
-use mathlib.Core.Logic.{_≢_}
-use mathlib.Core.Bool.{Bool, true, false, true≢false, not, _&&_, _||_}
-use mathlib.Core.List.{List, [], _∷_}
-use Prim.Native.Nat.{ℕ, suc, _+_, _-_, _≤_, _<_}
-use native.Mathlib.Omega.{arith}
+use Rattle.counting.proofs.Prelude.{_≡_, refl, sym, ap, _∙_, subst, _≢_, Bool, true, false, true≢false, not, _&&_, _||_, List, [], _∷_, ℕ, suc, _+_, _-_, _≤_, _<_, arith, eqb, leb, length, getD, drop, replicate, eq-eqb, ne-eqb, lt-ltb, le-leb, lt-leb, leb-false, not-false}
 use native.Mathlib.Decide.{ℕ-discrete}
-use lib.ListN.{length, getD, drop, replicate}
-use lib.Dec.{eqb, leb}
-use borrow.Author.Tests.{eq-eqb, ne-eqb, lt-ltb, le-leb, lt-leb, leb-false, not-false}
 use Rattle.counting.specs.Count.{indicator, choose}
 use Rattle.counting.proofs.Truth.{indicator-le, or-neither}
 use Rattle.counting.proofs.Somes.{some-found, some-none}

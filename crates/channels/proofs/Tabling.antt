@@ -1,11 +1,5 @@
 -- The tables of given channels, laid byte by byte in the walk that checks them. Assumes nothing.
-use mathlib.Core.Path.{_≡_, sym, ap, _∙_}
-use mathlib.Core.Logic.{_≢_}
-use mathlib.Core.Bool.{Bool, false}
-use mathlib.Core.List.{List, []}
-use Prim.Native.Nat.{ℕ, _+_, _-_, _*_, _≤_, _<_}
-use native.Mathlib.Omega.{arith}
-use lib.ListN.{length, getD}
+use Rattle.counting.proofs.Prelude.{_≡_, sym, ap, _∙_, _≢_, Bool, false, List, [], ℕ, _+_, _-_, _*_, _≤_, _<_, arith, length, getD}
 use Rattle.matching.proofs.Lists.{length-bound}
 use Rattle.channels.specs.Given.{verticesOf, unknown?, repeats?}
 use Rattle.planning.specs.Arranged.{Arranged, Kept}

@@ -1,14 +1,7 @@
 -- What the channels that the calls hand over are: a division into channels, in which each vertex leads to the next, and planned ones the
 -- least of all. Here the theorems stand of what `plan` and `given` hand over. Assumes nothing.
-use mathlib.Core.Path.{_≡_, refl, sym, ap, _∙_}
-use mathlib.Core.Bool.{Bool, true, false, true≢false, _||_}
-use mathlib.Core.List.{List}
-use Prim.Native.Nat.{ℕ, suc, _*_, _≤_, _<_, min}
+use Rattle.counting.proofs.Prelude.{_≡_, refl, sym, ap, _∙_, Bool, true, false, true≢false, _||_, List, ℕ, suc, _*_, _≤_, _<_, min, arith, eqb, ltb, length, ltb-false}
 use native.Mathlib.Decide.{decLt}
-use native.Mathlib.Omega.{arith}
-use lib.Dec.{eqb, ltb}
-use lib.ListN.{length}
-use borrow.Author.Tests.{ltb-false}
 use Rattle.counting.specs.Count.{choose}
 use Rattle.counting.specs.Quads.{quad}
 use Rattle.matching.specs.Lists.{channelOf, positionOf}

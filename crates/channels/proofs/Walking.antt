@@ -1,14 +1,6 @@
 -- The walk over the bytes of given channels, one byte after the other. Assumes nothing.
-use mathlib.Core.Path.{_≡_, refl, sym, ap, _∙_, subst}
-use mathlib.Core.Logic.{_≢_}
-use mathlib.Core.Bool.{Bool, true, false, not, false≢true, _||_}
-use mathlib.Core.List.{List}
-use Prim.Native.Nat.{ℕ, _+_, _-_, _≤_, _<_}
+use Rattle.counting.proofs.Prelude.{_≡_, refl, sym, ap, _∙_, subst, _≢_, Bool, true, false, not, false≢true, _||_, List, ℕ, _+_, _-_, _≤_, _<_, arith, eqb, length, getD, replicate, eq-eqb, ne-eqb}
 use native.Mathlib.Decide.{ℕ-discrete}
-use native.Mathlib.Omega.{arith}
-use borrow.Author.Tests.{eq-eqb, ne-eqb}
-use lib.Dec.{eqb}
-use lib.ListN.{length, getD, replicate}
 use Rattle.counting.specs.Count.{choose}
 use Rattle.counting.proofs.Sums.{sum-bound, sum-smaller, sum-mono}
 use Rattle.counting.proofs.Classes.{sum-one}

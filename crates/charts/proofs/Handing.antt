@@ -1,9 +1,5 @@
 -- From what `hand_over` leaves to the promises of the calls. Assumes nothing.
-use mathlib.Core.Path.{_≡_, sym, ap, subst, _∙_}
-use mathlib.Core.Bool.{Bool, not}
-use mathlib.Core.List.{List}
-use Prim.Native.Nat.{ℕ}
-use lib.ListN.{length}
+use Rattle.counting.proofs.Prelude.{_≡_, sym, ap, subst, _∙_, Bool, not, List, ℕ, length}
 use Rattle.counting.specs.Count.{count}
 use Rattle.counting.proofs.Sums.{count-ext}
 use Rattle.lists.proofs.Written.{refilled}

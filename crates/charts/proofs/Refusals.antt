@@ -1,11 +1,6 @@
 -- A call that refuses leaves the lists as they were and gives no count; 8 'short' just where a list is too short for what is accepted.
 -- Assumes nothing.
-use mathlib.Core.Path.{_≡_, refl, subst, _∙_}
-use mathlib.Core.Bool.{true}
-use mathlib.Core.List.{List}
-use mathlib.Core.Logic.{_↔_}
-use Prim.Native.Nat.{ℕ, _<_}
-use lib.ListN.{length, getD}
+use Rattle.counting.proofs.Prelude.{_≡_, refl, subst, _∙_, _↔_, true, List, ℕ, _<_, length, getD}
 use Rattle.lists.proofs.Written.{untouched}
 use Rattle.record.specs.Checks.{Content}
 use Rattle.outline.specs.Chart.{planOf}

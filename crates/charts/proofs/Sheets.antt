@@ -1,10 +1,5 @@
 -- What a sheet has: the entries of the chart, over a plan's tables, or none. Cites drawing's laws. Assumes nothing.
-use mathlib.Core.Path.{_≡_, refl, sym, ap, ap₂, subst, _∙_}
-use mathlib.Core.Bool.{Bool, true}
-use mathlib.Core.List.{List}
-use Prim.Native.Nat.{ℕ, _+_, _-_, _*_, _/_, _<_, _≤_, min}
-use native.Mathlib.Omega.{arith}
-use lib.ListN.{length, getD, take, drop, replicate}
+use Rattle.counting.proofs.Prelude.{_≡_, refl, sym, ap, ap₂, subst, _∙_, Bool, true, List, ℕ, _+_, _-_, _*_, _/_, _<_, _≤_, min, arith, length, getD, take, drop, replicate}
 use Rattle.counting.specs.Quads.{quad}
 use Rattle.counting.proofs.Zeros.{zeros}
 use Rattle.masks.specs.Sets.{member?}

@@ -1,8 +1,5 @@
 -- Laws of truth values in `||` and `&&`. Assumes nothing.
-use mathlib.Core.Path.{_≡_, refl}
-use mathlib.Core.Bool.{Bool, true, false, true≢false, not, _&&_, _||_}
-use Prim.Native.Nat.{_≤_}
-use native.Mathlib.Omega.{arith}
+use Rattle.counting.proofs.Prelude.{_≡_, refl, Bool, true, false, true≢false, not, _&&_, _||_, _≤_, arith}
 use Rattle.counting.specs.Count.{indicator}
 use Rattle.counting.proofs.Truth.{indicator-le}
 

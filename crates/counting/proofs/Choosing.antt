@@ -1,6 +1,5 @@
 -- Laws of `choose`. Assumes nothing.
-use mathlib.Core.Path.{_≡_}
-use mathlib.Core.Bool.{Bool, true, false}
+use Rattle.counting.proofs.Prelude.{_≡_, Bool, true, false}
 use Rattle.counting.specs.Count.{choose}
 
 module _ {A : Type 0} (b : Bool) (f g : Unit {0} → A) where

@@ -1,10 +1,5 @@
 -- Computed tests that decide what they stand for: of equality, of `||` and of `&&`. Assumes nothing.
-use mathlib.Core.Path.{_≡_}
-use mathlib.Core.Logic.{_⊎_, inl, inr, ⊎-elim, _↔_}
-use mathlib.Core.Bool.{Bool, true, _&&_, _||_}
-use Prim.Native.Nat.{ℕ}
-use borrow.Author.Tests.{eq-eqb, eqb-true}
-use lib.Dec.{eqb}
+use Rattle.counting.proofs.Prelude.{_≡_, _⊎_, inl, inr, ⊎-elim, _↔_, Bool, true, _&&_, _||_, ℕ, eqb, eq-eqb, eqb-true}
 use Rattle.counting.proofs.Truth.{and-intro, and-elim, or-left, or-right, or-elim}
 
 pub eq-decided : (p q : ℕ) → (p ≡ q) ↔ (eqb p q ≡ true)

@@ -1,9 +1,5 @@
 -- Laws of what is false, and of a test of a number below 2. Assumes nothing.
-use mathlib.Core.Path.{_≡_, refl}
-use mathlib.Core.Logic.{_⊎_, inl, inr}
-use mathlib.Core.Bool.{Bool, true, false, _||_}
-use Prim.Native.Nat.{ℕ, _<_, max}
-use lib.Dec.{eqb}
+use Rattle.counting.proofs.Prelude.{_≡_, refl, _⊎_, inl, inr, Bool, true, false, _||_, ℕ, _<_, max, eqb}
 use Rattle.counting.proofs.Truth.{two-cases}
 
 pub not-true : (b : Bool) → (b ≡ true → ⊥) → b ≡ false

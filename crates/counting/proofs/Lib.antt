@@ -1,3 +1,4 @@
+pub mod Prelude
 pub mod Truth
 pub mod Sums
 pub mod Somes

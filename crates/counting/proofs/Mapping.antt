@@ -1,10 +1,5 @@
 -- Counts of what is mapped one to one, or onto. Assumes nothing.
-use mathlib.Core.Path.{_≡_, refl, sym, ap, _∙_}
-use mathlib.Core.Bool.{Bool, true, false, false≢true, _&&_}
-use Prim.Native.Nat.{ℕ, _≤_, _<_}
-use native.Mathlib.Omega.{arith}
-use lib.Dec.{eqb}
-use borrow.Author.Tests.{eq-eqb, eqb-true}
+use Rattle.counting.proofs.Prelude.{_≡_, refl, sym, ap, _∙_, Bool, true, false, false≢true, _&&_, ℕ, _≤_, _<_, arith, eqb, eq-eqb, eqb-true}
 use Rattle.counting.specs.Count.{indicator, sum, count}
 use Rattle.counting.proofs.Truth.{and-elim, indicator-le}
 use Rattle.counting.proofs.Sums.{sum-mono, sum-zero, sum-smaller}

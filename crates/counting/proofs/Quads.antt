@@ -1,9 +1,5 @@
 -- Numbers stored into a list of entries of four. Assumes nothing.
-use mathlib.Core.Path.{_≡_, refl}
-use mathlib.Core.List.{List}
-use Prim.Native.Nat.{ℕ, zero, suc, _+_, _*_, _<_}
-use native.Mathlib.Omega.{arith}
-use lib.ListN.{length, getD, set}
+use Rattle.counting.proofs.Prelude.{_≡_, refl, List, ℕ, zero, suc, _+_, _*_, _<_, arith, length, getD, set}
 use lib.Seq.{getD-set-same, getD-set-other}
 use Rattle.counting.specs.Quads.{spot, quad}
 

@@ -1,10 +1,7 @@
 -- Laws of `some`. Assumes nothing.
-use mathlib.Core.Path.{_≡_, refl, ap, _∙_}
-use mathlib.Core.Bool.{Bool, true, false, false≢true, _||_}
-use Prim.Native.Nat.{ℕ, zero, suc, _<_}
+use Rattle.counting.proofs.Prelude.{_≡_, refl, ap, _∙_, Bool, true, false, false≢true, _||_, ℕ, zero, suc, _<_, arith}
 use native.Mathlib.Nat.{not-suc-le-zero}
 use native.Mathlib.Decide.{ℕ-discrete}
-use native.Mathlib.Omega.{arith}
 use Rattle.counting.specs.Count.{some}
 
 -- one passes the test

@@ -1,11 +1,8 @@
 -- Laws of `sum` and `count`. Assumes nothing.
-use mathlib.Core.Path.{_≡_, refl, sym, ap, _∙_}
-use mathlib.Core.Bool.{Bool}
-use Prim.Native.Nat.{ℕ, zero, suc, _+_, _-_, _≤_, _<_}
+use Rattle.counting.proofs.Prelude.{_≡_, refl, sym, ap, _∙_, Bool, ℕ, zero, suc, _+_, _-_, _≤_, _<_, arith}
 use native.Mathlib.Nat.{not-suc-le-zero, add-zero, add-suc}
 use native.Mathlib.Decide.{ℕ-discrete}
 use native.Mathlib.Numerals.{add-one}
-use native.Mathlib.Omega.{arith}
 use Rattle.counting.specs.Count.{indicator, sum, count}
 
 -- equal terms have equal sums

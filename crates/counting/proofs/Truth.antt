@@ -1,10 +1,6 @@
 -- Laws of truth values, and of the order of two numbers. Assumes nothing.
-use mathlib.Core.Path.{_≡_, refl}
-use mathlib.Core.Logic.{_⊎_, inl, inr}
-use mathlib.Core.Bool.{Bool, true, false, true≢false, false≢true, _&&_, _||_}
-use Prim.Native.Nat.{ℕ, _≤_, _<_}
+use Rattle.counting.proofs.Prelude.{_≡_, refl, _⊎_, inl, inr, Bool, true, false, true≢false, false≢true, _&&_, _||_, ℕ, _≤_, _<_, arith}
 use native.Mathlib.Decide.{decLt}
-use native.Mathlib.Omega.{arith}
 use Rattle.counting.specs.Count.{indicator}
 
 pub lt-or-le : (m n : ℕ) → (m < n) ⊎ (n ≤ m)

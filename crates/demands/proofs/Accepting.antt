@@ -1,13 +1,5 @@
 -- What a call accepts is a sound graph that fits the lists, and what it leaves then is the graph's chart. Assumes nothing.
-use mathlib.Core.Path.{_≡_, refl, sym, ap, _∙_, subst}
-use mathlib.Core.Logic.{_↔_, _⊎_, ⊎-elim}
-use mathlib.Core.Bool.{Bool, false, _||_}
-use mathlib.Core.List.{List}
-use Prim.Native.Nat.{ℕ}
-use native.Mathlib.Omega.{arith}
-use lib.Dec.{ltb}
-use lib.ListN.{length, getD, List·getD-eq-default}
-use borrow.Author.Tests.{eq-eqb, ltb-false}
+use Rattle.counting.proofs.Prelude.{_≡_, refl, sym, ap, _∙_, subst, _↔_, _⊎_, ⊎-elim, Bool, false, _||_, List, ℕ, arith, ltb, length, getD, List·getD-eq-default, eq-eqb, ltb-false}
 use Rattle.counting.proofs.Truth.{lt-or-le, true-or-false, or-neither}
 use Rattle.record.specs.Checks.{Content, edgesOf, refusalOf}
 use Rattle.record.specs.Sound.{Sound, SoundRecord}

@@ -1,10 +1,5 @@
 -- What agrees with the definitions on the graph's vertices, edges and bundles; our chart does, by them and as the entries show it. Assumes nothing.
-use mathlib.Core.Path.{_≡_, refl, sym, ap, _∙_, subst}
-use mathlib.Core.Bool.{true, not, _&&_}
-use Prim.Native.Nat.{ℕ, _<_}
-use lib.Dec.{eqb}
-use lib.ListN.{length}
-use borrow.Author.Tests.{eq-eqb, eqb-true, not-true}
+use Rattle.counting.proofs.Prelude.{_≡_, refl, sym, ap, _∙_, subst, true, not, _&&_, ℕ, _<_, eqb, length, eq-eqb, eqb-true, not-true}
 use Rattle.counting.specs.Count.{some}
 use Rattle.counting.proofs.Truth.{same-truth, and-intro, and-elim}
 use Rattle.counting.proofs.Somes.{some-found, some-which}

@@ -1,11 +1,6 @@
 -- THE DEMANDS, proved of the chart that the definitions give of every sound graph, and of what every call leaves. Of a call nothing is
 -- asked but its promise. The statements are in specs/Demands.antt and specs/Lawful.antt. Assumes nothing.
-use mathlib.Core.Path.{_≡_}
-use mathlib.Core.Logic.{_↔_}
-use mathlib.Core.Bool.{Bool}
-use mathlib.Core.List.{List}
-use Prim.Native.Nat.{ℕ}
-use lib.ListN.{length}
+use Rattle.counting.proofs.Prelude.{_≡_, _↔_, Bool, List, ℕ, length}
 use Rattle.record.specs.Checks.{Content}
 use Rattle.record.specs.Sound.{Sound, SoundRecord}
 use Rattle.record.specs.Reading.{contentOf, said}

@@ -1,11 +1,5 @@
 -- What agrees with our chart is lawful, has its counts, and no lawful chart has fewer. Assumes nothing.
-use mathlib.Core.Path.{_≡_, sym, ap, _∙_}
-use mathlib.Core.Logic.{_↔_, _⊎_, inl, inr, ⊎-elim, _≢_}
-use mathlib.Core.Bool.{true}
-use Prim.Native.Nat.{ℕ, _≤_, _<_}
-use native.Mathlib.Omega.{arith}
-use lib.Dec.{eqb}
-use lib.ListN.{length}
+use Rattle.counting.proofs.Prelude.{_≡_, sym, ap, _∙_, _↔_, _⊎_, inl, inr, ⊎-elim, _≢_, true, ℕ, _≤_, _<_, arith, eqb, length}
 use Rattle.counting.proofs.Sums.{sum-ext, count-ext}
 use Rattle.reach.specs.Graph.{Reaches}
 use Rattle.matching.specs.Division.{Division}

@@ -1,12 +1,5 @@
 -- Entries that are the definitions' lead where the graph does, and their polylines are clear and on the page. Assumes nothing.
-use mathlib.Core.Path.{_≡_, refl, ap, subst}
-use mathlib.Core.Logic.{_↔_, _≢_, ⊎-elim}
-use mathlib.Core.Bool.{true}
-use mathlib.Core.List.{List}
-use Prim.Native.Nat.{ℕ, _<_}
-use lib.Dec.{eqb}
-use lib.ListN.{length}
-use borrow.Author.Tests.{eqb-true, eqb-false}
+use Rattle.counting.proofs.Prelude.{_≡_, refl, ap, subst, _↔_, _≢_, ⊎-elim, true, List, ℕ, _<_, eqb, length, eqb-true, eqb-false}
 use Rattle.counting.proofs.Truth.{true-or-false}
 use Rattle.reach.specs.Graph.{Reaches, edge?}
 use Rattle.matching.specs.Lists.{channelOf, positionOf}

@@ -1,14 +1,6 @@
 -- What the whole answers: the first check that fails, or the tables. Assumes nothing.
-use mathlib.Core.Path.{_≡_, refl, sym, ap, _∙_}
-use mathlib.Core.Logic.{_≢_, ⊎-elim, _↔_}
-use mathlib.Core.Bool.{Bool, true, false, true≢false, _&&_}
-use mathlib.Core.List.{List}
-use Prim.Native.Nat.{ℕ, _+_, _*_, _≤_, _<_, min}
+use Rattle.counting.proofs.Prelude.{_≡_, refl, sym, ap, _∙_, _≢_, ⊎-elim, _↔_, Bool, true, false, true≢false, _&&_, List, ℕ, _+_, _*_, _≤_, _<_, min, arith, leb, length, le-leb, leb-true}
 use native.Mathlib.Decide.{ℕ-discrete}
-use native.Mathlib.Omega.{arith}
-use borrow.Author.Tests.{le-leb, leb-true}
-use lib.Dec.{leb}
-use lib.ListN.{length}
 use Rattle.counting.specs.Count.{choose, some}
 use Rattle.counting.proofs.Truth.{true-or-false, and-intro, and-elim}
 use Rattle.counting.proofs.Choosing.{choose-yes}

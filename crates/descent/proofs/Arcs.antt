@@ -1,11 +1,5 @@
 -- The edges of a table, and what they reach, computed. Assumes nothing.
-use mathlib.Core.Path.{_≡_, ap, _∙_}
-use mathlib.Core.Logic.{_↔_}
-use mathlib.Core.List.{List}
-use mathlib.Core.Bool.{true, _&&_}
-use Prim.Native.Nat.{ℕ}
-use borrow.Author.Tests.{eq-eqb, eqb-true, lt-ltb, ltb-true}
-use lib.Dec.{eqb, ltb}
+use Rattle.counting.proofs.Prelude.{_≡_, ap, _∙_, _↔_, true, _&&_, List, ℕ, eqb, ltb, eq-eqb, eqb-true, lt-ltb, ltb-true}
 use Rattle.counting.specs.Count.{indicator, sum, count}
 use Rattle.counting.proofs.Truth.{and-intro, and-elim, same-truth}
 use Rattle.counting.proofs.Sums.{sum-ext}

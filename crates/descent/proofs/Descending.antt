@@ -1,12 +1,7 @@
 -- A vertex is finished where its successors are: its set is the union of theirs and of its edges. The list c has the places. Assumes nothing.
-use mathlib.Core.Path.{_≡_, refl, sym, ap₂, _∙_, subst}
-use mathlib.Core.Logic.{_≢_, _⊎_, inl, inr, ⊎-elim, _↔_}
-use mathlib.Core.List.{List, [], _∷_}
-use Prim.Native.Nat.{ℕ, zero, suc, _+_, _*_, _^_, _<_}
-use native.Mathlib.Omega.{arith}
+use Rattle.counting.proofs.Prelude.{_≡_, refl, sym, ap₂, _∙_, subst, _≢_, _⊎_, inl, inr, ⊎-elim, _↔_, List, [], _∷_, ℕ, zero, suc, _+_, _*_, _^_, _<_, arith, length, getD, set, length-set}
 use lib.Bits.{bitOr}
 use lib.Count.{ones}
-use lib.ListN.{length, getD, set, length-set}
 use lib.Seq.{getD-set-same, getD-set-other}
 use Rattle.counting.specs.Count.{sum}
 use Rattle.counting.specs.Quads.{quad}

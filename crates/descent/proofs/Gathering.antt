@@ -1,13 +1,8 @@
 -- The sets of a mask's members put together. Assumes nothing.
-use mathlib.Core.Path.{_≡_, sym, ap, _∙_, subst}
-use mathlib.Core.Logic.{_≢_, _⊎_, inl, inr, ⊎-elim}
-use mathlib.Core.List.{List}
-use Prim.Native.Nat.{ℕ, _+_, _-_, _*_, _^_, _≤_, _<_, max}
+use Rattle.counting.proofs.Prelude.{_≡_, sym, ap, _∙_, subst, _≢_, _⊎_, inl, inr, ⊎-elim, List, ℕ, _+_, _-_, _*_, _^_, _≤_, _<_, max, arith, length, getD}
 use native.Mathlib.Nat.{le-trans, mul-suc, mul-le-mul-left}
-use native.Mathlib.Omega.{arith}
 use lib.Bits.{bitOr}
 use lib.Count.{trailingZeros}
-use lib.ListN.{length, getD}
 use Rattle.counting.proofs.Truth.{lt-or-le}
 use Rattle.masks.specs.Bits.{bit}
 use Rattle.masks.specs.Sets.{at}

@@ -1,14 +1,6 @@
 -- The descent for the table of edges of a graph: its reachability, longer routes and rows. Assumes nothing.
-use mathlib.Core.Path.{_≡_, sym, ap₂, _∙_, subst}
-use mathlib.Core.Logic.{_≢_, ⊎-elim, _↔_}
-use mathlib.Core.Bool.{true, false}
-use mathlib.Core.List.{List}
-use Prim.Native.Nat.{ℕ, _+_, _*_, _≤_, _<_}
+use Rattle.counting.proofs.Prelude.{_≡_, sym, ap₂, _∙_, subst, _≢_, ⊎-elim, _↔_, true, false, List, ℕ, _+_, _*_, _≤_, _<_, arith, eqb, getD, eq-eqb, eqb-true}
 use native.Mathlib.Nat.{lt-of-lt-of-le}
-use native.Mathlib.Omega.{arith}
-use borrow.Author.Tests.{eq-eqb, eqb-true}
-use lib.Dec.{eqb}
-use lib.ListN.{getD}
 use Rattle.counting.specs.Count.{count, some}
 use Rattle.counting.specs.Quads.{quad}
 use Rattle.counting.proofs.Truth.{lt-or-le, true-or-false, same-truth}

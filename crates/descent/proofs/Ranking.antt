@@ -1,11 +1,5 @@
 -- The descent row by row: a vertex's successors have higher rows. The list c has the places. Assumes nothing.
-use mathlib.Core.Path.{_≡_, refl, sym, ap, ap₂, _∙_, subst}
-use mathlib.Core.Logic.{_≢_, inr, ⊎-elim, _↔_}
-use mathlib.Core.List.{List}
-use Prim.Native.Nat.{ℕ, _+_, _-_, _*_, _^_, _≤_, _<_}
-use native.Mathlib.Omega.{arith}
-use borrow.Author.Tests.{eq-eqb}
-use lib.ListN.{length, getD}
+use Rattle.counting.proofs.Prelude.{_≡_, refl, sym, ap, ap₂, _∙_, subst, _≢_, inr, ⊎-elim, _↔_, List, ℕ, _+_, _-_, _*_, _^_, _≤_, _<_, arith, length, getD, eq-eqb}
 use Rattle.counting.specs.Quads.{quad}
 use Rattle.counting.proofs.Truth.{lt-or-le, two-cases}
 use Rattle.masks.specs.Bits.{bit}

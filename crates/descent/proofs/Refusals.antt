@@ -1,11 +1,5 @@
 -- The answer, by the tests of its checks. Assumes nothing.
-use mathlib.Core.Path.{_≡_, refl, _∙_}
-use mathlib.Core.Logic.{_≢_}
-use mathlib.Core.Bool.{Bool, true, false, true≢false}
-use mathlib.Core.List.{List}
-use Prim.Native.Nat.{ℕ}
-use native.Mathlib.Omega.{arith}
-use lib.Dec.{eqb}
+use Rattle.counting.proofs.Prelude.{_≡_, refl, _∙_, _≢_, Bool, true, false, true≢false, List, ℕ, arith, eqb}
 use Rattle.counting.specs.Count.{choose, some}
 use Rattle.reach.specs.Graph.{edgeCount}
 use Rattle.reach.specs.Refusal.{outsized?, strange?, verdict, refusal}

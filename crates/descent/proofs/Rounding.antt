@@ -1,17 +1,10 @@
 -- Rows round by round, each stored when it is settled. Assumes nothing.
-use mathlib.Core.Path.{_≡_, refl, sym, ap, ap₂, _∙_, subst}
-use mathlib.Core.Logic.{_≢_, inl, inr, ⊎-elim, _↔_}
-use mathlib.Core.Bool.{Bool, true, false, true≢false}
-use mathlib.Core.List.{List}
-use Prim.Native.Nat.{ℕ, suc, _+_, _-_, _*_, _^_, _≤_, _<_, min, zero-le}
+use Rattle.counting.proofs.Prelude.{_≡_, refl, sym, ap, ap₂, _∙_, subst, _≢_, inl, inr, ⊎-elim, _↔_, Bool, true, false, true≢false, List, ℕ, suc, _+_, _-_, _*_, _^_, _≤_, _<_, min, zero-le, arith, length, getD, eq-eqb, eqb-true}
 use native.Mathlib.Nat.{lt-of-le-of-lt}
 use native.Mathlib.Decide.{ℕ-discrete}
 use native.Mathlib.Numerals.{add-one}
-use native.Mathlib.Omega.{arith}
-use borrow.Author.Tests.{eq-eqb, eqb-true}
 use lib.Bits.{bitOr, bitAnd, and-le-l, or-comm}
 use lib.Count.{trailingZeros}
-use lib.ListN.{length, getD}
 use Rattle.counting.specs.Count.{some}
 use Rattle.counting.specs.Quads.{quad}
 use Rattle.counting.proofs.Truth.{lt-or-le, two-cases, true-or-false}

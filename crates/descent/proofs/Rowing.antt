@@ -1,12 +1,7 @@
 -- The loops that store for each member of a mask. Assumes nothing.
-use mathlib.Core.Path.{_≡_, refl, sym, ap, _∙_, subst}
-use mathlib.Core.Logic.{_≢_}
-use mathlib.Core.List.{List}
-use Prim.Native.Nat.{ℕ, _+_, _*_, _^_, _<_}
+use Rattle.counting.proofs.Prelude.{_≡_, refl, sym, ap, _∙_, subst, _≢_, List, ℕ, _+_, _*_, _^_, _<_, arith, length, set}
 use native.Mathlib.Decide.{ℕ-discrete}
-use native.Mathlib.Omega.{arith}
 use lib.Count.{trailingZeros}
-use lib.ListN.{length, set}
 use Rattle.counting.specs.Quads.{quad}
 use Rattle.counting.proofs.Quads.{quad-same, quad-other}
 use Rattle.masks.specs.Bits.{bit}

@@ -1,13 +1,8 @@
 -- Members that are in the union already are left out. Assumes nothing.
-use mathlib.Core.Path.{_≡_, refl, sym, ap, _∙_, subst}
-use mathlib.Core.Logic.{_≢_, _⊎_, inl, inr, ⊎-elim}
-use mathlib.Core.List.{List}
-use Prim.Native.Nat.{ℕ, _+_, _-_, _*_, _^_, _≤_, _<_, max}
+use Rattle.counting.proofs.Prelude.{_≡_, refl, sym, ap, _∙_, subst, _≢_, _⊎_, inl, inr, ⊎-elim, List, ℕ, _+_, _-_, _*_, _^_, _≤_, _<_, max, arith, getD}
 use native.Mathlib.Nat.{lt-of-le-of-lt}
-use native.Mathlib.Omega.{arith}
 use lib.Bits.{bitOr, and-le-l, or-lt}
 use lib.Count.{trailingZeros}
-use lib.ListN.{getD}
 use Rattle.counting.proofs.Truth.{lt-or-le, two-cases}
 use Rattle.masks.specs.Bits.{bit}
 use Rattle.masks.specs.Sets.{at}

@@ -1,8 +1,5 @@
 -- The set of the vertices below n in two masks. Assumes nothing.
-use mathlib.Core.Path.{_≡_, sym, ap, _∙_, subst}
-use mathlib.Core.Logic.{⊎-elim, _↔_}
-use Prim.Native.Nat.{ℕ, _+_, _-_, _^_, _<_}
-use native.Mathlib.Omega.{arith}
+use Rattle.counting.proofs.Prelude.{_≡_, sym, ap, _∙_, subst, ⊎-elim, _↔_, ℕ, _+_, _-_, _^_, _<_, arith}
 use lib.Pow.{pow-pos}
 use Rattle.counting.proofs.Truth.{lt-or-le}
 use Rattle.masks.specs.Bits.{bit}

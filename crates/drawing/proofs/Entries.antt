@@ -1,14 +1,6 @@
 -- What the tables of a plan are, entry by entry: the chart's entries. Cites the chart's laws. Assumes nothing.
-use mathlib.Core.Path.{_≡_, refl, sym, ap, ap₂, _∙_, subst}
-use mathlib.Core.Logic.{_↔_}
-use mathlib.Core.Bool.{Bool, true, false}
-use mathlib.Core.List.{List}
-use Prim.Native.Nat.{ℕ, _+_, _*_, _/_, _≤_, _<_, min}
-use native.Mathlib.Omega.{arith}
-use lib.Dec.{eqb}
-use lib.ListN.{length, getD, take}
+use Rattle.counting.proofs.Prelude.{_≡_, refl, sym, ap, ap₂, _∙_, subst, _↔_, Bool, true, false, List, ℕ, _+_, _*_, _/_, _≤_, _<_, min, arith, eqb, length, getD, take, eqb-true}
 use lib.Seq.{getD-take, length-take-le}
-use borrow.Author.Tests.{eqb-true}
 use Rattle.counting.specs.Count.{choose}
 use Rattle.counting.specs.Quads.{quad}
 use Rattle.counting.proofs.Somes.{some-ext}
@@ -23,7 +15,7 @@ use Rattle.geometry.specs.Test.{isHit, isBlocked}
 use Rattle.geometry.specs.Placement.{ownColumn}
 use Rattle.geometry.specs.Courses.{courseOf}
 use Rattle.outline.specs.Chart as chart
-use Rattle.outline.specs.Chart.{planOf, rowOf, rowCount, widths, columnIn, placeOf, tailOf, headOf, crossing}
+use Rattle.outline.specs.Chart.{planOf, rowCount, widths, columnIn, placeOf, tailOf, headOf, crossing}
 use Rattle.outline.specs.Chart.{transitiveEdge?, kindBetween, vertexEntry, bundleEntry}
 use Rattle.outline.specs.declared.Kind.{Kind}
 use Rattle.outline.specs.declared.Kind.the-variants.{Path, PathTransitive}

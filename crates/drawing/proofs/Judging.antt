@@ -1,11 +1,5 @@
 -- What is drawn of a graph, and of a record: its graph's, or nothing. Assumes nothing.
-use mathlib.Core.Path.{_≡_, refl, ap, _∙_}
-use mathlib.Core.Bool.{Bool}
-use mathlib.Core.List.{List}
-use Prim.Native.Nat.{ℕ, _*_}
-use lib.Dec.{eqb}
-use lib.ListN.{take, drop}
-use borrow.Author.Tests.{ne-eqb}
+use Rattle.counting.proofs.Prelude.{_≡_, refl, ap, _∙_, Bool, List, ℕ, _*_, eqb, take, drop, ne-eqb}
 use Rattle.counting.specs.Count.{choose}
 use Rattle.record.specs.Checks.{refusalOf}
 use Rattle.fields.specs.Layout.{layoutOf}

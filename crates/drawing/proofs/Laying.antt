@@ -1,14 +1,6 @@
 -- What the lower layers promise of a graph that passes the checks is what its chart is drawn from. Cites their promises alone. Assumes
 -- nothing.
-use mathlib.Core.Path.{_≡_, refl, sym, ap, _∙_, subst}
-use mathlib.Core.Logic.{_↔_, ⊎-elim}
-use mathlib.Core.Bool.{_&&_}
-use mathlib.Core.List.{List}
-use Prim.Native.Nat.{ℕ, _*_, _/_, _≤_, _<_, min}
-use native.Mathlib.Omega.{arith}
-use lib.Dec.{eqb}
-use lib.ListN.{length, getD}
-use borrow.Author.Tests.{eq-eqb, eqb-true}
+use Rattle.counting.proofs.Prelude.{_≡_, refl, sym, ap, _∙_, subst, _↔_, ⊎-elim, _&&_, List, ℕ, _*_, _/_, _≤_, _<_, min, arith, eqb, length, getD, eq-eqb, eqb-true}
 use Rattle.counting.specs.Count.{choose}
 use Rattle.counting.specs.Quads.{quad}
 use Rattle.counting.proofs.Truth.{same-truth, lt-or-le, and-intro, and-elim}

@@ -1,8 +1,5 @@
 -- The chart of no graph has no count. Assumes nothing.
-use mathlib.Core.Path.{_≡_, refl, sym, ap, subst}
-use mathlib.Core.List.{List, []}
-use Prim.Native.Nat.{ℕ, zero, suc, _<_}
-use lib.ListN.{length, replicate}
+use Rattle.counting.proofs.Prelude.{_≡_, refl, sym, ap, subst, List, [], ℕ, zero, suc, _<_, length, replicate}
 use Rattle.counting.specs.Count.{sum, count}
 use Rattle.matching.specs.Chains.{begun, planned}
 use Rattle.record.specs.Checks.{edgesOf}

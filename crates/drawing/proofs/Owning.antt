@@ -1,9 +1,5 @@
 -- Own columns, channel after channel. Assumes nothing.
-use mathlib.Core.Path.{_≡_, refl, sym, ap, _∙_}
-use mathlib.Core.List.{List}
-use Prim.Native.Nat.{ℕ, _+_, _≤_, _<_}
-use native.Mathlib.Omega.{arith}
-use lib.ListN.{set, replicate}
+use Rattle.counting.proofs.Prelude.{_≡_, refl, sym, ap, _∙_, List, ℕ, _+_, _≤_, _<_, arith, set, replicate}
 use Rattle.counting.specs.Count.{sum}
 use Rattle.counting.proofs.Sums.{sum-more}
 use Rattle.counting.proofs.Classes.{sum-longer}

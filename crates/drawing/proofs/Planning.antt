@@ -1,14 +1,6 @@
 -- What planning answers, by what the checks hand over. Assumes nothing.
-use mathlib.Core.Path.{_≡_, refl, sym, ap, _∙_}
-use mathlib.Core.Logic.{_≢_}
-use mathlib.Core.Bool.{Bool, true, false, true≢false}
-use mathlib.Core.List.{List}
-use Prim.Native.Nat.{ℕ, _*_, _≤_, _<_, min}
+use Rattle.counting.proofs.Prelude.{_≡_, refl, sym, ap, _∙_, _≢_, Bool, true, false, true≢false, List, ℕ, _*_, _≤_, _<_, min, arith, leb, length, leb-true, le-leb}
 use native.Mathlib.Decide.{decLt}
-use native.Mathlib.Omega.{arith}
-use lib.Dec.{leb}
-use lib.ListN.{length}
-use borrow.Author.Tests.{leb-true, le-leb}
 use Rattle.counting.proofs.Truth.{and-intro, and-elim}
 use Rattle.descent.specs.Promise.{Sized}
 use Rattle.record.specs.Checks.{refusalOf}

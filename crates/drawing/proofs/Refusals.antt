@@ -1,13 +1,5 @@
 -- What is known of a refusal: one of 1 to 7 and nothing, or 8 'short' just where a list is too short for what is accepted. Assumes nothing.
-use mathlib.Core.Path.{_≡_, refl, sym, ap, _∙_}
-use mathlib.Core.Bool.{Bool, true, false}
-use mathlib.Core.List.{List}
-use mathlib.Core.Logic.{_↔_, ⊎-elim}
-use Prim.Native.Nat.{ℕ, _≤_}
-use native.Mathlib.Omega.{arith}
-use lib.Dec.{eqb}
-use lib.ListN.{length}
-use borrow.Author.Tests.{eqb-true, eqb-false, ne-eqb}
+use Rattle.counting.proofs.Prelude.{_≡_, refl, sym, ap, _∙_, _↔_, ⊎-elim, Bool, true, false, List, ℕ, _≤_, arith, eqb, length, eqb-true, eqb-false, ne-eqb}
 use Rattle.counting.specs.Count.{choose}
 use Rattle.record.specs.Checks.{Content, edgesOf, size?, stranger?, double?, ring?, repeated?, lacking?, unled?, looseChecks, laterChecks, firstOf, refusalOf}
 use Rattle.fields.specs.Layout.{layoutOf}

@@ -1,11 +1,5 @@
 -- When a lent list is short, and what is drawn then. Assumes nothing.
-use mathlib.Core.Path.{_≡_, refl}
-use mathlib.Core.Bool.{true, false, _||_}
-use mathlib.Core.Logic.{_⊎_, ⊎-elim, inl, inr}
-use Prim.Native.Nat.{ℕ, _<_, _≤_}
-use lib.Dec.{ltb}
-use lib.ListN.{length}
-use borrow.Author.Tests.{ltb-true, lt-ltb, le-ltb}
+use Rattle.counting.proofs.Prelude.{_≡_, refl, _⊎_, ⊎-elim, inl, inr, true, false, _||_, ℕ, _<_, _≤_, ltb, length, ltb-true, lt-ltb, le-ltb}
 use Rattle.counting.proofs.Truth.{or-left, or-right, or-elim}
 use Rattle.counting.proofs.Falsity.{neither}
 use Rattle.record.specs.Checks.{edgesOf}

@@ -1,7 +1,5 @@
 -- Columns by blocks depend on the channels alone. Assumes nothing.
-use mathlib.Core.Path.{_≡_, ap}
-use Prim.Native.Nat.{ℕ, _+_, _<_}
-use native.Mathlib.Omega.{arith}
+use Rattle.counting.proofs.Prelude.{_≡_, ap, ℕ, _+_, _<_, arith}
 use Rattle.counting.proofs.Sums.{sum-ext}
 use Rattle.geometry.specs.Placement.{evenGaps, blockWidth, blockStart, ownColumn}
 

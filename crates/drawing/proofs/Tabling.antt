@@ -1,11 +1,7 @@
 -- Tables that are filled entry by entry. Assumes nothing.
-use mathlib.Core.Path.{_≡_, _∙_}
-use mathlib.Core.List.{List}
-use Prim.Native.Nat.{ℕ, _+_, _<_}
+use Rattle.counting.proofs.Prelude.{_≡_, _∙_, List, ℕ, _+_, _<_, arith, getD, set, replicate, length-set, length-replicate}
 use native.Mathlib.Nat.{not-suc-le-zero}
-use native.Mathlib.Omega.{arith}
 use borrow.Author.Count.{below-more}
-use lib.ListN.{getD, set, replicate, length-set, length-replicate}
 use lib.Seq.{getD-set-same, getD-set-other}
 use Rattle.counting.proofs.Zeros.{zeros}
 use Rattle.drawing.specs.Parts.{Tabled}

@@ -1,16 +1,8 @@
 -- Reachability with one edge more, vertex by vertex over a table with w masks a vertex, for any w. Assumes nothing.
-use mathlib.Core.Path.{_≡_, refl, sym, ap, _∙_, subst}
-use mathlib.Core.Logic.{_≢_}
-use mathlib.Core.Bool.{true, false, _||_, _&&_}
-use mathlib.Core.List.{List}
-use Prim.Native.Nat.{ℕ, _+_, _*_, _<_, max}
+use Rattle.counting.proofs.Prelude.{_≡_, refl, sym, ap, _∙_, subst, _≢_, true, false, _||_, _&&_, List, ℕ, _+_, _*_, _<_, max, arith, eqb, length, eq-eqb, ne-eqb}
 use native.Mathlib.Nat.{not-suc-le-zero, le-refl, mul-zero}
 use native.Mathlib.Decide.{ℕ-discrete}
-use native.Mathlib.Omega.{arith}
 use borrow.Author.Count.{below-more}
-use borrow.Author.Tests.{eq-eqb, ne-eqb}
-use lib.Dec.{eqb}
-use lib.ListN.{length}
 use Rattle.counting.proofs.Falsity.{or-false, max-test}
 use Rattle.masks.specs.Sets.{member, at, inserted}
 use Rattle.masks.proofs.Sets.{member-lt}

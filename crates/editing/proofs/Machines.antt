@@ -1,15 +1,7 @@
 -- The machine's laws: the order of its tests, its steps, and what holds of every graph that it comes to. Assumes nothing.
-use mathlib.Core.Path.{_≡_, refl, sym, _∙_}
-use mathlib.Core.Logic.{_≢_, _⊎_, inl, inr, ⊎-elim, _↔_}
-use mathlib.Core.Bool.{Bool, true, false, true≢false, false≢true, _||_, _&&_}
-use mathlib.Core.List.{List, [], _∷_}
-use Prim.Native.Nat.{ℕ, zero, suc, _≤_, _<_, zero-le}
+use Rattle.counting.proofs.Prelude.{_≡_, refl, sym, _∙_, _≢_, _⊎_, inl, inr, ⊎-elim, _↔_, Bool, true, false, true≢false, false≢true, _||_, _&&_, List, [], _∷_, ℕ, zero, suc, _≤_, _<_, zero-le, arith, eqb, leb, ltb, length, eqb-false, eq-eqb, ne-eqb, leb-false, le-leb, lt-ltb, le-ltb}
 use native.Mathlib.Nat.{suc-ne-zero}
 use native.Mathlib.Decide.{ℕ-discrete, decLt}
-use native.Mathlib.Omega.{arith}
-use borrow.Author.Tests.{eqb-false, eq-eqb, ne-eqb, leb-false, le-leb, lt-ltb, le-ltb}
-use lib.Dec.{eqb, leb, ltb}
-use lib.ListN.{length}
 use Rattle.counting.proofs.Truth.{or-left, or-right, or-neither, same-truth}
 use Rattle.counting.proofs.Deciding.{eq-decided, or-decided, and-decided}
 use Rattle.counting.proofs.Falsity.{neither}

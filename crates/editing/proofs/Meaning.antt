@@ -1,13 +1,5 @@
 -- What the machine's answers say of its set of edges. Assumes nothing.
-use mathlib.Core.Path.{_≡_, refl, sym, ap, _∙_, subst}
-use mathlib.Core.Logic.{_⊎_, inl, inr, ⊎-elim, _↔_}
-use mathlib.Core.Bool.{Bool, true, false, true≢false, _||_}
-use mathlib.Core.List.{_∷_}
-use Prim.Native.Nat.{ℕ, zero, suc, _≤_, _<_}
-use native.Mathlib.Omega.{arith}
-use borrow.Author.Tests.{leb-true, leb-false, lt-leb}
-use lib.Dec.{eqb, leb}
-use lib.ListN.{length}
+use Rattle.counting.proofs.Prelude.{_≡_, refl, sym, ap, _∙_, subst, _⊎_, inl, inr, ⊎-elim, _↔_, Bool, true, false, true≢false, _||_, _∷_, ℕ, zero, suc, _≤_, _<_, arith, eqb, leb, length, leb-true, leb-false, lt-leb}
 use Rattle.counting.proofs.Truth.{or-elim, true-or-false}
 use Rattle.counting.proofs.Deciding.{eq-decided, or-decided}
 use Rattle.counting.proofs.Falsity.{not-true, neither}

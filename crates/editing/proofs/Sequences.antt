@@ -1,10 +1,5 @@
 -- Every list of calls after a fresh start: the session's set and every answer are the machine's. Assumes nothing.
-use mathlib.Core.Path.{_≡_, refl, ap, ap₂}
-use mathlib.Core.Logic.{_≢_}
-use mathlib.Core.List.{List, [], _∷_}
-use Prim.Native.Nat.{ℕ}
-use borrow.Author.Tests.{ne-eqb}
-use lib.ListN.{length, replicate}
+use Rattle.counting.proofs.Prelude.{_≡_, refl, ap, ap₂, _≢_, List, [], _∷_, ℕ, length, replicate, ne-eqb}
 use Rattle.editing.specs.declared.Session.{Session}
 use Rattle.editing.specs.declared.Changed.{Changed}
 use Rattle.editing.specs.Machine.{Graph, Call, Answer, step, run, answers, empty, startRefusal, startVertices, fresh}

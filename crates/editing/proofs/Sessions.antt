@@ -1,16 +1,8 @@
 -- A session and the graph that it represents: the tests, the answers, and that an edge more keeps it so. Assumes nothing.
-use mathlib.Core.Path.{_≡_, refl, sym, ap, ap₂, _∙_, subst}
-use mathlib.Core.Logic.{_≢_, ⊎-elim}
-use mathlib.Core.Bool.{Bool, true, false}
-use mathlib.Core.List.{_∷_}
-use Prim.Native.Nat.{ℕ, zero, suc, _≤_, _<_, min}
+use Rattle.counting.proofs.Prelude.{_≡_, refl, sym, ap, ap₂, _∙_, subst, _≢_, ⊎-elim, Bool, true, false, _∷_, ℕ, zero, suc, _≤_, _<_, min, arith, eqb, leb, length, replicate, eq-eqb, le-leb, lt-leb}
 use native.Mathlib.Nat.{lt-of-lt-of-le}
 use native.Mathlib.Numerals.{add-one}
 use native.Mathlib.Decide.{ℕ-discrete}
-use native.Mathlib.Omega.{arith}
-use borrow.Author.Tests.{eq-eqb, le-leb, lt-leb}
-use lib.Dec.{eqb, leb}
-use lib.ListN.{length, replicate}
 use Rattle.counting.specs.Count.{choose}
 use Rattle.counting.proofs.Truth.{or-left, or-right, same-truth}
 use Rattle.counting.proofs.Falsity.{not-true, neither}

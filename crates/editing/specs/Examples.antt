@@ -4,7 +4,7 @@ use mathlib.Core.Bool.{true, false}
 use mathlib.Core.List.{List, [], _∷_}
 use Prim.Native.Nat.{ℕ, zero, suc}
 use Rattle.reach.specs.Graph.{reaches?}
-use Rattle.editing.specs.Machine.{Edge, Graph, Call, contains, unknown?, reached?, cyclic?, full?, verdict, refusal, insert, change, reply, step, run, answers, startRefusal, startVertices, fresh}
+use Rattle.editing.specs.Machine.{Edge, Graph, contains, unknown?, reached?, cyclic?, full?, verdict, refusal, insert, change, reply, step, run, answers, startRefusal, startVertices, fresh}
 use Rattle.editing.specs.Machine as machine
 use Rattle.editing.specs.Machine.Edge.{edge}
 use Rattle.editing.specs.Machine.Call.{add, leads}

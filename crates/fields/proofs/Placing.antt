@@ -1,12 +1,5 @@
 -- A field that is found lies within the record. Assumes nothing.
-use mathlib.Core.Path.{_≡_, refl, sym}
-use mathlib.Core.Bool.{Bool, true, false, _&&_}
-use mathlib.Core.List.{List}
-use Prim.Native.Nat.{ℕ, _+_, _≤_}
-use native.Mathlib.Omega.{arith}
-use borrow.Author.Tests.{leb-true}
-use lib.Dec.{eqb, leb}
-use lib.ListN.{length, getD}
+use Rattle.counting.proofs.Prelude.{_≡_, refl, sym, Bool, true, false, _&&_, List, ℕ, _+_, _≤_, arith, eqb, leb, length, getD, leb-true}
 use Rattle.counting.specs.Count.{choose}
 use Rattle.counting.proofs.Truth.{and-elim}
 use Rattle.fields.specs.declared.Field.the-variants.{Found, Missing}

@@ -1,12 +1,5 @@
 -- The fields of a record that is laid out as it must be lie within it. Assumes nothing.
-use mathlib.Core.Path.{_≡_, refl, subst}
-use mathlib.Core.Bool.{Bool, true, false, true≢false, _&&_}
-use mathlib.Core.List.{List}
-use Prim.Native.Nat.{ℕ, _+_, _*_, _/_, _%_, _≤_, zero-le}
-use native.Mathlib.Omega.{arith}
-use borrow.Author.Tests.{eqb-true}
-use lib.Dec.{eqb, leb}
-use lib.ListN.{length, getD, take, drop}
+use Rattle.counting.proofs.Prelude.{_≡_, refl, subst, Bool, true, false, true≢false, _&&_, List, ℕ, _+_, _*_, _/_, _%_, _≤_, zero-le, arith, eqb, leb, length, getD, take, drop, eqb-true}
 use Rattle.counting.specs.Count.{choose}
 use Rattle.counting.proofs.Truth.{and-elim}
 use Rattle.fields.specs.declared.Field.{Field}

@@ -1,12 +1,8 @@
 -- Lists filled entry by entry, for any number of numbers an entry. Assumes nothing.
-use mathlib.Core.Path.{_≡_, refl, sym, ap, subst, _∙_}
-use mathlib.Core.List.{List}
-use Prim.Native.Nat.{ℕ, zero, suc, _+_, _*_, _<_, _≤_}
+use Rattle.counting.proofs.Prelude.{_≡_, refl, sym, ap, subst, _∙_, List, ℕ, zero, suc, _+_, _*_, _<_, _≤_, arith, length, set, length-set}
 use native.Mathlib.Nat.{le-antisymm, zero-mul, add-zero, suc-mul}
 use native.Mathlib.Numerals.{add-one}
-use native.Mathlib.Omega.{arith}
 use lib.Arith.{digits-div, digits-mod}
-use lib.ListN.{length, set, length-set}
 use Rattle.lists.specs.Filled.{Filled}
 use Rattle.lists.proofs.Stores.{filled-none, filled-more, filled-to}
 use Rattle.flat.specs.Blocks.{stored, numbers}

@@ -1,10 +1,5 @@
 -- From what the fills leave to the chart: over a plan's lists the entries are the chart's. Cites drawing's laws. Assumes nothing.
-use mathlib.Core.Path.{_≡_, refl, sym, ap, ap₂, _∙_}
-use mathlib.Core.Bool.{Bool, not}
-use mathlib.Core.List.{List}
-use Prim.Native.Nat.{ℕ, _+_, _*_, _/_, _%_, _<_, _≤_, min}
-use native.Mathlib.Omega.{arith}
-use lib.ListN.{length, getD, take}
+use Rattle.counting.proofs.Prelude.{_≡_, refl, sym, ap, ap₂, _∙_, Bool, not, List, ℕ, _+_, _*_, _/_, _%_, _<_, _≤_, min, arith, length, getD, take}
 use Rattle.counting.specs.Count.{count}
 use Rattle.counting.proofs.Sums.{count-ext}
 use Rattle.lists.specs.Filled.{Filled}

@@ -1,13 +1,6 @@
 -- From the lists and the counts to the promise. Assumes nothing.
-use mathlib.Core.Path.{_≡_, refl, sym, ap, ap₂, subst, _∙_}
-use mathlib.Core.Bool.{Bool, true, false, _||_}
-use mathlib.Core.List.{List}
-use Prim.Native.Nat.{ℕ, _+_, _-_, _*_, _/_, _≤_}
+use Rattle.counting.proofs.Prelude.{_≡_, refl, sym, ap, ap₂, subst, _∙_, Bool, true, false, _||_, List, ℕ, _+_, _-_, _*_, _/_, _≤_, arith, ltb, length, take, drop, replicate, eq-eqb, ne-eqb, ltb-false}
 use native.Mathlib.Decide.{ℕ-discrete}
-use native.Mathlib.Omega.{arith}
-use lib.Dec.{ltb}
-use lib.ListN.{length, take, drop, replicate}
-use borrow.Author.Tests.{eq-eqb, ne-eqb, ltb-false}
 use Rattle.counting.specs.Count.{choose}
 use Rattle.counting.proofs.Zeros.{zeros}
 use Rattle.counting.proofs.Truth.{or-neither}

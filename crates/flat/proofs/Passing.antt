@@ -1,13 +1,7 @@
 -- Entries, one more at a time. Assumes nothing.
-use mathlib.Core.Path.{_≡_, refl, sym, ap, ap₂, _∙_}
-use mathlib.Core.Bool.{Bool, true, false, not}
-use mathlib.Core.List.{List}
-use Prim.Native.Nat.{ℕ, zero, suc, _+_, _-_, _*_, _/_, _%_, _^_, _<_}
+use Rattle.counting.proofs.Prelude.{_≡_, refl, sym, ap, ap₂, _∙_, Bool, true, false, not, List, ℕ, zero, suc, _+_, _-_, _*_, _/_, _%_, _^_, _<_, arith, eqb, getD, set}
 use native.Mathlib.Nat.{add-zero}
-use native.Mathlib.Omega.{arith}
 use lib.Bits.{bitAnd}
-use lib.Dec.{eqb}
-use lib.ListN.{getD, set}
 use Rattle.counting.specs.Count.{count, sum, indicator}
 use Rattle.counting.specs.Quads.{quad}
 use Rattle.counting.proofs.Sums.{sum-more}

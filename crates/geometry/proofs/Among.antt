@@ -1,14 +1,6 @@
 -- The course of a cross edge by candidates, and candidates in two masks. Assumes nothing.
-use mathlib.Core.Path.{_≡_, refl, sym, ap, _∙_, subst}
-use mathlib.Core.Logic.{_≢_, ⊎-elim}
-use mathlib.Core.Bool.{Bool, true, false, _&&_}
-use mathlib.Core.List.{[], _∷_}
-use Prim.Native.Nat.{ℕ, suc, _+_, _-_, _/_, _%_, _^_, _≤_, _<_}
-use native.Mathlib.Omega.{arith}
-use borrow.Author.Tests.{eqb-true, eq-eqb, ltb-true, lt-ltb}
+use Rattle.counting.proofs.Prelude.{_≡_, refl, sym, ap, _∙_, subst, _≢_, ⊎-elim, Bool, true, false, _&&_, [], _∷_, ℕ, suc, _+_, _-_, _/_, _%_, _^_, _≤_, _<_, arith, eqb, getD, eqb-true, eq-eqb, ltb-true, lt-ltb}
 use lib.Count.{trailingZeros}
-use lib.Dec.{eqb}
-use lib.ListN.{getD}
 use Rattle.counting.proofs.Truth.{lt-or-le, same-truth, and-intro, and-elim}
 use Rattle.counting.proofs.Somes.{some-found, some-which, some-ext}
 use Rattle.masks.specs.Bits.{bit}

@@ -1,8 +1,5 @@
 -- The layout by blocks is a placement, and how wide it is. Assumes nothing.
-use mathlib.Core.Path.{_≡_, refl, ap, _∙_}
-use mathlib.Core.Logic.{⊎-elim}
-use Prim.Native.Nat.{ℕ, zero, suc, _+_, _*_, _-_, _≤_, _<_}
-use native.Mathlib.Omega.{arith}
+use Rattle.counting.proofs.Prelude.{_≡_, refl, ap, _∙_, ⊎-elim, ℕ, zero, suc, _+_, _*_, _-_, _≤_, _<_, arith}
 use native.Mathlib.Nat.{mul-le-mul-left}
 use Rattle.counting.specs.Count.{sum}
 use Rattle.counting.proofs.Truth.{lt-or-le}

@@ -1,9 +1,5 @@
 -- No edge's polyline meets a vertex but its ends. Assumes nothing.
-use mathlib.Core.Path.{_≡_, refl, sym, ap, _∙_}
-use mathlib.Core.Logic.{_≢_, _⊎_, inl, inr, ⊎-elim}
-use mathlib.Core.List.{List, [], _∷_}
-use Prim.Native.Nat.{ℕ, _+_, _-_, _≤_, _<_}
-use native.Mathlib.Omega.{arith}
+use Rattle.counting.proofs.Prelude.{_≡_, refl, sym, ap, _∙_, _≢_, _⊎_, inl, inr, ⊎-elim, List, [], _∷_, ℕ, _+_, _-_, _≤_, _<_, arith}
 use native.Mathlib.Decide.{ℕ-discrete}
 use Rattle.counting.proofs.Truth.{lt-or-le}
 use Rattle.geometry.specs.Segment.{Point, point, On, Meets, here, later, Blocked}

@@ -1,9 +1,5 @@
 -- The course of a cross edge, and that it meets no vertex but its ends. Assumes nothing.
-use mathlib.Core.Path.{_≡_, sym, _∙_, subst}
-use mathlib.Core.Logic.{_≢_}
-use Prim.Native.Nat.{ℕ, _+_, _-_, _≤_, _<_}
-use native.Mathlib.Omega.{arith}
-use borrow.Author.Tests.{lt-ltb, le-ltb}
+use Rattle.counting.proofs.Prelude.{_≡_, sym, _∙_, subst, _≢_, ℕ, _+_, _-_, _≤_, _<_, arith, lt-ltb, le-ltb}
 use Rattle.geometry.specs.declared.Course.{Course}
 use Rattle.geometry.specs.declared.Course.the-variants.{Straight, Bent}
 use Rattle.geometry.specs.Segment.{Point, Blocked}

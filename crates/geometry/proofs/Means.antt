@@ -1,8 +1,5 @@
 -- One coordinate of a point of a segment: x is the mean of a and b with weights r and s. Assumes nothing.
-use mathlib.Core.Path.{_≡_, ap}
-use mathlib.Core.Logic.{⊎-elim}
-use Prim.Native.Nat.{ℕ, _+_, _*_, _≤_, _<_}
-use native.Mathlib.Omega.{arith}
+use Rattle.counting.proofs.Prelude.{_≡_, ap, ⊎-elim, ℕ, _+_, _*_, _≤_, _<_, arith}
 use native.Mathlib.Nat.{eq-zero-or-pos, le-antisymm, le-of-mul-le-mul-left, mul-le-mul-left}
 use Rattle.geometry.specs.Test.{left, right}
 

@@ -1,8 +1,5 @@
 -- Laws of segments. Assumes nothing.
-use mathlib.Core.Path.{_≡_, ap}
-use mathlib.Core.Logic.{_⊎_, inl, inr, ⊎-elim}
-use Prim.Native.Nat.{ℕ, _+_, _-_, _≤_, _<_}
-use native.Mathlib.Omega.{arith}
+use Rattle.counting.proofs.Prelude.{_≡_, ap, _⊎_, inl, inr, ⊎-elim, ℕ, _+_, _-_, _≤_, _<_, arith}
 use native.Mathlib.Nat.{le-antisymm}
 use Rattle.counting.proofs.Truth.{lt-or-le}
 use Rattle.geometry.specs.Segment.{Point, On, Inside, Hit}

@@ -1,10 +1,5 @@
 -- What each answer of the test says. Assumes nothing.
-use mathlib.Core.Path.{_≡_, refl, sym, _∙_}
-use mathlib.Core.Bool.{Bool, true, false, true≢false}
-use mathlib.Core.Logic.{⊎-elim}
-use Prim.Native.Nat.{ℕ, _≤_, _<_}
-use native.Mathlib.Omega.{arith}
-use borrow.Author.Tests.{eqb-true, eq-eqb, ltb-true, lt-ltb}
+use Rattle.counting.proofs.Prelude.{_≡_, refl, sym, _∙_, ⊎-elim, Bool, true, false, true≢false, ℕ, _≤_, _<_, arith, eqb-true, eq-eqb, ltb-true, lt-ltb}
 use Rattle.counting.proofs.Truth.{and-intro, and-elim, true-or-false}
 use Rattle.counting.proofs.Somes.{some-found, some-which}
 use Rattle.geometry.specs.Segment.{Point, Hit, Blocked}

@@ -1,13 +1,5 @@
 -- The candidates of a cross edge, as two masks. Assumes nothing.
-use mathlib.Core.Path.{_≡_, refl, ap, ap₂, _∙_}
-use mathlib.Core.Logic.{_⊎_, inl, inr, ⊎-elim}
-use mathlib.Core.Bool.{not, _&&_}
-use mathlib.Core.List.{List}
-use Prim.Native.Nat.{ℕ, _+_, _-_, _*_, _^_, _<_, min, max}
-use native.Mathlib.Omega.{arith}
-use borrow.Author.Tests.{lt-ltb, le-ltb}
-use lib.Dec.{eqb}
-use lib.ListN.{getD}
+use Rattle.counting.proofs.Prelude.{_≡_, refl, ap, ap₂, _∙_, _⊎_, inl, inr, ⊎-elim, not, _&&_, List, ℕ, _+_, _-_, _*_, _^_, _<_, min, max, arith, eqb, getD, lt-ltb, le-ltb}
 use Rattle.counting.proofs.Truth.{lt-or-le, two-cases}
 use Rattle.masks.specs.Sets.{at}
 use Rattle.masks.specs.Pairs.{inPair}

@@ -1,13 +1,6 @@
 -- Where columns stand by blocks, candidates are enough: each vertex strictly inside the segment of a cross edge is one. Assumes nothing.
-use mathlib.Core.Path.{_≡_, refl, sym, ap, _∙_}
-use mathlib.Core.Logic.{_↔_, ⊎-elim}
-use mathlib.Core.Bool.{true}
-use mathlib.Core.List.{List}
-use Prim.Native.Nat.{ℕ, _+_, _/_, _≤_, _<_, min, max}
+use Rattle.counting.proofs.Prelude.{_≡_, refl, sym, ap, _∙_, _↔_, ⊎-elim, true, List, ℕ, _+_, _/_, _≤_, _<_, min, max, arith, length, getD, eq-eqb, lt-ltb}
 use native.Mathlib.Decide.{ℕ-discrete}
-use native.Mathlib.Omega.{arith}
-use borrow.Author.Tests.{eq-eqb, lt-ltb}
-use lib.ListN.{length, getD}
 use Rattle.counting.specs.Quads.{quad}
 use Rattle.counting.proofs.Truth.{and-intro, two-cases}
 use Rattle.masks.specs.Sets.{at}

@@ -1,11 +1,6 @@
 -- Kinds by their numbers, and the cases of a kind by tables. Assumes nothing.
-use mathlib.Core.Path.{_≡_, refl, sym, ap, _∙_}
-use mathlib.Core.Bool.{true, false}
-use mathlib.Core.List.{List}
-use Prim.Native.Nat.{ℕ, _+_, min}
-use lib.Dec.{eqb}
+use Rattle.counting.proofs.Prelude.{_≡_, refl, sym, ap, _∙_, true, false, List, ℕ, _+_, min, eqb, eq-eqb, ne-eqb}
 use Rattle.counting.specs.Quads.{quad}
-use borrow.Author.Tests.{eq-eqb, ne-eqb}
 use Rattle.bundles.specs.Sides.{adjacent?}
 use Rattle.geometry.specs.Segment.{pointOf, vertexCount}
 use Rattle.geometry.specs.Courses.{courseOf, courseAmong}

@@ -1,11 +1,7 @@
 -- Laws of `above`. Assumes nothing.
-use mathlib.Core.Path.{_≡_, refl, sym, ap, _∙_}
-use mathlib.Core.Logic.{⊎-elim}
-use mathlib.Core.Bool.{Bool, true, false, false≢true}
-use Prim.Native.Nat.{ℕ, zero, suc, _≤_, _<_, max}
+use Rattle.counting.proofs.Prelude.{_≡_, refl, sym, ap, _∙_, ⊎-elim, Bool, true, false, false≢true, ℕ, zero, suc, _≤_, _<_, max, arith}
 use native.Mathlib.Nat.{not-suc-le-zero}
 use native.Mathlib.Decide.{ℕ-discrete}
-use native.Mathlib.Omega.{arith}
 use Rattle.counting.specs.Count.{choose}
 use Rattle.counting.proofs.Truth.{lt-or-le}
 use Rattle.layers.specs.Rows.{above}

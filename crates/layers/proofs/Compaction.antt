@@ -1,10 +1,6 @@
 -- Theorems on rows: in a graph without cycles they obey document 01's sentence and are fewer than the vertices, and no rows that rise
 -- along every edge are lower. Assumes nothing.
-use mathlib.Core.Path.{_≡_, sym, ap}
-use mathlib.Core.Logic.{inr, ⊎-elim}
-use mathlib.Core.Bool.{Bool, true}
-use Prim.Native.Nat.{ℕ, zero, suc, _≤_, _<_, zero-le}
-use native.Mathlib.Omega.{arith}
+use Rattle.counting.proofs.Prelude.{_≡_, sym, ap, inr, ⊎-elim, Bool, true, ℕ, zero, suc, _≤_, _<_, zero-le, arith}
 use Rattle.counting.specs.Count.{indicator, count}
 use Rattle.counting.proofs.Truth.{indicator-le, true-or-false}
 use Rattle.counting.proofs.Sums.{sum-bound, sum-smaller}

@@ -1,10 +1,6 @@
 -- How the row of a vertex depends on how far back edges are followed. Assumes nothing.
-use mathlib.Core.Path.{_≡_}
-use mathlib.Core.Logic.{_⊎_, inl, inr, ⊎-elim}
-use mathlib.Core.Bool.{Bool}
-use Prim.Native.Nat.{ℕ, zero, suc, _≤_, _<_}
+use Rattle.counting.proofs.Prelude.{_≡_, _⊎_, inl, inr, ⊎-elim, Bool, ℕ, zero, suc, _≤_, _<_, arith}
 use native.Mathlib.Nat.{not-suc-le-zero}
-use native.Mathlib.Omega.{arith}
 use Rattle.layers.specs.Rows.{rowWithin}
 use Rattle.layers.proofs.Above.{above-each, above-le, above-ext}
 

@@ -1,9 +1,5 @@
 -- The theorems of `Compaction` for the edges of a graph without cycles. Assumes nothing.
-use mathlib.Core.Path.{_≡_, sym, _∙_}
-use mathlib.Core.Bool.{false, true≢false}
-use mathlib.Core.List.{List}
-use Prim.Native.Nat.{ℕ, _≤_, _<_}
-use native.Mathlib.Omega.{arith}
+use Rattle.counting.proofs.Prelude.{_≡_, sym, _∙_, false, true≢false, List, ℕ, _≤_, _<_, arith}
 use Rattle.counting.specs.Count.{some}
 use Rattle.counting.proofs.Somes.{some-found}
 use Rattle.reach.specs.Graph.{edge?}

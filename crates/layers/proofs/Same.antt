@@ -1,8 +1,5 @@
 -- Rows go by the edges between the n vertices alone. Assumes nothing.
-use mathlib.Core.Path.{_≡_, refl, ap, ap₂, _∙_}
-use mathlib.Core.Bool.{Bool, true}
-use Prim.Native.Nat.{ℕ, zero, suc, _<_, max}
-use native.Mathlib.Omega.{arith}
+use Rattle.counting.proofs.Prelude.{_≡_, refl, ap, ap₂, _∙_, Bool, true, ℕ, zero, suc, _<_, max, arith}
 use Rattle.counting.specs.Count.{choose}
 use Rattle.layers.specs.Rows.{above, rowWithin, mostRows, row, rowsUsed}
 use Rattle.layers.proofs.Above.{above-ext}

@@ -1,11 +1,6 @@
 -- A list that stores fill, one after the other. Assumes nothing.
-use mathlib.Core.Path.{_≡_, refl, subst, _∙_}
-use mathlib.Core.List.{List}
-use mathlib.Core.Logic.{⊎-elim}
-use Prim.Native.Nat.{ℕ, _+_, _<_, _≤_}
+use Rattle.counting.proofs.Prelude.{_≡_, refl, subst, _∙_, ⊎-elim, List, ℕ, _+_, _<_, _≤_, arith, length, set, length-set}
 use native.Mathlib.Nat.{eq-or-lt-of-le, le-antisymm}
-use native.Mathlib.Omega.{arith}
-use lib.ListN.{length, set, length-set}
 use lib.Seq.{getD-set-same, getD-set-other}
 use Rattle.lists.specs.Filled.{Filled}
 

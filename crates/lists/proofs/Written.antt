@@ -1,11 +1,6 @@
 -- A list whose first entries are written one after the other. Assumes nothing.
-use mathlib.Core.Path.{_≡_, refl, _∙_}
-use Prim.Native.Nat.{ℕ, zero, suc, _<_, _≤_}
+use Rattle.counting.proofs.Prelude.{_≡_, refl, _∙_, ⊎-elim, List, ℕ, zero, suc, _<_, _≤_, arith, length, getD, set, length-set}
 use native.Mathlib.Nat.{eq-or-lt-of-le}
-use native.Mathlib.Omega.{arith}
-use mathlib.Core.List.{List}
-use mathlib.Core.Logic.{⊎-elim}
-use lib.ListN.{length, getD, set, length-set}
 use lib.Seq.{getD-set-same, getD-set-other, ext-getD}
 use Rattle.lists.specs.Filled.{Filled}
 

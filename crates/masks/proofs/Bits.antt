@@ -1,16 +1,11 @@
 -- Laws of `bit`: of `|`, `&` and `!`, of a shift, of one bit, of the trailing zeros and of the count of ones. Assumes nothing.
-use mathlib.Core.Path.{_≡_, refl, sym, ap, ap₂, _∙_, subst}
-use mathlib.Core.Logic.{_≢_, _⊎_, inl, inr}
-use mathlib.Core.Bool.{not, _&&_}
-use Prim.Native.Nat.{ℕ, zero, suc, _+_, _-_, _*_, _/_, _%_, _^_, _≤_, _<_, suc-le-suc, max, min}
+use Rattle.counting.proofs.Prelude.{_≡_, refl, sym, ap, ap₂, _∙_, subst, _≢_, _⊎_, inl, inr, not, _&&_, ℕ, zero, suc, _+_, _-_, _*_, _/_, _%_, _^_, _≤_, _<_, suc-le-suc, max, min, arith, eqb}
 use native.Mathlib.Nat.{mod-lt, zero-lt-suc, zero-div, one-mul, le-of-suc-le-suc, not-suc-le-zero, div-one, lt-irrefl, div-eq-of-lt, lt-of-lt-of-le, pow-suc}
 use native.Mathlib.Numerals.{add-one, one-add}
-use native.Mathlib.Omega.{arith}
 use lib.Arith.{digits-mod, digits-div, lt-one, le-zero}
 use lib.Pow.{pow-mono, shr-shr, shl-exact, shr-lt}
 use lib.Bits.{bitOr, bitAnd, or-shr, or-step, and-shr, and-step, shifted-half, shifted-even}
 use lib.Count.{ones, ones-step, ones-le, trailingZeros, under}
-use lib.Dec.{eqb}
 use Rattle.counting.specs.Count.{sum}
 use Rattle.counting.proofs.Sums.{sum-ext, sum-front}
 use Rattle.counting.proofs.Truth.{two-cases}

@@ -1,10 +1,7 @@
 -- The lowest set bit of a number cleared, x & (x - 1): the bit at the trailing zeros' count is gone, and every other stays. Assumes nothing.
-use mathlib.Core.Path.{_≡_, refl, sym, ap, _∙_, subst}
-use mathlib.Core.Logic.{_≢_}
-use Prim.Native.Nat.{ℕ, zero, suc, _-_, _*_, _/_, _%_, _^_, _<_, min}
+use Rattle.counting.proofs.Prelude.{_≡_, refl, sym, ap, _∙_, subst, _≢_, ℕ, zero, suc, _-_, _*_, _/_, _%_, _^_, _<_, min, arith}
 use native.Mathlib.Nat.{mod-lt, zero-lt-suc, lt-irrefl}
 use native.Mathlib.Numerals.{add-one}
-use native.Mathlib.Omega.{arith}
 use lib.Arith.{bin-ind, lt-one}
 use lib.Bits.{bitAnd, and-step, and-le-r}
 use lib.Count.{trailingZeros, under}

@@ -1,16 +1,8 @@
 -- Laws of a set with a vertex put in, and of the empty set. Assumes nothing.
-use mathlib.Core.Path.{_≡_, ap, _∙_}
-use mathlib.Core.Logic.{_≢_}
-use mathlib.Core.Bool.{true, false}
-use mathlib.Core.List.{List}
-use Prim.Native.Nat.{ℕ, _+_, _/_, _%_, _^_, _<_}
+use Rattle.counting.proofs.Prelude.{_≡_, ap, _∙_, _≢_, true, false, List, ℕ, _+_, _/_, _%_, _^_, _<_, arith, eqb, length, getD, set, replicate, length-set, eq-eqb}
 use native.Mathlib.Decide.{ℕ-discrete, decLt}
-use native.Mathlib.Omega.{arith}
 use lib.Bits.{bitOr}
-use lib.Dec.{eqb}
-use lib.ListN.{length, getD, set, replicate, length-set}
 use lib.Seq.{getD-set-same, getD-set-other, set-out}
-use borrow.Author.Tests.{eq-eqb}
 use Rattle.masks.specs.Bits.{bit}
 use Rattle.masks.specs.Sets.{maskOf, member, member?, at, inserted}
 use Rattle.masks.proofs.Bits.{with-here, with-other}

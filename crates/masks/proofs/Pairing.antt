@@ -1,11 +1,6 @@
 -- Laws of a set in two masks. Assumes nothing.
-use mathlib.Core.Path.{_≡_, sym, ap, ap₂, _∙_}
-use mathlib.Core.Logic.{_⊎_, inl, inr, ⊎-elim}
-use mathlib.Core.List.{List, [], _∷_}
-use Prim.Native.Nat.{ℕ, _+_, _-_, _*_, _/_, _%_, _^_, _<_, max, min}
-use native.Mathlib.Omega.{arith}
+use Rattle.counting.proofs.Prelude.{_≡_, sym, ap, ap₂, _∙_, _⊎_, inl, inr, ⊎-elim, List, [], _∷_, ℕ, _+_, _-_, _*_, _/_, _%_, _^_, _<_, max, min, arith, getD}
 use lib.Bits.{bitOr, bitAnd}
-use lib.ListN.{getD}
 use Rattle.counting.proofs.Truth.{lt-or-le}
 use Rattle.masks.specs.Bits.{bit}
 use Rattle.masks.specs.Sets.{member, at}

@@ -1,15 +1,9 @@
 -- Laws of a set of masks: its members, the count, the next member, and the union, intersection and difference, mask by mask. Assumes nothing.
-use mathlib.Core.Path.{_≡_, refl, sym, ap, ap₂, _∙_}
-use mathlib.Core.Bool.{not, _&&_}
-use mathlib.Core.List.{List}
-use Prim.Native.Nat.{ℕ, zero, suc, _+_, _*_, _/_, _%_, _^_, _<_, max}
+use Rattle.counting.proofs.Prelude.{_≡_, refl, sym, ap, ap₂, _∙_, not, _&&_, List, ℕ, zero, suc, _+_, _*_, _/_, _%_, _^_, _<_, max, arith, eqb, length, getD, set, length-set}
 use native.Mathlib.Nat.{not-suc-le-zero}
-use native.Mathlib.Omega.{arith}
 use borrow.Author.Count.{below-more}
 use lib.Bits.{bitOr, bitAnd, and-mask}
 use lib.Count.{ones}
-use lib.Dec.{eqb}
-use lib.ListN.{length, getD, set, length-set}
 use lib.Seq.{getD-set-same, getD-set-other}
 use Rattle.counting.specs.Count.{sum}
 use Rattle.counting.proofs.Sums.{sum-ext, sum-split}

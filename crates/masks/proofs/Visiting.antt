@@ -1,10 +1,7 @@
 -- A loop over the members of a mask, lowest first: x holds those that are left, and each that x lost has been seen to. Assumes nothing.
-use mathlib.Core.Path.{_≡_, sym, ap, _∙_, subst}
-use mathlib.Core.Logic.{_≢_, _⊎_, inl, inr, ⊎-elim}
-use Prim.Native.Nat.{ℕ, _^_, _<_}
+use Rattle.counting.proofs.Prelude.{_≡_, sym, ap, _∙_, subst, _≢_, _⊎_, inl, inr, ⊎-elim, ℕ, _^_, _<_, arith}
 use native.Mathlib.Nat.{lt-of-le-of-lt}
 use native.Mathlib.Decide.{ℕ-discrete}
-use native.Mathlib.Omega.{arith}
 use lib.Bits.{and-le-l}
 use lib.Count.{trailingZeros}
 use Rattle.masks.specs.Bits.{bit}

@@ -1,13 +1,7 @@
 -- The channels that predecessors make, whatever the predecessors: no vertex stands in them twice. Assumes nothing.
-use mathlib.Core.Path.{_≡_, refl, sym, ap, _∙_, subst}
-use mathlib.Core.Logic.{_≢_}
-use mathlib.Core.Bool.{Bool, true, false}
+use Rattle.counting.proofs.Prelude.{_≡_, refl, sym, ap, _∙_, subst, _≢_, Bool, true, false, ℕ, zero, suc, _+_, _≤_, _<_, arith, length, getD, length-append, eq-eqb, ne-eqb}
 use mathlib.Core.List.{List, [], _∷_, _++_, flatten}
-use Prim.Native.Nat.{ℕ, zero, suc, _+_, _≤_, _<_}
-use native.Mathlib.Omega.{arith}
 use native.Mathlib.Decide.{ℕ-discrete, decLt}
-use lib.ListN.{length, getD, length-append}
-use borrow.Author.Tests.{eq-eqb, ne-eqb}
 use Rattle.counting.specs.Count.{indicator, sum, count}
 use Rattle.matching.specs.Search.{most, nobody}
 use Rattle.matching.specs.Lists.{times}

@@ -1,14 +1,6 @@
 -- No division of the vertices, in which of two vertices of a part one leads to the other, has fewer parts than vertices are without predecessor. Assumes nothing.
-use mathlib.Core.Path.{_≡_, refl, sym, ap, _∙_, subst}
-use mathlib.Core.Logic.{⊎-elim}
-use mathlib.Core.Bool.{Bool, true, false, true≢false, not, _&&_}
-use mathlib.Core.List.{List}
-use Prim.Native.Nat.{ℕ, _+_, _≤_, _<_}
-use native.Mathlib.Omega.{arith}
+use Rattle.counting.proofs.Prelude.{_≡_, refl, sym, ap, _∙_, subst, ⊎-elim, Bool, true, false, true≢false, not, _&&_, List, ℕ, _+_, _≤_, _<_, arith, eqb, leb, getD, lt-ltb, leb-true, le-leb, lt-leb, eqb-true, eqb-false, not-true}
 use native.Mathlib.Decide.{ℕ-discrete, decLt}
-use lib.ListN.{getD}
-use lib.Dec.{eqb, leb}
-use borrow.Author.Tests.{lt-ltb, leb-true, le-leb, lt-leb, eqb-true, eqb-false, not-true}
 use Rattle.counting.specs.Count.{indicator, sum, count}
 use Rattle.counting.proofs.Truth.{and-elim}
 use Rattle.counting.proofs.Sums.{sum-ext, sum-mono}

@@ -1,14 +1,8 @@
 -- Channels that hold every vertex once, and in which each leads to the next, are a division, if `leads` is a strict order. Assumes nothing.
-use mathlib.Core.Path.{_≡_, refl, sym, ap, _∙_}
-use mathlib.Core.Logic.{_≢_, _⊎_, inl, inr, ⊎-elim}
-use mathlib.Core.Bool.{Bool, true, false, false≢true}
+use Rattle.counting.proofs.Prelude.{_≡_, refl, sym, ap, _∙_, _≢_, _⊎_, inl, inr, ⊎-elim, Bool, true, false, false≢true, ℕ, zero, suc, _+_, _≤_, _<_, arith, length, eq-eqb, ne-eqb}
 use mathlib.Core.List.{List, [], _∷_, flatten}
-use Prim.Native.Nat.{ℕ, zero, suc, _+_, _≤_, _<_}
-use native.Mathlib.Omega.{arith}
 use native.Mathlib.Nat.{not-suc-le-zero}
 use native.Mathlib.Decide.{ℕ-discrete, decLt}
-use lib.ListN.{length}
-use borrow.Author.Tests.{eq-eqb, ne-eqb}
 use Rattle.counting.proofs.Truth.{and-elim, lt-or-le}
 use Rattle.matching.specs.Lists.{times, has, placeFrom, linked, channelFrom, channelOf, positionOf, every, full, allLinked}
 use Rattle.matching.specs.Division.{Order, Covers, Channelled}

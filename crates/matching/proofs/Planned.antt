@@ -1,16 +1,8 @@
 -- The channels of the rule: each vertex leads to the next; if `leads` is a strict order they hold every vertex once and are a division,
 -- and no division has fewer parts. Assumes nothing.
-use mathlib.Core.Path.{_≡_, refl, sym, ap, _∙_, subst}
-use mathlib.Core.Logic.{_≢_}
-use mathlib.Core.Bool.{Bool, true, false}
-use mathlib.Core.List.{List, _∷_, flatten}
-use Prim.Native.Nat.{ℕ, zero, suc, _+_, _≤_, _<_}
-use native.Mathlib.Omega.{arith}
+use Rattle.counting.proofs.Prelude.{_≡_, refl, sym, ap, _∙_, subst, _≢_, Bool, true, false, List, _∷_, flatten, ℕ, zero, suc, _+_, _≤_, _<_, arith, eqb, ltb, length, getD, eq-eqb, ne-eqb, lt-ltb}
 use native.Mathlib.Nat.{not-suc-le-zero}
 use native.Mathlib.Decide.{ℕ-discrete, decLt}
-use lib.ListN.{length, getD}
-use lib.Dec.{eqb, ltb}
-use borrow.Author.Tests.{eq-eqb, ne-eqb, lt-ltb}
 use Rattle.counting.specs.Count.{indicator, sum, count}
 use Rattle.counting.proofs.Truth.{indicator-le, and-intro}
 use Rattle.counting.proofs.Sums.{sum-mono}

@@ -1,11 +1,5 @@
 -- The channels planned depend on the relation only between the n vertices: no search asks of any other. Assumes nothing.
-use mathlib.Core.Path.{_≡_, refl, sym, ap, _∙_}
-use mathlib.Core.Bool.{Bool, not, _&&_}
-use mathlib.Core.List.{List}
-use Prim.Native.Nat.{ℕ, zero, suc, _+_, _≤_, _<_}
-use native.Mathlib.Omega.{arith}
-use lib.ListN.{length, replicate, length-replicate, getD-replicate}
-use borrow.Author.Tests.{eq-eqb, ne-eqb}
+use Rattle.counting.proofs.Prelude.{_≡_, refl, sym, ap, _∙_, Bool, not, _&&_, List, ℕ, zero, suc, _+_, _≤_, _<_, arith, length, replicate, length-replicate, getD-replicate, eq-eqb, ne-eqb}
 use Rattle.matching.specs.Search.{State, most, nobody, seen, fresh, scan, augment, asks, matching, candidate, predecessorOf, marked, taken}
 use Rattle.matching.specs.Chains.{begun, planned}
 use Rattle.matching.proofs.Scan.{scan-ind, scan-end, scan-pass, scan-free, scan-moved, scan-stuck}

@@ -1,13 +1,6 @@
 -- The bundles and tracks of a sound graph: every path-transitive edge is in a bundle of its channel, and how many of both there are.
 -- Assumes nothing.
-use mathlib.Core.Path.{_≡_, refl, ap}
-use mathlib.Core.Bool.{Bool, true, false, not}
-use mathlib.Core.List.{List}
-use Prim.Native.Nat.{ℕ, _*_, _≤_, _<_, min}
-use native.Mathlib.Omega.{arith}
-use lib.Dec.{eqb}
-use lib.ListN.{length}
-use borrow.Author.Tests.{eq-eqb, eqb-true, lt-ltb}
+use Rattle.counting.proofs.Prelude.{_≡_, refl, ap, Bool, true, false, not, List, ℕ, _*_, _≤_, _<_, min, arith, eqb, length, eq-eqb, eqb-true, lt-ltb}
 use Rattle.counting.specs.Count.{count}
 use Rattle.counting.proofs.Truth.{and-intro}
 use Rattle.reach.specs.Graph.{edge?}

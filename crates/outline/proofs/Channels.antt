@@ -1,13 +1,5 @@
 -- The channels of a sound graph, given or planned: they cover the vertices and divide them, and planned ones are the fewest. Assumes nothing.
-use mathlib.Core.Path.{_≡_, refl, sym, ap, _∙_}
-use mathlib.Core.Logic.{⊎-elim}
-use mathlib.Core.Bool.{Bool, true, false, true≢false, _&&_}
-use mathlib.Core.List.{List}
-use Prim.Native.Nat.{ℕ, _≤_, _<_}
-use native.Mathlib.Omega.{arith}
-use lib.Dec.{eqb}
-use lib.ListN.{length}
-use borrow.Author.Tests.{eq-eqb}
+use Rattle.counting.proofs.Prelude.{_≡_, refl, sym, ap, _∙_, ⊎-elim, Bool, true, false, true≢false, _&&_, List, ℕ, _≤_, _<_, arith, eqb, length, eq-eqb}
 use Rattle.counting.specs.Count.{indicator, choose, sum, count, some}
 use Rattle.counting.proofs.Truth.{true-or-false, or-neither}
 use Rattle.counting.proofs.Classes.{sum-one, sum-term, count-classes}

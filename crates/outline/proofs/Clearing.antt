@@ -1,12 +1,5 @@
 -- No edge of a sound graph's chart is drawn through a vertex. Assumes nothing.
-use mathlib.Core.Path.{_≡_, refl, sym}
-use mathlib.Core.Logic.{_≢_, ⊎-elim}
-use mathlib.Core.Bool.{true, false}
-use mathlib.Core.List.{List}
-use Prim.Native.Nat.{ℕ, _+_, _<_}
-use native.Mathlib.Omega.{arith}
-use lib.Dec.{eqb}
-use borrow.Author.Tests.{eqb-true, eqb-false}
+use Rattle.counting.proofs.Prelude.{_≡_, refl, sym, _≢_, ⊎-elim, true, false, List, ℕ, _+_, _<_, arith, eqb, eqb-true, eqb-false}
 use Rattle.counting.proofs.Truth.{true-or-false, or-elim}
 use Rattle.reach.specs.Graph.{edge?}
 use Rattle.matching.specs.Lists.{channelOf, positionOf}

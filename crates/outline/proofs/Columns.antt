@@ -1,9 +1,5 @@
 -- The columns of a sound graph stand on document 01's page. Assumes nothing.
-use mathlib.Core.Path.{_≡_, refl}
-use mathlib.Core.List.{List}
-use Prim.Native.Nat.{ℕ, _+_, _≤_, _<_}
-use native.Mathlib.Omega.{arith}
-use lib.ListN.{length}
+use Rattle.counting.proofs.Prelude.{_≡_, refl, List, ℕ, _+_, _≤_, _<_, arith, length}
 use Rattle.matching.specs.Lists.{channelOf}
 use Rattle.record.specs.Checks.{Content}
 use Rattle.record.specs.Sound.{Sound}

@@ -1,10 +1,5 @@
 -- The kind of an edge, by its ends' channels and positions. Assumes nothing.
-use mathlib.Core.Path.{_≡_}
-use mathlib.Core.Logic.{_≢_}
-use mathlib.Core.Bool.{true, false}
-use mathlib.Core.List.{List}
-use Prim.Native.Nat.{ℕ}
-use borrow.Author.Tests.{eq-eqb, ne-eqb}
+use Rattle.counting.proofs.Prelude.{_≡_, _≢_, true, false, List, ℕ, eq-eqb, ne-eqb}
 use Rattle.matching.specs.Lists.{channelOf, positionOf}
 use Rattle.record.specs.Checks.{Content}
 use Rattle.bundles.specs.Bundles.{bundleOf}

@@ -1,8 +1,5 @@
 -- What leads where in a sound graph: the computed relation is reachability, and a strict order on the vertices. Assumes nothing.
-use mathlib.Core.Path.{_≡_, refl, subst}
-use mathlib.Core.Logic.{_↔_}
-use mathlib.Core.Bool.{true}
-use Prim.Native.Nat.{ℕ, _<_}
+use Rattle.counting.proofs.Prelude.{_≡_, refl, subst, _↔_, true, ℕ, _<_}
 use Rattle.matching.specs.Division.{Order}
 use Rattle.reach.specs.Graph.{Edge, edge?}
 use Rattle.reach.specs.Graph.Reaches.{one}

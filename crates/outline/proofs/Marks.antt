@@ -1,9 +1,6 @@
 -- The marks of a sound graph's edges: transitive ones are those with a longer route, and the reduced ones are the fewest links with the
 -- graph's reachability. Assumes nothing.
-use mathlib.Core.Path.{_≡_}
-use mathlib.Core.Logic.{_↔_}
-use mathlib.Core.Bool.{Bool, true, false}
-use Prim.Native.Nat.{ℕ, _≤_, _<_}
+use Rattle.counting.proofs.Prelude.{_≡_, _↔_, Bool, true, false, ℕ, _≤_, _<_}
 use Rattle.reach.specs.Graph.{Reaches, Longer, Edge}
 use Rattle.reach.proofs.Decide.{edge-decided}
 use Rattle.record.specs.Checks.{Content, edgesOf}

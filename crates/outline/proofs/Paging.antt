@@ -1,11 +1,5 @@
 -- Every polyline of a sound graph's chart stands on document 01's page. Assumes nothing.
-use mathlib.Core.Path.{_≡_, refl}
-use mathlib.Core.Logic.{_≢_, ⊎-elim}
-use mathlib.Core.List.{List}
-use Prim.Native.Nat.{ℕ, _<_}
-use native.Mathlib.Omega.{arith}
-use lib.Dec.{eqb}
-use borrow.Author.Tests.{eqb-true, eqb-false}
+use Rattle.counting.proofs.Prelude.{_≡_, refl, _≢_, ⊎-elim, List, ℕ, _<_, arith, eqb, eqb-true, eqb-false}
 use Rattle.counting.proofs.Truth.{true-or-false}
 use Rattle.matching.specs.Lists.{channelOf, positionOf}
 use Rattle.record.specs.Checks.{Content, edgesOf}

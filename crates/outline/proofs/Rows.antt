@@ -1,8 +1,5 @@
 -- The rows of a sound graph: they rise along every edge, are fewer than the vertices, and no other rows that rise are lower. Assumes nothing.
-use mathlib.Core.Path.{_≡_, refl, ap}
-use mathlib.Core.Bool.{Bool, true}
-use Prim.Native.Nat.{ℕ, _≤_, _<_}
-use native.Mathlib.Omega.{arith}
+use Rattle.counting.proofs.Prelude.{_≡_, refl, ap, Bool, true, ℕ, _≤_, _<_, arith}
 use Rattle.reach.specs.Graph.{Edge, edge?}
 use Rattle.reach.specs.Graph.Reaches.{one, more}
 use Rattle.reach.proofs.Decide.{edge-decided}

@@ -1,12 +1,6 @@
 -- Cells on the page have exact points, and what the calls test and give is what is right for their cells. Assumes nothing.
-use mathlib.Core.Path.{_≡_, refl, sym, _∙_}
-use mathlib.Core.Bool.{Bool, true, false, _||_, or-false, or-assoc}
-use mathlib.Core.List.{List, [], _∷_, map}
-use Prim.Native.Nat.{ℕ, _*_, _^_, _<_, _≤_}
+use Rattle.counting.proofs.Prelude.{_≡_, refl, sym, _∙_, Bool, true, false, _||_, or-false, or-assoc, List, [], _∷_, map, ℕ, _*_, _^_, _<_, _≤_, arith, leb, lit≤, leb-false}
 use native.Mathlib.Nat.{lt-of-lt-of-le, mul-lt-mul-of-pos-right}
-use native.Mathlib.Omega.{arith}
-use borrow.Author.Tests.{leb-false}
-use lib.Dec.{leb, lit≤}
 use lib.Ieee.Exact.{HasValue}
 use Rattle.counting.proofs.Truth.{or-neither}
 use Rattle.page.specs.declared.Cell.{Cell}

@@ -1,10 +1,6 @@
 -- A whole number below 2 ^ 24 times 0.25 is that number of quarters, exactly. Assumes nothing.
-use mathlib.Core.Path.{_≡_, refl, sym, ap, _∙_}
-use mathlib.Core.Bool.{Bool, false}
-use Prim.Native.Nat.{ℕ, _*_, _^_, _<_}
+use Rattle.counting.proofs.Prelude.{_≡_, refl, sym, ap, _∙_, Bool, false, ℕ, _*_, _^_, _<_, arith, T, le→leb, lit≤}
 use native.Mathlib.Nat.{mul-assoc, lt-of-lt-of-le}
-use native.Mathlib.Omega.{arith}
-use lib.Dec.{T, le→leb, lit≤}
 use lib.Pow.{shl-lt}
 use lib.IntN.{pos, negsuc}
 use lib.Ieee.{Float, nan, inf, fin, binary32, up, down, round, mul, ofInt, unlike, ofBits, inFloat}

@@ -1,14 +1,8 @@
 -- The loops over vertices: whose successor it is, and which channels have begun. Assumes nothing.
-use mathlib.Core.Path.{_≡_, refl, sym, ap, _∙_, subst}
-use mathlib.Core.Logic.{_≢_, _⊎_, inl, inr}
-use mathlib.Core.List.{List, [], _∷_, _++_, append-nil, append-assoc, flatten}
-use Prim.Native.Nat.{ℕ, zero, suc, _+_, _-_, _*_, _≤_, _<_, min}
-use native.Mathlib.Omega.{arith}
+use Rattle.counting.proofs.Prelude.{_≡_, refl, sym, ap, _∙_, subst, _≢_, _⊎_, inl, inr, List, [], _∷_, _++_, append-nil, append-assoc, flatten, ℕ, zero, suc, _+_, _-_, _*_, _≤_, _<_, min, arith, length, getD, set, replicate, length-append, length-set, length-replicate, getD-replicate, lt-ltb, le-ltb}
 use native.Mathlib.Decide.{ℕ-discrete}
 use native.Mathlib.Numerals.{add-one}
-use lib.ListN.{length, getD, set, replicate, length-append, length-set, length-replicate, getD-replicate}
 use lib.Seq.{getD-set-same, getD-set-other}
-use borrow.Author.Tests.{lt-ltb, le-ltb}
 use Rattle.matching.specs.Search.{nobody, matching}
 use Rattle.matching.specs.Lists.{times}
 use Rattle.matching.specs.Chains.{successorFrom, successor, chain, begun, planned}

@@ -1,11 +1,6 @@
 -- Places stored vertex by vertex: what each step of the code makes of them and of an arrangement. Assumes nothing.
-use mathlib.Core.Path.{_≡_, refl, sym, ap, _∙_}
-use mathlib.Core.Logic.{_≢_}
-use mathlib.Core.List.{List, [], _∷_, _++_, flatten}
-use Prim.Native.Nat.{ℕ, _+_, _-_, _*_, _≤_, _<_}
-use native.Mathlib.Omega.{arith}
+use Rattle.counting.proofs.Prelude.{_≡_, refl, sym, ap, _∙_, _≢_, List, [], _∷_, _++_, flatten, ℕ, _+_, _-_, _*_, _≤_, _<_, arith, length, set, length-append, length-set}
 use native.Mathlib.Decide.{ℕ-discrete}
-use lib.ListN.{length, set, length-append, length-set}
 use Rattle.counting.specs.Quads.{quad}
 use Rattle.counting.proofs.Quads.{quad-same, quad-other}
 use Rattle.matching.specs.Lists.{times, channelFrom, channelOf, positionOf}

@@ -1,13 +1,8 @@
 -- The sets by key while they are filled. Assumes nothing.
-use mathlib.Core.Path.{_≡_, sym, ap, ap₂, _∙_, subst}
-use mathlib.Core.Logic.{_≢_, _⊎_, inl, inr, ⊎-elim}
-use mathlib.Core.List.{List, [], _∷_}
-use Prim.Native.Nat.{ℕ, _+_, _-_, _*_, _/_, _≤_, _<_, max}
+use Rattle.counting.proofs.Prelude.{_≡_, sym, ap, ap₂, _∙_, subst, _≢_, _⊎_, inl, inr, ⊎-elim, List, [], _∷_, ℕ, _+_, _-_, _*_, _/_, _≤_, _<_, max, arith, length, getD, set, replicate, length-set, length-replicate}
 use native.Mathlib.Nat.{mul-le-mul-left}
 use native.Mathlib.Decide.{ℕ-discrete}
-use native.Mathlib.Omega.{arith}
 use lib.Bits.{bitOr}
-use lib.ListN.{length, getD, set, replicate, length-set, length-replicate}
 use lib.Seq.{set-out}
 use Rattle.counting.proofs.Truth.{lt-or-le}
 use Rattle.masks.specs.Sets.{at, inserted, United}

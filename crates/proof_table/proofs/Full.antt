@@ -1,13 +1,6 @@
 -- A record of 128 vertices and 4,096 edges passes every check. Assumes nothing.
-use mathlib.Core.Path.{_≡_, refl, ap, _∙_}
-use mathlib.Core.Bool.{true, false, _&&_}
-use mathlib.Core.List.{List, _∷_}
-use Prim.Native.Nat.{ℕ, zero, suc, _+_, _*_, _/_, _%_, _≤_, _<_}
-use native.Mathlib.Omega.{arith}
-use lib.Dec.{eqb, leb}
-use lib.ListN.{length, getD, take, drop}
+use Rattle.counting.proofs.Prelude.{_≡_, refl, ap, _∙_, true, false, _&&_, List, _∷_, ℕ, zero, suc, _+_, _*_, _/_, _%_, _≤_, _<_, arith, eqb, leb, length, getD, take, drop, eqb-true, lt-leb}
 use lib.Seq.{take-length}
-use borrow.Author.Tests.{eqb-true, lt-leb}
 use Rattle.counting.specs.Count.{some}
 use Rattle.counting.proofs.Somes.{some-none}
 use Rattle.counting.proofs.Truth.{and-elim}

@@ -1,8 +1,6 @@
 -- Document 01's proof table, by computation. Assumes nothing.
-use mathlib.Core.Path.{_≡_, refl}
-use mathlib.Core.Bool.{true, _||_}
+use Rattle.counting.proofs.Prelude.{_≡_, refl, true, _||_, eqb, ltb}
 use mathlib.Core.List.{flatten}
-use lib.Dec.{eqb, ltb}
 use Rattle.counting.specs.Count.{sum, count, some}
 use Rattle.counting.proofs.Truth.{or-right}
 use Rattle.masks.specs.Bits.{bit}

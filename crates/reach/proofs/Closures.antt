@@ -1,11 +1,6 @@
 -- What the bits of a graph's table say: the tests and the counts by them. Assumes nothing.
-use mathlib.Core.Path.{_≡_, ap, _∙_}
-use mathlib.Core.Logic.{⊎-elim, _↔_}
-use mathlib.Core.List.{List}
-use Prim.Native.Nat.{ℕ, _<_}
+use Rattle.counting.proofs.Prelude.{_≡_, ap, _∙_, ⊎-elim, _↔_, List, ℕ, _<_, eqb, eq-eqb, eqb-true}
 use native.Mathlib.Nat.{lt-of-lt-of-le}
-use borrow.Author.Tests.{eq-eqb, eqb-true}
-use lib.Dec.{eqb}
 use Rattle.counting.specs.Count.{indicator, sum, count}
 use Rattle.counting.proofs.Truth.{same-truth, two-cases}
 use Rattle.counting.proofs.Sums.{sum-ext}

@@ -1,15 +1,7 @@
 -- The computed forms decide their relations: `edge?` decides `Edge`, `reaches?` decides `Reaches`, `reachable?` decides `Reachable`. Assumes nothing.
-use mathlib.Core.Path.{_≡_, subst}
-use mathlib.Core.Logic.{inl, inr, ⊎-elim, _↔_}
-use mathlib.Core.Bool.{Bool, true, false, false≢true, _&&_}
-use mathlib.Core.List.{List, [], _∷_}
-use Prim.Native.Nat.{ℕ, zero, suc, _<_}
+use Rattle.counting.proofs.Prelude.{_≡_, subst, inl, inr, ⊎-elim, _↔_, Bool, true, false≢true, _&&_, List, [], _∷_, ℕ, zero, suc, _<_, arith, eqb, getD, eq-eqb, eqb-true}
 use native.Mathlib.Nat.{not-suc-le-zero}
 use native.Mathlib.Numerals.{add-one}
-use native.Mathlib.Omega.{arith}
-use borrow.Author.Tests.{eq-eqb, eqb-true}
-use lib.Dec.{eqb}
-use lib.ListN.{getD}
 use Rattle.counting.proofs.Truth.{and-intro, and-elim, or-left, or-right, or-elim}
 use Rattle.reach.specs.Graph.{Reaches, edgeCount, Edge, edge?, reaches?}
 use Rattle.reach.specs.Graph.Reaches.{one}

@@ -1,9 +1,5 @@
 -- The edges of bytes, two an edge. Assumes nothing.
-use mathlib.Core.Path.{_≡_, refl, ap, _∙_}
-use mathlib.Core.List.{List, [], _∷_}
-use Prim.Native.Nat.{ℕ, zero, suc, _+_, _*_, _/_}
-use native.Mathlib.Omega.{arith}
-use lib.ListN.{length, getD, drop, length-drop}
+use Rattle.counting.proofs.Prelude.{_≡_, refl, ap, _∙_, List, [], _∷_, ℕ, zero, suc, _+_, _*_, _/_, arith, length, getD, drop, length-drop}
 use lib.Seq.{getD-drop}
 use Rattle.reach.specs.Graph.{edgeCount}
 use Rattle.reach.specs.Ends.{alternate, tailsOf, headsOf}

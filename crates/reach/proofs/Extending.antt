@@ -1,7 +1,5 @@
 -- One edge more: what is reached then, and that no cycle is made where the head does not reach the tail. Assumes nothing.
-use mathlib.Core.Path.{_≡_, sym, _∙_, subst}
-use mathlib.Core.Logic.{_⊎_, inl, inr, ⊎-elim, _↔_}
-use Prim.Native.Nat.{ℕ}
+use Rattle.counting.proofs.Prelude.{_≡_, sym, _∙_, subst, _⊎_, inl, inr, ⊎-elim, _↔_, ℕ}
 use Rattle.reach.specs.Graph.{Reaches}
 use Rattle.reach.specs.Graph.Reaches.{one, more}
 use Rattle.reach.proofs.Routes.{reaches-trans}

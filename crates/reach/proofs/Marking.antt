@@ -1,12 +1,7 @@
 -- The table that has the edges' own bits, and no other. Assumes nothing.
-use mathlib.Core.Path.{_≡_, sym, ap₂, _∙_, subst}
-use mathlib.Core.Logic.{_≢_}
-use mathlib.Core.List.{List}
-use Prim.Native.Nat.{ℕ, _+_, _*_, _<_}
+use Rattle.counting.proofs.Prelude.{_≡_, sym, ap₂, _∙_, subst, _≢_, List, ℕ, _+_, _*_, _<_, arith, getD}
 use native.Mathlib.Decide.{ℕ-discrete}
-use native.Mathlib.Omega.{arith}
 use borrow.Author.Count.{below-more}
-use lib.ListN.{getD}
 use Rattle.masks.specs.Sets.{at}
 use Rattle.masks.proofs.Tables.{Put}
 use Rattle.reach.specs.Graph.{edgeCount, Edge}

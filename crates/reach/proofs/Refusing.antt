@@ -1,13 +1,5 @@
 -- What it means that a graph is not refused. Assumes nothing.
-use mathlib.Core.Path.{_≡_, refl, sym, _∙_}
-use mathlib.Core.Logic.{⊎-elim}
-use mathlib.Core.Bool.{Bool, true, false, true≢false, _||_}
-use mathlib.Core.List.{List}
-use Prim.Native.Nat.{ℕ, _≤_, _<_}
-use native.Mathlib.Omega.{arith}
-use borrow.Author.Tests.{leb-false, ltb-false}
-use lib.Dec.{eqb, leb, ltb}
-use lib.ListN.{getD}
+use Rattle.counting.proofs.Prelude.{_≡_, refl, sym, _∙_, ⊎-elim, Bool, true, false, true≢false, _||_, List, ℕ, _≤_, _<_, arith, eqb, leb, ltb, getD, leb-false, ltb-false}
 use Rattle.counting.specs.Count.{some}
 use Rattle.counting.proofs.Truth.{true-or-false, or-neither}
 use Rattle.counting.proofs.Somes.{some-found}

@@ -1,6 +1,5 @@
 -- Laws of routes: joined routes, routes of two edges or more, and where they begin and end. Assumes nothing.
-use mathlib.Core.Logic.{_↔_}
-use Prim.Native.Nat.{ℕ, _<_}
+use Rattle.counting.proofs.Prelude.{_↔_, ℕ, _<_}
 use Rattle.reach.specs.Graph.{Reaches, Longer}
 use Rattle.reach.specs.Graph.Reaches.{one, more}
 

@@ -1,6 +1,5 @@
 -- Warshall's closure over relations: a step through each vertex in turn closes the edges. Assumes nothing.
-use mathlib.Core.Logic.{_⊎_, ⊎-elim}
-use Prim.Native.Nat.{ℕ, _+_, _<_}
+use Rattle.counting.proofs.Prelude.{_⊎_, ⊎-elim, ℕ, _+_, _<_}
 use borrow.Author.Count.{below-more}
 use Rattle.reach.specs.Graph.{Reaches}
 use Rattle.reach.specs.Graph.Reaches.{one, more}

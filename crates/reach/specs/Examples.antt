@@ -3,7 +3,6 @@ use mathlib.Core.Path.{_≡_, refl}
 use mathlib.Core.Bool.{true, false}
 use mathlib.Core.List.{List, [], _∷_}
 use Prim.Native.Nat.{ℕ}
-use lib.Dec.{eqb}
 use Rattle.counting.specs.Count.{sum, count, some}
 use Rattle.reach.specs.Graph.{edge?, reaches?}
 use Rattle.reach.specs.Refusal.{outsized?, strange?, verdict, refusal}

@@ -1,7 +1,5 @@
 -- What an accepted record says passes the checks. Assumes nothing.
-use mathlib.Core.Path.{_≡_, sym, subst}
-use mathlib.Core.List.{List}
-use Prim.Native.Nat.{ℕ}
+use Rattle.counting.proofs.Prelude.{_≡_, sym, subst, List, ℕ}
 use Rattle.record.specs.Checks.{Content, refusalOf}
 use Rattle.record.specs.Reading.{contentOf, recordRefusal, said}
 use Rattle.record.proofs.Readings.{accepted-says}

@@ -1,12 +1,5 @@
 -- What the checks of a graph hand over, by what the layers below promise. Assumes nothing.
-use mathlib.Core.Path.{_≡_, refl, sym, ap, _∙_, subst}
-use mathlib.Core.Logic.{_≢_}
-use mathlib.Core.Bool.{Bool, true, false, _&&_}
-use mathlib.Core.List.{List}
-use Prim.Native.Nat.{ℕ, zero, suc, _*_, _≤_, _<_, min}
-use native.Mathlib.Omega.{arith}
-use lib.Dec.{leb}
-use lib.ListN.{length}
+use Rattle.counting.proofs.Prelude.{_≡_, refl, sym, ap, _∙_, subst, _≢_, Bool, true, false, _&&_, List, ℕ, zero, suc, _*_, _≤_, _<_, min, arith, leb, length}
 use Rattle.counting.specs.Count.{choose}
 use Rattle.counting.specs.Quads.{quad}
 use Rattle.reach.specs.Refusal as edges

@@ -1,10 +1,5 @@
 -- What reading hands over, by what the checks of the record's parts say. Assumes nothing.
-use mathlib.Core.Path.{_≡_, refl, sym, ap, _∙_, subst}
-use mathlib.Core.Logic.{_≢_, _↔_}
-use mathlib.Core.List.{List}
-use Prim.Native.Nat.{ℕ, _+_, _-_, _*_, _<_}
-use native.Mathlib.Omega.{arith}
-use lib.ListN.{replicate, take, drop}
+use Rattle.counting.proofs.Prelude.{_≡_, refl, sym, ap, _∙_, subst, _≢_, _↔_, List, ℕ, _+_, _-_, _*_, _<_, arith, replicate, take, drop}
 use Rattle.masks.specs.Sets.{at}
 use Rattle.reach.specs.Closure.{Reachable}
 use Rattle.reach.specs.Ends.{tailsOf, headsOf}

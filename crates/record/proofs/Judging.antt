@@ -1,12 +1,5 @@
 -- The checks one after the other: by the refusal of the edges alone, and then by the given channels. Assumes nothing.
-use mathlib.Core.Path.{_≡_, refl, sym, ap, _∙_}
-use mathlib.Core.Logic.{_≢_}
-use mathlib.Core.Bool.{Bool, true, false, _&&_, _||_}
-use mathlib.Core.List.{List}
-use Prim.Native.Nat.{ℕ, _≤_, _<_}
-use native.Mathlib.Omega.{arith}
-use borrow.Author.Tests.{le-leb, lt-leb}
-use lib.Dec.{eqb, leb}
+use Rattle.counting.proofs.Prelude.{_≡_, refl, sym, ap, _∙_, _≢_, Bool, true, false, _&&_, _||_, List, ℕ, _≤_, _<_, arith, eqb, leb, le-leb, lt-leb}
 use Rattle.counting.specs.Count.{choose, some}
 use Rattle.reach.specs.Graph.{edgeCount}
 use Rattle.reach.specs.Refusal as edges

@@ -1,12 +1,5 @@
 -- What a record says, by whether it is accepted. Assumes nothing.
-use mathlib.Core.Path.{_≡_, refl, sym, ap, ap₂, _∙_, subst}
-use mathlib.Core.Logic.{_≢_, _↔_}
-use mathlib.Core.Bool.{Bool}
-use mathlib.Core.List.{List, []}
-use Prim.Native.Nat.{ℕ, _+_, _-_, _*_, _<_}
-use native.Mathlib.Omega.{arith}
-use borrow.Author.Tests.{eq-eqb, ne-eqb}
-use lib.ListN.{length, take, drop}
+use Rattle.counting.proofs.Prelude.{_≡_, refl, sym, ap, ap₂, _∙_, subst, _≢_, _↔_, Bool, List, [], ℕ, _+_, _-_, _*_, _<_, arith, length, take, drop, eq-eqb, ne-eqb}
 use Rattle.counting.specs.Count.{choose}
 use Rattle.masks.specs.Sets.{at}
 use Rattle.masks.proofs.Tables.{at-zeros}

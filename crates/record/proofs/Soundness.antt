@@ -1,13 +1,5 @@
 -- A record is accepted exactly when it is sound. Assumes nothing.
-use mathlib.Core.Path.{_≡_, refl, sym, ap, _∙_, subst}
-use mathlib.Core.Logic.{_↔_, _⊎_, ⊎-elim, _≢_}
-use mathlib.Core.Bool.{Bool, true, false, true≢false, not, _&&_, _||_}
-use mathlib.Core.List.{List, [], _∷_}
-use Prim.Native.Nat.{ℕ, zero, suc, _≤_, _<_}
-use native.Mathlib.Omega.{arith}
-use borrow.Author.Tests.{eq-eqb, ne-eqb, eqb-true, eqb-false, le-ltb, lt-leb, leb-false, ltb-false}
-use lib.Dec.{eqb, leb, ltb}
-use lib.ListN.{length, getD}
+use Rattle.counting.proofs.Prelude.{_≡_, refl, sym, ap, _∙_, subst, _↔_, _⊎_, ⊎-elim, _≢_, Bool, true, false, true≢false, not, _&&_, _||_, List, [], _∷_, ℕ, zero, suc, _≤_, _<_, arith, eqb, leb, ltb, length, getD, eq-eqb, ne-eqb, eqb-true, eqb-false, le-ltb, lt-leb, leb-false, ltb-false}
 use Rattle.counting.specs.Count.{choose, some}
 use Rattle.counting.proofs.Falsity.{not-true, neither}
 use Rattle.counting.proofs.Truth.{lt-or-le, and-intro, and-elim, or-neither}

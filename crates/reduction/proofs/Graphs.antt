@@ -1,8 +1,5 @@
 -- A graph that is not refused, with no cycle and no two edges alike, is what the laws of reduction ask for. Assumes nothing.
-use mathlib.Core.Path.{_≡_}
-use mathlib.Core.List.{List}
-use Prim.Native.Nat.{ℕ, _<_}
-use lib.ListN.{getD}
+use Rattle.counting.proofs.Prelude.{_≡_, List, ℕ, _<_, getD}
 use Rattle.reach.specs.Graph.{Reaches, edgeCount, Edge}
 use Rattle.reach.specs.Refusal.{refusal}
 use Rattle.reach.specs.Closure.{reachable?}

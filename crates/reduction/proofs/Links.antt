@@ -1,11 +1,5 @@
 -- The reduced edges are the fewest links with the graph's reachability. Assumes nothing.
-use mathlib.Core.Path.{_≡_, refl, sym, ap, ap₂, _∙_}
-use mathlib.Core.Logic.{_↔_}
-use mathlib.Core.Bool.{Bool, true, false, true≢false, not}
-use mathlib.Core.List.{List}
-use Prim.Native.Nat.{ℕ, _≤_, _<_}
-use native.Mathlib.Omega.{arith}
-use lib.ListN.{getD}
+use Rattle.counting.proofs.Prelude.{_≡_, refl, sym, ap, ap₂, _∙_, _↔_, Bool, true, false, true≢false, not, List, ℕ, _≤_, _<_, arith, getD}
 use Rattle.counting.proofs.Truth.{and-intro, and-elim}
 use Rattle.reach.specs.Graph.{Reaches, edgeCount, Edge}
 use Rattle.reach.specs.Graph.Reaches.{one, more}

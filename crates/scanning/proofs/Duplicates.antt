@@ -1,12 +1,5 @@
 -- A table of the edges seen so far tells whether the next stands among them. Assumes nothing.
-use mathlib.Core.Path.{_≡_, sym, ap₂, _∙_}
-use mathlib.Core.Logic.{⊎-elim}
-use mathlib.Core.Bool.{true, false}
-use mathlib.Core.List.{List}
-use Prim.Native.Nat.{ℕ, _*_, _<_}
-use borrow.Author.Tests.{eq-eqb, eqb-true}
-use lib.Dec.{eqb}
-use lib.ListN.{getD}
+use Rattle.counting.proofs.Prelude.{_≡_, sym, ap₂, _∙_, ⊎-elim, true, false, List, ℕ, _*_, _<_, eqb, getD, eq-eqb, eqb-true}
 use Rattle.counting.specs.Count.{some}
 use Rattle.counting.proofs.Truth.{and-intro, and-elim, true-or-false}
 use Rattle.counting.proofs.Somes.{some-found, some-which}

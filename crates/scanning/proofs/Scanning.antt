@@ -1,16 +1,8 @@
 -- The pass over the edges' bytes, one edge after the other. Assumes nothing.
-use mathlib.Core.Path.{_≡_, refl, sym, ap, ap₂, _∙_, subst}
-use mathlib.Core.Logic.{_⊎_, ⊎-elim}
-use mathlib.Core.Bool.{Bool, true, false, true≢false, _||_}
-use mathlib.Core.List.{List}
-use Prim.Native.Nat.{ℕ, _+_, _*_, _/_, _%_, _≤_, _<_, min}
+use Rattle.counting.proofs.Prelude.{_≡_, refl, sym, ap, ap₂, _∙_, subst, _⊎_, ⊎-elim, Bool, true, false, true≢false, _||_, List, ℕ, _+_, _*_, _/_, _%_, _≤_, _<_, min, arith, eqb, leb, ltb, length, getD, eqb-true, eqb-false, ltb-false, le-leb, lt-leb}
 use native.Mathlib.Nat.{not-suc-le-zero, lt-of-lt-of-le}
 use native.Mathlib.Numerals.{add-one}
-use native.Mathlib.Omega.{arith}
 use borrow.Author.Count.{below-more}
-use borrow.Author.Tests.{eqb-true, eqb-false, ltb-false, le-leb, lt-leb}
-use lib.Dec.{eqb, leb, ltb}
-use lib.ListN.{length, getD}
 use lib.Seq.{getD-set-other}
 use Rattle.counting.specs.Count.{choose, some}
 use Rattle.counting.proofs.Truth.{or-left, or-right, or-neither}

@@ -1,10 +1,5 @@
 -- A line read byte by byte comes to the command that it orders. Assumes nothing.
-use mathlib.Core.Path.{_≡_, refl, sym, ap, ap₂, _∙_}
-use mathlib.Core.Bool.{Bool, true, false}
-use mathlib.Core.List.{List, [], _∷_}
-use Prim.Native.Nat.{ℕ, zero-le}
-use native.Mathlib.Omega.{arith}
-use lib.Dec.{eqb}
+use Rattle.counting.proofs.Prelude.{_≡_, refl, sym, ap, ap₂, _∙_, Bool, true, false, List, [], _∷_, ℕ, zero-le, arith, eqb}
 use Rattle.counting.specs.Count.{choose}
 use Rattle.script.specs.declared.Numeral.{Numeral}
 use Rattle.script.specs.declared.Scanner.{Scanner}

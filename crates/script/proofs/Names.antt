@@ -1,14 +1,7 @@
 -- A name matched byte by byte: it is matched whole exactly when the part is the name. Assumes nothing.
-use mathlib.Core.Path.{_≡_, refl, _∙_}
-use mathlib.Core.Bool.{Bool, true, false, _&&_}
-use mathlib.Core.List.{List, [], _∷_}
-use Prim.Native.Nat.{ℕ, _+_, _≤_, _<_}
+use Rattle.counting.proofs.Prelude.{_≡_, refl, _∙_, Bool, true, false, _&&_, List, [], _∷_, ℕ, _+_, _≤_, _<_, arith, eqb, ltb, length, getD, drop, drop-of-length-le, eq-eqb, ne-eqb, lt-ltb, le-ltb}
 use native.Mathlib.Decide.{decLt}
 use native.Mathlib.Numerals.{add-one}
-use native.Mathlib.Omega.{arith}
-use borrow.Author.Tests.{eq-eqb, ne-eqb, lt-ltb, le-ltb}
-use lib.Dec.{eqb, ltb}
-use lib.ListN.{length, getD, drop, drop-of-length-le}
 use lib.Seq.{drop-cons}
 use Rattle.counting.specs.Count.{choose}
 use Rattle.script.specs.Orders.{same}

@@ -1,9 +1,5 @@
 -- A number read digit by digit: its value, cut to the largest. Assumes nothing.
-use mathlib.Core.Path.{_≡_, refl, ap, _∙_}
-use mathlib.Core.Bool.{Bool, true, false}
-use mathlib.Core.List.{List, [], _∷_}
-use Prim.Native.Nat.{ℕ, _+_, _-_, _*_, min}
-use native.Mathlib.Omega.{arith}
+use Rattle.counting.proofs.Prelude.{_≡_, refl, ap, _∙_, Bool, true, false, List, [], _∷_, ℕ, _+_, _-_, _*_, min, arith}
 use Rattle.counting.specs.Count.{choose}
 use Rattle.script.specs.declared.Numeral.{Numeral}
 use Rattle.script.specs.declared.Command.{Command}

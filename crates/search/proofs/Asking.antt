@@ -1,11 +1,6 @@
 -- The loop over vertices: who asked. Assumes nothing.
-use mathlib.Core.Path.{_≡_, sym, ap, _∙_}
-use mathlib.Core.Bool.{Bool}
-use mathlib.Core.List.{List}
-use Prim.Native.Nat.{ℕ, suc, _+_, _-_, _≤_, _<_}
-use native.Mathlib.Omega.{arith}
+use Rattle.counting.proofs.Prelude.{_≡_, sym, ap, _∙_, Bool, List, ℕ, suc, _+_, _-_, _≤_, _<_, arith, replicate}
 use native.Mathlib.Numerals.{add-one}
-use lib.ListN.{replicate}
 use Rattle.matching.specs.Search.{nobody, fresh, asks, matching}
 use Rattle.matching.proofs.Asked.{unvisited-le}
 use Rattle.search.specs.Search.{state, Augments}

@@ -1,14 +1,7 @@
 -- What holds in the middle of the code's search, and what each of its steps makes of it. Assumes nothing.
-use mathlib.Core.Path.{_≡_, refl, sym, ap, _∙_}
-use mathlib.Core.Logic.{_≢_, ⊎-elim}
-use mathlib.Core.Bool.{Bool, true, false, not, _&&_, true≢false}
-use mathlib.Core.List.{List}
-use Prim.Native.Nat.{ℕ, zero, suc, _+_, _-_, _≤_, _<_}
-use native.Mathlib.Omega.{arith}
+use Rattle.counting.proofs.Prelude.{_≡_, refl, sym, ap, _∙_, _≢_, ⊎-elim, Bool, true, false, not, _&&_, true≢false, List, ℕ, zero, suc, _+_, _-_, _≤_, _<_, arith, length, getD, set, eq-eqb, ne-eqb}
 use native.Mathlib.Nat.{not-suc-le-zero, add-suc, add-zero}
 use native.Mathlib.Decide.{decLt, ℕ-discrete}
-use lib.ListN.{length, getD, set}
-use borrow.Author.Tests.{eq-eqb, ne-eqb}
 use Rattle.counting.proofs.Truth.{lt-or-le}
 use Rattle.masks.specs.Sets.{member?, inserted}
 use Rattle.masks.proofs.Members.{length-inserted}

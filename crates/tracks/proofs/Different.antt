@@ -1,14 +1,8 @@
 -- Laws of `differentIn` and `topIn`; nothing else opens them. Assumes nothing.
-use mathlib.Core.Path.{_≡_, refl, sym, ap, ap₂, _∙_}
-use mathlib.Core.Logic.{_⊎_, inl, inr}
-use mathlib.Core.Bool.{Bool, true, false, true≢false, not, _&&_, _||_}
-use Prim.Native.Nat.{ℕ, zero, suc, _+_, _≤_, _<_, max}
-use native.Mathlib.Omega.{arith}
+use Rattle.counting.proofs.Prelude.{_≡_, refl, sym, ap, ap₂, _∙_, _⊎_, inl, inr, Bool, true, false, true≢false, not, _&&_, _||_, ℕ, zero, suc, _+_, _≤_, _<_, max, arith, eqb, eq-eqb, ne-eqb, eqb-true, not-true}
 use native.Mathlib.Nat.{not-suc-le-zero}
 use native.Mathlib.Decide.{ℕ-discrete, decLt}
 use native.Mathlib.Numerals.{add-one}
-use lib.Dec.{eqb}
-use borrow.Author.Tests.{eq-eqb, ne-eqb, eqb-true, not-true}
 use Rattle.counting.specs.Count.{indicator, choose, sum, count, some}
 use Rattle.counting.proofs.Truth.{and-intro, and-elim}
 use Rattle.counting.proofs.Somes.{some-found, some-which, some-ext}

@@ -1,11 +1,5 @@
 -- The tracks hang on the first n bundles only. Assumes nothing.
-use mathlib.Core.Path.{_≡_, refl, ap, ap₂, _∙_}
-use mathlib.Core.Bool.{Bool, _&&_, _||_}
-use mathlib.Core.List.{List}
-use Prim.Native.Nat.{ℕ, zero, suc, _+_, _≤_, _<_}
-use native.Mathlib.Omega.{arith}
-use lib.ListN.{getD, set}
-use lib.Dec.{eqb, leb, ltb}
+use Rattle.counting.proofs.Prelude.{_≡_, refl, ap, ap₂, _∙_, Bool, _&&_, _||_, List, ℕ, zero, suc, _+_, _≤_, _<_, arith, eqb, leb, ltb, getD, set}
 use Rattle.counting.specs.Count.{choose}
 use Rattle.counting.proofs.Somes.{some-ext}
 use Rattle.tracks.specs.Tracks.{mostRows, earlier, meet, blocks, busy, placed, inRow, inRows, tracks}

@@ -1,15 +1,7 @@
 -- Laws of `lowestFree`, and of the tests of `busy`; nothing else opens them. Assumes nothing.
-use mathlib.Core.Path.{_≡_, refl, sym, ap, ap₂, _∙_}
-use mathlib.Core.Logic.{_⊎_, inl, inr, ⊎-elim}
-use mathlib.Core.Bool.{Bool, true, false, _&&_}
-use mathlib.Core.List.{List}
-use Prim.Native.Nat.{ℕ, zero, suc, _+_, _*_, _≤_, _<_, max}
-use native.Mathlib.Omega.{arith}
+use Rattle.counting.proofs.Prelude.{_≡_, refl, sym, ap, ap₂, _∙_, _⊎_, inl, inr, ⊎-elim, Bool, true, false, _&&_, List, ℕ, zero, suc, _+_, _*_, _≤_, _<_, max, arith, eqb, leb, ltb, getD, eq-eqb, eqb-true, leb-true, le-leb, lt-ltb, le-ltb, ltb-true}
 use native.Mathlib.Nat.{not-suc-le-zero}
 use native.Mathlib.Decide.{ℕ-discrete}
-use lib.ListN.{getD}
-use lib.Dec.{eqb, leb, ltb}
-use borrow.Author.Tests.{eq-eqb, eqb-true, leb-true, le-leb, lt-ltb, le-ltb, ltb-true}
 use Rattle.counting.specs.Count.{choose}
 use Rattle.counting.proofs.Truth.{and-intro, and-elim, or-left, or-elim}
 use Rattle.counting.proofs.Falsity.{not-true}

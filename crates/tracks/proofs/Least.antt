@@ -1,14 +1,7 @@
 -- The tracks are lawful, in each channel as many as 1 + the highest, and no lawful tracks are fewer. Assumes nothing.
-use mathlib.Core.Path.{_≡_, refl, sym, ap, _∙_}
-use mathlib.Core.Logic.{_≢_}
-use mathlib.Core.Bool.{Bool, true, _&&_}
-use Prim.Native.Nat.{ℕ, suc, _*_, _≤_, _<_}
-use native.Mathlib.Omega.{arith}
+use Rattle.counting.proofs.Prelude.{_≡_, refl, sym, ap, _∙_, _≢_, Bool, true, _&&_, ℕ, suc, _*_, _≤_, _<_, arith, eqb, leb, getD, le-leb, leb-true, eq-eqb, eqb-true}
 use native.Mathlib.Nat.{le-antisymm}
 use native.Mathlib.Decide.{ℕ-discrete, decLt}
-use lib.ListN.{getD}
-use lib.Dec.{eqb, leb}
-use borrow.Author.Tests.{le-leb, leb-true, eq-eqb, eqb-true}
 use Rattle.counting.specs.Count.{count}
 use Rattle.counting.proofs.Truth.{and-elim}
 use Rattle.tracks.specs.Tracks.{mostBundles, meet, tracks, differentIn, topIn}

@@ -1,15 +1,8 @@
 -- Every bundle that had its turn has the lowest track that those before it left free. Assumes nothing.
-use mathlib.Core.Path.{_≡_, sym, ap, _∙_}
-use mathlib.Core.Logic.{_≢_}
-use mathlib.Core.Bool.{true, false, true≢false}
-use mathlib.Core.List.{List}
-use Prim.Native.Nat.{ℕ, zero, suc, _+_, _*_, _≤_, _<_}
-use native.Mathlib.Omega.{arith}
+use Rattle.counting.proofs.Prelude.{_≡_, sym, ap, _∙_, _≢_, true, true≢false, List, ℕ, zero, suc, _+_, _*_, _≤_, _<_, arith, length, getD, set, length-set, length-replicate, eq-eqb, ne-eqb}
 use native.Mathlib.Nat.{not-suc-le-zero}
 use native.Mathlib.Decide.{ℕ-discrete, decLt}
-use lib.ListN.{length, getD, set, length-set, length-replicate}
 use lib.Seq.{getD-set-same, getD-set-other}
-use borrow.Author.Tests.{eq-eqb, ne-eqb}
 use Rattle.counting.proofs.Zeros.{zeros}
 use Rattle.tracks.specs.Tracks.{mostRows, lowestFree, blocks, busy, placed, inRow, inRows, tracks}
 use Rattle.tracks.specs.Steps.{nth}

@@ -1,8 +1,5 @@
 -- What a caller knows of the tracks. Assumes nothing.
-use mathlib.Core.Path.{_≡_, refl, ap, _∙_}
-use mathlib.Core.List.{List}
-use Prim.Native.Nat.{ℕ, _≤_}
-use native.Mathlib.Omega.{arith}
+use Rattle.counting.proofs.Prelude.{_≡_, refl, ap, _∙_, List, ℕ, _≤_, arith}
 use Rattle.counting.specs.Quads.{quad}
 use Rattle.tracks.specs.Tracks.{mostBundles, tracks}
 use Rattle.tracks.specs.Order.{Rising}

@@ -1,6 +1,5 @@
 -- `ceviloneth::ceviloneth_leads` meets its contract: each return cites the law of its case (`Asking.antt`). Assumes nothing.
-use borrow.Author.Needs.{needs}
-use native.Mathlib.Omega.{arith}
+use Rattle.counting.proofs.Prelude.{arith, needs}
 use Rattle.ceviloneth.proofs.Asking.{asked-refused, asked-tail, asked-head, few, asked-known}
 use Rattle.ceviloneth.proofs.ceviloneth_leads.Statement.{statement}
 use Rattle.ceviloneth.proofs.ceviloneth_leads.Tie as tie

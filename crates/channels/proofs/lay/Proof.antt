@@ -1,9 +1,6 @@
 -- `channels::lay` meets its contract. Assumes nothing.
-use mathlib.Core.Path.{refl}
-use native.Mathlib.Omega.{arith}
-use lib.ListN.{length-set}
+use Rattle.counting.proofs.Prelude.{refl, arith, length-set, needs}
 use Rattle.planning.proofs.Laying.{kept-same, kept-placed}
-use borrow.Author.Needs.{needs}
 use Rattle.channels.proofs.lay.Statement.{statement}
 use Rattle.channels.proofs.lay.Tie as tie
 

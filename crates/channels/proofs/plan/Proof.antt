@@ -1,7 +1,6 @@
 -- `channels::plan` meets its contract. Assumes nothing.
-use mathlib.Core.Path.{refl}
+use Rattle.counting.proofs.Prelude.{refl, needs}
 use Rattle.channels.proofs.Answers.{answers-sized, sized, plan-answers}
-use borrow.Author.Needs.{needs}
 use Rattle.channels.proofs.plan.Statement.{statement}
 use Rattle.channels.proofs.plan.Tie as tie
 

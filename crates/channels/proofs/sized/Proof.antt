@@ -1,8 +1,6 @@
 -- `channels::sized` meets its contract, return by return. Assumes nothing.
-use mathlib.Core.Path.{sym}
-use native.Mathlib.Omega.{arith}
+use Rattle.counting.proofs.Prelude.{sym, arith, needs}
 use Rattle.channels.proofs.Answers.{none-outsized, many-outsized, sized, plan-outsized, plan-taken}
-use borrow.Author.Needs.{needs}
 use Rattle.channels.proofs.sized.Statement.{statement}
 use Rattle.channels.proofs.sized.Tie as tie
 

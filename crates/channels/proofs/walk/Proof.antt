@@ -1,14 +1,10 @@
 -- `channels::walk` meets its contract: the bytes before i are looked at, and their channels laid. Assumes nothing.
-use mathlib.Core.Path.{refl, _∙_}
-use Prim.Native.Nat.{_-_, _≤_}
-use native.Mathlib.Omega.{arith}
-use lib.ListN.{length}
+use Rattle.counting.proofs.Prelude.{refl, _∙_, _-_, _≤_, arith, length, needs}
 use Rattle.search.specs.Table.{leadsIn}
 use Rattle.planning.specs.Arranged.{Kept}
 use Rattle.planning.proofs.Laying.{kept-same, kept-on}
 use Rattle.channels.proofs.Walking.{Walking, walking-none, walking-length, walked-unknown, walking-more, walked-all}
 use Rattle.channels.proofs.Tabling.{Tabling, tabling-none, tabling-length, tabling-more, walks-refused, walks-all}
-use borrow.Author.Needs.{needs}
 use Rattle.channels.proofs.walk.Statement.{statement}
 use Rattle.channels.proofs.walk.Tie as tie
 

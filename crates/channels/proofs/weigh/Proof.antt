@@ -1,8 +1,6 @@
 -- `channels::weigh` meets its contract, return by return. Assumes nothing.
-use mathlib.Core.Path.{sym, _∙_}
-use mathlib.Core.Bool.{true≢false, false, true}
+use Rattle.counting.proofs.Prelude.{sym, _∙_, true≢false, needs}
 use Rattle.channels.proofs.Walking.{weighed-again, weighed-kept, weighed-led, weighed-cut}
-use borrow.Author.Needs.{needs}
 use Rattle.channels.proofs.weigh.Statement.{statement}
 use Rattle.channels.proofs.weigh.Tie as tie
 

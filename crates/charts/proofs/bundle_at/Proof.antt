@@ -1,6 +1,5 @@
 -- `charts::bundle_at` meets its contract: the entry is the tables' by definition. Assumes nothing.
-use mathlib.Core.Path.{refl}
-use borrow.Author.Needs.{needs}
+use Rattle.counting.proofs.Prelude.{refl, needs}
 use Rattle.charts.specs.Entries.{bundleAt}
 use Rattle.charts.proofs.bundle_at.Statement.{statement}
 use Rattle.charts.proofs.bundle_at.Tie as tie

@@ -1,9 +1,5 @@
 -- `charts::counted` meets its contract. Assumes nothing.
-use mathlib.Core.Path.{_≡_, refl}
-use mathlib.Core.Bool.{Bool, true, false, not}
-use Prim.Native.Nat.{ℕ, _+_}
-use native.Mathlib.Omega.{arith}
-use borrow.Author.Needs.{needs}
+use Rattle.counting.proofs.Prelude.{_≡_, refl, Bool, true, false, not, ℕ, _+_, arith, needs}
 use Rattle.counting.specs.Count.{indicator}
 use Rattle.charts.proofs.counted.Statement.{statement}
 use Rattle.charts.proofs.counted.Tie as tie

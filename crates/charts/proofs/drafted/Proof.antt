@@ -1,6 +1,5 @@
 -- `charts::drafted` meets its contract: the tables are the plan's by definition. Assumes nothing.
-use mathlib.Core.Path.{refl}
-use borrow.Author.Needs.{needs}
+use Rattle.counting.proofs.Prelude.{refl, needs}
 use Rattle.charts.proofs.drafted.Statement.{statement}
 use Rattle.charts.proofs.drafted.Tie as tie
 

@@ -1,9 +1,7 @@
 -- `charts::edges_of` meets its contract: the fields of a good record lie within it. Assumes nothing.
-use mathlib.Core.Path.{sym, _∙_}
-use native.Mathlib.Omega.{arith}
+use Rattle.counting.proofs.Prelude.{sym, _∙_, arith, needs}
 use Rattle.fields.proofs.Standing.{layout-good}
 use Rattle.charts.proofs.Sheets.{ends-bad, ends-read}
-use borrow.Author.Needs.{needs}
 use Rattle.charts.proofs.edges_of.Statement.{statement}
 use Rattle.charts.proofs.edges_of.Tie as tie
 

@@ -1,13 +1,8 @@
 -- `charts::kind_at` meets its contract, from what `code_at` ensures of the code. Assumes nothing.
-use mathlib.Core.Path.{_≡_, sym, _∙_}
-use mathlib.Core.List.{List}
-use Prim.Native.Nat.{ℕ, min}
-use native.Mathlib.Omega.{arith}
-use lib.ListN.{length, take}
+use Rattle.counting.proofs.Prelude.{_≡_, sym, _∙_, List, ℕ, min, arith, length, take, needs}
 use lib.Seq.{length-take-le}
 use Rattle.charts.specs.Entries.{kindAt}
 use Rattle.charts.proofs.Sheets.{kind-made}
-use borrow.Author.Needs.{needs}
 use Rattle.charts.proofs.kind_at.Statement.{statement}
 use Rattle.charts.proofs.kind_at.Tie as tie
 

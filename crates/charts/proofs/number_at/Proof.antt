@@ -1,8 +1,5 @@
 -- `charts::number_at` meets its contract. Assumes nothing.
-use mathlib.Core.Path.{sym}
-use native.Mathlib.Omega.{arith}
-use lib.ListN.{List·getD-eq-default}
-use borrow.Author.Needs.{needs}
+use Rattle.counting.proofs.Prelude.{sym, arith, List·getD-eq-default, needs}
 use Rattle.charts.proofs.number_at.Statement.{statement}
 use Rattle.charts.proofs.number_at.Tie as tie
 

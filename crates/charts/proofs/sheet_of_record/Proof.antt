@@ -1,10 +1,8 @@
 -- `charts::sheet_of_record` meets its contract, from what `sheet_of_graph` ensures. Assumes nothing.
-use mathlib.Core.Path.{sym, _∙_}
-use native.Mathlib.Omega.{arith}
+use Rattle.counting.proofs.Prelude.{sym, _∙_, arith, needs}
 use Rattle.fields.proofs.Standing.{layout-good}
 use Rattle.drawing.proofs.Judging.{record-bad}
 use Rattle.charts.proofs.Sheets.{refused-sheet, record-sheet}
-use borrow.Author.Needs.{needs}
 use Rattle.charts.proofs.sheet_of_record.Statement.{statement}
 use Rattle.charts.proofs.sheet_of_record.Tie as tie
 

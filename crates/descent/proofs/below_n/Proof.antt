@@ -1,11 +1,8 @@
-use mathlib.Core.Path.{_≡_, refl, sym, ap, subst}
-use Prim.Native.Nat.{ℕ, _-_, _*_, _%_, _^_, _≤_, _<_}
+use Rattle.counting.proofs.Prelude.{_≡_, refl, sym, ap, subst, ℕ, _-_, _*_, _%_, _^_, _≤_, _<_, arith, needs}
 use native.Mathlib.Nat.{lt-of-lt-of-le}
-use native.Mathlib.Omega.{arith}
 use lib.Pow.{pow-pos, pow-mono}
 use Rattle.masks.proofs.Bits.{one-shl}
 use Rattle.descent.proofs.Starting.{ones-lt, below-law}
-use borrow.Author.Needs.{needs}
 use Rattle.descent.proofs.below_n.Statement.{statement}
 use Rattle.descent.proofs.below_n.Tie as tie
 

@@ -1,9 +1,5 @@
-use mathlib.Core.Path.{_≡_, refl}
-use Prim.Native.Nat.{_-_, _≤_, zero-le}
-use native.Mathlib.Omega.{arith}
-use lib.ListN.{length}
+use Rattle.counting.proofs.Prelude.{_≡_, refl, _-_, _≤_, zero-le, arith, length, needs}
 use Rattle.counting.proofs.Clearing.{Clearing, clearing-none, clearing-more, clearing-zero}
-use borrow.Author.Needs.{needs}
 use Rattle.descent.proofs.clear.Statement.{statement}
 use Rattle.descent.proofs.clear.Tie as tie
 

@@ -1,8 +1,4 @@
-use mathlib.Core.Path.{_≡_, refl, _∙_, subst}
-use Prim.Native.Nat.{ℕ, _+_, _-_, _*_, _≤_, _<_, zero-le}
-use native.Mathlib.Omega.{arith}
-use lib.ListN.{length}
-use borrow.Author.Needs.{needs}
+use Rattle.counting.proofs.Prelude.{_≡_, refl, _∙_, subst, ℕ, _+_, _-_, _*_, _≤_, _<_, zero-le, arith, length, needs}
 use Rattle.descent.proofs.Ranking.{inside-ample, row-long, ready-low, ready-high}
 use Rattle.descent.proofs.Ranking.{Descended, descended-none, descended-more, descended-all}
 use Rattle.descent.proofs.close.Statement.{statement}

@@ -1,9 +1,5 @@
-use mathlib.Core.Path.{_≡_, refl, _∙_}
-use Prim.Native.Nat.{_<_}
-use native.Mathlib.Omega.{arith}
+use Rattle.counting.proofs.Prelude.{_≡_, refl, _∙_, _<_, arith, length, needs}
 use lib.Count.{trailingZeros}
-use lib.ListN.{length}
-use borrow.Author.Needs.{needs}
 use Rattle.masks.proofs.Visiting.{lowest-lt, lowest-in, visited-less}
 use Rattle.descent.proofs.Rowing.{ample-same, Closing, closing-none, closing-more, closing-all}
 use Rattle.descent.proofs.close_row.Statement.{statement}

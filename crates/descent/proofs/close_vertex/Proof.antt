@@ -1,11 +1,7 @@
-use mathlib.Core.Path.{refl, _∙_}
-use Prim.Native.Nat.{_+_, _*_, _^_, _<_}
-use native.Mathlib.Omega.{arith}
+use Rattle.counting.proofs.Prelude.{refl, _∙_, _+_, _*_, _^_, _<_, arith, getD, length-set, needs}
 use lib.Bits.{bitOr, or-lt}
-use lib.ListN.{getD, length-set}
 use Rattle.counting.proofs.Quads.{quad-same, quad-other}
 use Rattle.descent.proofs.Descending.{stored-law, long-law, nested-law, vertex-law}
-use borrow.Author.Needs.{needs}
 use Rattle.descent.proofs.close_vertex.Statement.{statement}
 use Rattle.descent.proofs.close_vertex.Tie as tie
 

@@ -1,6 +1,4 @@
-use mathlib.Core.Path.{sym, _∙_}
-use borrow.Author.Needs.{needs}
-use borrow.Author.Tests.{not-true, not-false}
+use Rattle.counting.proofs.Prelude.{sym, _∙_, not-true, not-false, needs}
 use Rattle.descent.specs.Promise.{Sized}
 use Rattle.descent.proofs.Answering.{fits-sized, descends-misfit, descends-ends, descends-ready, descends-layered}
 use Rattle.descent.proofs.descend.Statement.{statement}

@@ -1,9 +1,5 @@
-use mathlib.Core.Path.{refl}
-use Prim.Native.Nat.{_+_, _*_, _≤_, _<_}
-use native.Mathlib.Omega.{arith}
+use Rattle.counting.proofs.Prelude.{refl, _+_, _*_, _≤_, _<_, arith, length, needs}
 use lib.Count.{trailingZeros}
-use lib.ListN.{length}
-use borrow.Author.Needs.{needs}
 use Rattle.masks.proofs.Visiting.{lowest-lt, lowest-in, visited-less}
 use Rattle.descent.specs.Members.{Long}
 use Rattle.descent.proofs.Gathering.{Gathering, gathering-none, gathering-more, gathering-all}

@@ -1,8 +1,4 @@
-use mathlib.Core.Path.{_≡_, refl, _∙_, subst}
-use Prim.Native.Nat.{ℕ, _+_, _-_, _*_, _≤_, zero-le}
-use native.Mathlib.Omega.{arith}
-use lib.ListN.{length, length-set}
-use borrow.Author.Needs.{needs}
+use Rattle.counting.proofs.Prelude.{_≡_, refl, _∙_, subst, ℕ, _+_, _-_, _*_, _≤_, zero-le, arith, length, length-set, needs}
 use Rattle.descent.specs.Members.{Below}
 use Rattle.descent.proofs.Descending.{stored-law}
 use Rattle.descent.proofs.Rounding.{Round, round-none, round-long, round-room, round-more, round-over, round-refused}

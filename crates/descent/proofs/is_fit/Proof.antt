@@ -1,9 +1,4 @@
-use mathlib.Core.Path.{_≡_, sym}
-use Prim.Native.Nat.{ℕ, _+_, _*_, _≤_, _<_, min}
-use native.Mathlib.Omega.{arith}
-use borrow.Author.Needs.{needs}
-use borrow.Author.Tests.{lt-leb, le-leb}
-use lib.Dec.{leb}
+use Rattle.counting.proofs.Prelude.{_≡_, sym, ℕ, _+_, _*_, _≤_, _<_, min, arith, leb, lt-leb, le-leb, needs}
 use Rattle.descent.specs.Promise.{fits?}
 use Rattle.descent.proofs.is_fit.Statement.{statement}
 use Rattle.descent.proofs.is_fit.Tie as tie

@@ -1,5 +1,4 @@
-use native.Mathlib.Omega.{arith}
-use borrow.Author.Needs.{needs}
+use Rattle.counting.proofs.Prelude.{arith, needs}
 use Rattle.descent.proofs.Answering.{layered-cyclic, layered-made}
 use Rattle.descent.proofs.layered.Statement.{statement}
 use Rattle.descent.proofs.layered.Tie as tie

@@ -1,9 +1,6 @@
 -- `descent::members` meets its contract: no mask has more than 64 ones, and an empty one has none. Assumes nothing.
-use mathlib.Core.Path.{_≡_, ap}
-use Prim.Native.Nat.{ℕ, _+_}
-use native.Mathlib.Omega.{arith}
+use Rattle.counting.proofs.Prelude.{_≡_, ap, ℕ, _+_, arith, needs}
 use lib.Count.{ones, ones-le}
-use borrow.Author.Needs.{needs}
 use Rattle.descent.proofs.members.Statement.{statement}
 use Rattle.descent.proofs.members.Tie as tie
 

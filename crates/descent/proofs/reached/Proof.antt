@@ -1,8 +1,5 @@
-use Prim.Native.Nat.{_+_, _*_, _≤_, _<_}
-use native.Mathlib.Omega.{arith}
+use Rattle.counting.proofs.Prelude.{_+_, _*_, _≤_, _<_, arith, length, needs}
 use lib.Count.{trailingZeros}
-use lib.ListN.{length}
-use borrow.Author.Needs.{needs}
 use Rattle.masks.proofs.Visiting.{lowest-lt, lowest-in}
 use Rattle.descent.specs.Members.{Long}
 use Rattle.descent.proofs.Gathering.{gathering-all, pictured-both}

@@ -1,9 +1,5 @@
-use mathlib.Core.Path.{_≡_, refl, _∙_}
-use Prim.Native.Nat.{_+_, _*_, _≤_, _<_}
-use native.Mathlib.Omega.{arith}
+use Rattle.counting.proofs.Prelude.{_≡_, refl, _∙_, _+_, _*_, _≤_, _<_, arith, length, length-set, needs}
 use lib.Count.{trailingZeros}
-use lib.ListN.{length, length-set}
-use borrow.Author.Needs.{needs}
 use Rattle.masks.proofs.Visiting.{lowest-lt, lowest-in, visited-less}
 use Rattle.descent.specs.Members.{Long}
 use Rattle.descent.proofs.Rowing.{Writing, writing-none, writing-more, writing-all}

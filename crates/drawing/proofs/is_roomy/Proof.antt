@@ -1,8 +1,4 @@
-use mathlib.Core.Path.{_≡_}
-use Prim.Native.Nat.{ℕ, _*_, _≤_}
-use borrow.Author.Needs.{needs}
-use borrow.Author.Tests.{lt-leb, le-leb}
-use lib.Dec.{leb}
+use Rattle.counting.proofs.Prelude.{_≡_, ℕ, _*_, _≤_, leb, lt-leb, le-leb, needs}
 use Rattle.drawing.specs.Laid.{roomy?}
 use Rattle.drawing.proofs.is_roomy.Statement.{statement}
 use Rattle.drawing.proofs.is_roomy.Tie as tie

@@ -1,5 +1,4 @@
-use borrow.Author.Needs.{needs}
-use borrow.Author.Tests.{not-true, not-false}
+use Rattle.counting.proofs.Prelude.{not-true, not-false, needs}
 use Rattle.drawing.specs.Laid.{Lists, lists}
 use Rattle.drawing.proofs.Planning.{tested-so, cramped-plan, refused-plan, passed, laid-plan}
 use Rattle.drawing.proofs.planned.Statement.{statement}

@@ -1,6 +1,4 @@
-use mathlib.Core.Path.{sym}
-use borrow.Author.Needs.{needs}
-use borrow.Author.Tests.{eq-eqb, ne-eqb}
+use Rattle.counting.proofs.Prelude.{sym, eq-eqb, ne-eqb, needs}
 use Rattle.counting.proofs.Truth.{or-left}
 use Rattle.masks.specs.Sets.{at}
 use Rattle.editing.proofs.comes.Statement.{statement}

@@ -1,11 +1,4 @@
-use mathlib.Core.Path.{_≡_, refl, sym, ap, _∙_, subst}
-use mathlib.Core.Logic.{⊎-elim}
-use mathlib.Core.List.{List, [], _∷_}
-use Prim.Native.Nat.{ℕ, _+_, _-_, _*_, _≤_, zero-le}
-use native.Mathlib.Omega.{arith}
-use borrow.Author.Needs.{needs}
-use borrow.Author.Tests.{le-leb}
-use lib.ListN.{length, getD}
+use Rattle.counting.proofs.Prelude.{_≡_, refl, sym, ap, _∙_, subst, ⊎-elim, List, [], _∷_, ℕ, _+_, _-_, _*_, _≤_, zero-le, arith, length, getD, le-leb, needs}
 use Rattle.masks.specs.Sets.{United}
 use Rattle.masks.proofs.Tables.{pair-row, absorbed-law}
 use Rattle.editing.specs.Promise.{Linked}

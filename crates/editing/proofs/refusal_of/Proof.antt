@@ -1,10 +1,4 @@
-use mathlib.Core.Path.{_≡_, sym, _∙_}
-use mathlib.Core.Bool.{false}
-use Prim.Native.Nat.{_<_}
-use native.Mathlib.Omega.{arith}
-use borrow.Author.Needs.{needs}
-use borrow.Author.Tests.{le-leb, lt-leb}
-use lib.Dec.{eqb}
+use Rattle.counting.proofs.Prelude.{_≡_, sym, _∙_, false, _<_, arith, eqb, le-leb, lt-leb, needs}
 use Rattle.masks.specs.Sets.{at}
 use Rattle.editing.specs.Promise.{outside?, refusalOf}
 use Rattle.editing.proofs.Machines.{verdict-unknown, verdict-duplicate, verdict-cycle, verdict-full, verdict-none}

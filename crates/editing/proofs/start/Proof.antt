@@ -1,6 +1,4 @@
-use mathlib.Core.Logic.{inl, inr}
-use native.Mathlib.Omega.{arith}
-use borrow.Author.Needs.{needs}
+use Rattle.counting.proofs.Prelude.{inl, inr, arith, needs}
 use Rattle.editing.proofs.Machines.{start-passes, start-fails}
 use Rattle.editing.proofs.Sessions.{started}
 use Rattle.editing.proofs.start.Statement.{statement}

@@ -1,6 +1,5 @@
-use borrow.Author.Tests.{eq-eqb, ne-eqb}
+use Rattle.counting.proofs.Prelude.{eq-eqb, ne-eqb, needs}
 use Rattle.fields.specs.Layout.{afterEdges}
-use borrow.Author.Needs.{needs}
 use Rattle.fields.proofs.after_edges.Statement.{statement}
 use Rattle.fields.proofs.after_edges.Tie as tie
 

@@ -1,13 +1,6 @@
-use mathlib.Core.Path.{_≡_, ap, ap₂}
-use mathlib.Core.Bool.{true, false}
-use Prim.Native.Nat.{ℕ, _+_, _*_}
-use native.Mathlib.Omega.{arith}
-use borrow.Author.Tests.{le-leb, lt-leb, eq-eqb, ne-eqb}
-use lib.Dec.{leb}
-use lib.ListN.{length}
+use Rattle.counting.proofs.Prelude.{_≡_, ap, ap₂, true, false, ℕ, _+_, _*_, arith, leb, length, le-leb, lt-leb, eq-eqb, ne-eqb, needs}
 use Rattle.fields.specs.declared.Field.the-variants.{Found}
 use Rattle.fields.specs.Layout.{sizeAt, fieldAt}
-use borrow.Author.Needs.{needs}
 use Rattle.fields.proofs.field_at.Statement.{statement}
 use Rattle.fields.proofs.field_at.Tie as tie
 

@@ -1,10 +1,6 @@
-use mathlib.Core.Path.{_≡_, refl, sym, ap, _∙_}
-use Prim.Native.Nat.{ℕ, _+_, _-_, _≤_, _<_, zero-le}
-use native.Mathlib.Omega.{arith}
-use lib.ListN.{length, drop}
+use Rattle.counting.proofs.Prelude.{_≡_, refl, sym, ap, _∙_, ℕ, _+_, _-_, _≤_, _<_, zero-le, arith, length, drop, needs}
 use Rattle.fields.specs.Layout.{lined}
 use Rattle.fields.proofs.Lining.{lined-empty, lined-begins, lined-goes, lined-ends}
-use borrow.Author.Needs.{needs}
 use Rattle.fields.proofs.is_lined.Statement.{statement}
 use Rattle.fields.proofs.is_lined.Tie as tie
 

@@ -1,13 +1,8 @@
-use mathlib.Core.Path.{_≡_, sym, ap, _∙_}
-use Prim.Native.Nat.{ℕ, _+_}
-use native.Mathlib.Omega.{arith}
-use borrow.Author.Tests.{eq-eqb, ne-eqb, le-leb, lt-leb}
-use lib.ListN.{getD}
+use Rattle.counting.proofs.Prelude.{_≡_, sym, ap, _∙_, ℕ, _+_, arith, getD, eq-eqb, ne-eqb, le-leb, lt-leb, needs}
 use Rattle.fields.specs.declared.Field.the-variants.{Found}
 use Rattle.fields.specs.declared.Layout.the-variants.{Bad}
 use Rattle.fields.specs.Layout.{fieldAt, withEdges, withVertices, layoutOf}
 use Rattle.fields.proofs.Placing.{Inside, found-inside}
-use borrow.Author.Needs.{needs}
 use Rattle.fields.proofs.layout_of.Statement.{statement}
 use Rattle.fields.proofs.layout_of.Tie as tie
 

@@ -1,11 +1,8 @@
-use mathlib.Core.Path.{_≡_, sym, ap, _∙_}
-use native.Mathlib.Omega.{arith}
-use borrow.Author.Tests.{eq-eqb, ne-eqb}
+use Rattle.counting.proofs.Prelude.{_≡_, sym, ap, _∙_, arith, eq-eqb, ne-eqb, needs}
 use Rattle.fields.specs.declared.Field.the-variants.{Found}
 use Rattle.fields.specs.declared.Layout.the-variants.{Bad}
 use Rattle.fields.specs.Layout.{fieldAt, withEdges}
 use Rattle.fields.proofs.Placing.{Inside, found-inside}
-use borrow.Author.Needs.{needs}
 use Rattle.fields.proofs.with_edges.Statement.{statement}
 use Rattle.fields.proofs.with_edges.Tie as tie
 

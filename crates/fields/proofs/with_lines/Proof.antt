@@ -1,14 +1,8 @@
-use mathlib.Core.Bool.{true, false}
-use mathlib.Core.Path.{_≡_, sym, ap, _∙_}
-use Prim.Native.Nat.{ℕ, _+_, _-_}
-use native.Mathlib.Omega.{arith}
-use borrow.Author.Tests.{eq-eqb, ne-eqb}
-use lib.ListN.{take, drop}
+use Rattle.counting.proofs.Prelude.{_≡_, sym, ap, _∙_, true, false, ℕ, _+_, _-_, arith, take, drop, eq-eqb, ne-eqb, needs}
 use Rattle.fields.specs.declared.Field.the-variants.{Found}
 use Rattle.fields.specs.declared.Layout.the-variants.{Good, Bad}
 use Rattle.fields.specs.Layout.{fieldAt, lined, withLines}
 use Rattle.fields.proofs.Placing.{Inside, found-inside}
-use borrow.Author.Needs.{needs}
 use Rattle.fields.proofs.with_lines.Statement.{statement}
 use Rattle.fields.proofs.with_lines.Tie as tie
 

@@ -1,6 +1,5 @@
 -- `flat::drawn` meets its contract: what is planned is handed over. Assumes nothing.
-use mathlib.Core.Path.{_∙_}
-use native.Mathlib.Omega.{arith}
+use Rattle.counting.proofs.Prelude.{_∙_, arith}
 use Rattle.flat.proofs.drawn.Statement.{statement}
 use Rattle.flat.proofs.drawn.Tie as tie
 

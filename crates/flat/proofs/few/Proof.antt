@@ -1,6 +1,5 @@
 -- `flat::few` meets its contract: its lists have room for 16 vertices. Assumes nothing.
-use mathlib.Core.Path.{refl}
-use borrow.Author.Needs.{needs}
+use Rattle.counting.proofs.Prelude.{refl, needs}
 use Rattle.flat.proofs.few.Statement.{statement}
 use Rattle.flat.proofs.few.Tie as tie
 

@@ -1,6 +1,5 @@
 -- `flat::many` meets its contract: its lists have room for 128 vertices. Assumes nothing.
-use mathlib.Core.Path.{refl}
-use borrow.Author.Needs.{needs}
+use Rattle.counting.proofs.Prelude.{refl, needs}
 use Rattle.flat.proofs.many.Statement.{statement}
 use Rattle.flat.proofs.many.Tie as tie
 

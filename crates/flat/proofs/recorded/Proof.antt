@@ -1,11 +1,9 @@
 -- `flat::recorded` meets its contract: a record is its parts, or refused with 1 (`Leaving.antt`). Assumes nothing.
-use mathlib.Core.Path.{sym, _∙_}
-use native.Mathlib.Omega.{arith}
+use Rattle.counting.proofs.Prelude.{sym, _∙_, arith, needs}
 use Rattle.counting.proofs.Clearing.{cleared-length}
 use Rattle.fields.proofs.Standing.{layout-good}
 use Rattle.drawing.proofs.Judging.{record-bad}
 use Rattle.flat.proofs.Leaving.{refused-left, record-left}
-use borrow.Author.Needs.{needs}
 use Rattle.flat.proofs.recorded.Statement.{statement}
 use Rattle.flat.proofs.recorded.Tie as tie
 

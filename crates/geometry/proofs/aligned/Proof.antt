@@ -1,8 +1,5 @@
 -- `geometry::aligned` meets its contract. Columns are below 2^16 and rows below 2^8, so the products fit an `i32`. Assumes nothing.
-use Prim.Native.Nat.{ℕ, _+_, _*_, _<_}
-use native.Mathlib.Omega.{arith}
-use borrow.Author.Needs.{needs}
-use lib.Dec.{lit<}
+use Rattle.counting.proofs.Prelude.{ℕ, _+_, _*_, _<_, arith, lit<, needs}
 use lib.IntN.{ℤ, _*ℤ_}
 use mir.Syntax.{w32}
 use mir.Val.{SFits, toZ, ofZ}

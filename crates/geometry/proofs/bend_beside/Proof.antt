@@ -1,6 +1,5 @@
 -- `geometry::bend_beside` meets its contract. Assumes nothing.
-use mathlib.Core.Path.{sym}
-use borrow.Author.Needs.{needs}
+use Rattle.counting.proofs.Prelude.{sym, needs}
 use Rattle.geometry.proofs.Crossing.{bend-beside-right, bend-beside-left, bend-beside-none}
 use Rattle.geometry.proofs.bend_beside.Statement.{statement}
 use Rattle.geometry.proofs.bend_beside.Tie as tie

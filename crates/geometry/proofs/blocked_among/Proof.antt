@@ -1,9 +1,6 @@
 -- `geometry::blocked_among` meets its contract. Assumes nothing.
-use mathlib.Core.Path.{sym, _∙_}
-use native.Mathlib.Omega.{arith}
-use borrow.Author.Tests.{leb-true}
+use Rattle.counting.proofs.Prelude.{sym, _∙_, arith, leb-true, needs}
 use Rattle.geometry.proofs.Among.{no-tail, no-head, no-rise, first-blocks, masks-decide}
-use borrow.Author.Needs.{needs}
 use Rattle.geometry.proofs.blocked_among.Statement.{statement}
 use Rattle.geometry.proofs.blocked_among.Tie as tie
 

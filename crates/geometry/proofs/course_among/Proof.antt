@@ -1,12 +1,9 @@
 -- `geometry::course_among` meets its contract. Assumes nothing.
-use mathlib.Core.Path.{sym, _∙_}
-use native.Mathlib.Omega.{arith}
-use lib.Dec.{eqb}
+use Rattle.counting.proofs.Prelude.{sym, _∙_, arith, eqb, needs}
 use Rattle.masks.specs.Pairs.{inPair}
 use Rattle.geometry.specs.Segment.{pointOf, vertexCount, BlockedAmong}
 use Rattle.geometry.proofs.Segments.{hit-rise}
 use Rattle.geometry.proofs.Among.{among-blocked, among-free}
-use borrow.Author.Needs.{needs}
 use Rattle.geometry.proofs.course_among.Statement.{statement}
 use Rattle.geometry.proofs.course_among.Tie as tie
 

@@ -1,10 +1,9 @@
 -- `geometry::hit_among` meets its contract: no vertex passed lies strictly inside. Assumes nothing.
-use native.Mathlib.Omega.{arith}
+use Rattle.counting.proofs.Prelude.{arith, needs}
 use lib.Count.{trailing-le}
 use Rattle.geometry.specs.Segment.{pointOf}
 use Rattle.masks.proofs.Visiting.{Visited, visited-none, visited-more, visited-less}
 use Rattle.geometry.proofs.Among.{Missed, struck-here, struck-none}
-use borrow.Author.Needs.{needs}
 use Rattle.geometry.proofs.hit_among.Statement.{statement}
 use Rattle.geometry.proofs.hit_among.Tie as tie
 

@@ -1,10 +1,6 @@
 -- `kinds::adjacent` meets its contract. Assumes nothing.
-use mathlib.Core.Path.{sym, ap₂, _∙_}
-use Prim.Native.Nat.{ℕ, _+_}
-use native.Mathlib.Omega.{arith}
-use lib.Dec.{eqb}
+use Rattle.counting.proofs.Prelude.{sym, ap₂, _∙_, ℕ, _+_, arith, eqb, needs}
 use Rattle.kinds.proofs.Coding.{next-adjacent, else-adjacent}
-use borrow.Author.Needs.{needs}
 use Rattle.kinds.proofs.adjacent.Statement.{statement}
 use Rattle.kinds.proofs.adjacent.Tie as tie
 

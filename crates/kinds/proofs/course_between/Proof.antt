@@ -1,15 +1,11 @@
 -- `kinds::course_between` meets its contract. Assumes nothing.
-use mathlib.Core.Path.{sym, ap₂, _∙_}
-use Prim.Native.Nat.{_+_, _≤_, min, max}
-use native.Mathlib.Omega.{arith}
-use borrow.Author.Tests.{leb-true}
+use Rattle.counting.proofs.Prelude.{sym, ap₂, _∙_, _+_, _≤_, min, max, arith, leb-true, needs}
 use Rattle.counting.specs.Quads.{quad}
 use Rattle.geometry.specs.Segment.{pointOf, vertexCount}
 use Rattle.geometry.specs.Courses.{courseAmong}
 use Rattle.geometry.proofs.Among.{among-low}
 use Rattle.kinds.specs.Kinds.{candidate?}
 use Rattle.kinds.proofs.Betweens.{course-masked}
-use borrow.Author.Needs.{needs}
 use Rattle.kinds.proofs.course_between.Statement.{statement}
 use Rattle.kinds.proofs.course_between.Tie as tie
 

@@ -1,8 +1,7 @@
 -- `kinds::crossed` meets its contract. Assumes nothing.
-use mathlib.Core.Path.{sym, ap}
+use Rattle.counting.proofs.Prelude.{sym, ap, needs}
 use Rattle.outline.specs.Chart.{crossing}
 use Rattle.kinds.specs.Codes.{codeOf}
-use borrow.Author.Needs.{needs}
 use Rattle.kinds.proofs.crossed.Statement.{statement}
 use Rattle.kinds.proofs.crossed.Tie as tie
 

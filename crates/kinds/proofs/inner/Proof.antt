@@ -1,6 +1,5 @@
 -- `kinds::inner` meets its contract. Assumes nothing.
-use mathlib.Core.Path.{refl}
-use borrow.Author.Needs.{needs}
+use Rattle.counting.proofs.Prelude.{refl, needs}
 use Rattle.kinds.proofs.inner.Statement.{statement}
 use Rattle.kinds.proofs.inner.Tie as tie
 

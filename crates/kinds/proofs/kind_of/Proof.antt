@@ -1,7 +1,6 @@
 -- `kinds::kind_of` meets its contract. Assumes nothing.
-use mathlib.Core.Path.{sym, _∙_}
+use Rattle.counting.proofs.Prelude.{sym, _∙_, needs}
 use Rattle.kinds.proofs.Coding.{code-path, code-bundle, code-across}
-use borrow.Author.Needs.{needs}
 use Rattle.kinds.proofs.kind_of.Statement.{statement}
 use Rattle.kinds.proofs.kind_of.Tie as tie
 

@@ -1,8 +1,5 @@
 -- `kinds::mask_at` meets its contract. Assumes nothing.
-use mathlib.Core.Path.{sym}
-use native.Mathlib.Omega.{arith}
-use lib.ListN.{List·getD-eq-default}
-use borrow.Author.Needs.{needs}
+use Rattle.counting.proofs.Prelude.{sym, arith, List·getD-eq-default, needs}
 use Rattle.kinds.proofs.mask_at.Statement.{statement}
 use Rattle.kinds.proofs.mask_at.Tie as tie
 

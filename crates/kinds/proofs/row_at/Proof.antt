@@ -1,9 +1,5 @@
 -- `kinds::row_at` meets its contract. Assumes nothing.
-use mathlib.Core.Path.{sym, ap, _∙_}
-use Prim.Native.Nat.{ℕ, _+_, _*_}
-use native.Mathlib.Omega.{arith}
-use lib.ListN.{getD, List·getD-eq-default}
-use borrow.Author.Needs.{needs}
+use Rattle.counting.proofs.Prelude.{sym, ap, ℕ, _+_, _*_, arith, getD, List·getD-eq-default, needs}
 use Rattle.kinds.proofs.row_at.Statement.{statement}
 use Rattle.kinds.proofs.row_at.Tie as tie
 

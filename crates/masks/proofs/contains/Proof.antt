@@ -1,9 +1,6 @@
-use mathlib.Core.Path.{ap, _∙_}
-use Prim.Native.Nat.{ℕ, _/_, _%_, _^_}
+use Rattle.counting.proofs.Prelude.{ap, _∙_, ℕ, _/_, _%_, _^_, eqb, needs}
 use lib.Bits.{bitAnd}
-use lib.Dec.{eqb}
 use Rattle.masks.proofs.Sets.{member-test}
-use borrow.Author.Needs.{needs}
 use Rattle.masks.proofs.contains.Statement.{statement}
 use Rattle.masks.proofs.contains.Tie as tie
 

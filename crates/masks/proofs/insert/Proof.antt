@@ -1,13 +1,8 @@
-use mathlib.Core.Path.{sym, ap}
-use Prim.Native.Nat.{ℕ, _+_, _/_, _%_, _≤_}
-use native.Mathlib.Omega.{arith}
-use borrow.Author.Tests.{lt-ltb, le-ltb}
+use Rattle.counting.proofs.Prelude.{sym, ap, ℕ, _+_, _/_, _%_, _≤_, arith, length, getD, set, lt-ltb, le-ltb, needs}
 use lib.Bits.{bitOr}
-use lib.ListN.{length, getD, set}
 use lib.Seq.{set-out}
 use Rattle.masks.specs.Sets.{inserted}
 use Rattle.masks.proofs.Bits.{one-shl}
-use borrow.Author.Needs.{needs}
 use Rattle.masks.proofs.insert.Statement.{statement}
 use Rattle.masks.proofs.insert.Tie as tie
 

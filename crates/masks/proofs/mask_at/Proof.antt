@@ -1,7 +1,4 @@
-use mathlib.Core.Path.{sym}
-use native.Mathlib.Omega.{arith}
-use lib.ListN.{List·getD-eq-default}
-use borrow.Author.Needs.{needs}
+use Rattle.counting.proofs.Prelude.{sym, arith, List·getD-eq-default, needs}
 use Rattle.masks.proofs.mask_at.Statement.{statement}
 use Rattle.masks.proofs.mask_at.Tie as tie
 

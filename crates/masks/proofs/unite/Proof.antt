@@ -1,12 +1,6 @@
-use mathlib.Core.Path.{_≡_, refl, sym, subst}
-use mathlib.Core.Bool.{true≢false}
-use Prim.Native.Nat.{ℕ, _+_, _-_, _≤_, _<_, zero-le}
-use native.Mathlib.Omega.{arith}
-use borrow.Author.Tests.{le-leb, lt-leb}
-use lib.ListN.{length}
+use Rattle.counting.proofs.Prelude.{_≡_, refl, sym, subst, true≢false, ℕ, _+_, _-_, _≤_, _<_, zero-le, arith, length, le-leb, lt-leb, needs}
 use Rattle.masks.specs.Sets.{United}
 use Rattle.masks.proofs.Sets.{united-none, united-more}
-use borrow.Author.Needs.{needs}
 use Rattle.masks.proofs.unite.Statement.{statement}
 use Rattle.masks.proofs.unite.Tie as tie
 

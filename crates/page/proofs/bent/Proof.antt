@@ -1,8 +1,5 @@
 -- `page::bent` meets its contract: the test fails where every cell is on the page, and then `point_at` gives its points. Assumes nothing.
-use mathlib.Core.Path.{_≡_, refl, sym, ap, ap₂, _∙_}
-use mathlib.Core.Bool.{_||_}
-use mathlib.Core.List.{List, [], _∷_}
-use borrow.Author.Needs.{needs}
+use Rattle.counting.proofs.Prelude.{_≡_, refl, sym, ap, ap₂, _∙_, _||_, List, [], _∷_, needs}
 use Rattle.page.specs.declared.Cell.{Cell}
 use Rattle.page.specs.Page.{accepted}
 use Rattle.page.proofs.Drawing.{AllOn, test, refuse, clear, draw}

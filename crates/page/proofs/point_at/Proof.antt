@@ -1,6 +1,5 @@
 -- `page::point_at` meets its contract: on the page each product is small, and `quarters` gives each coordinate. Assumes nothing.
-use mathlib.Core.Path.{ap₂}
-use borrow.Author.Needs.{needs}
+use Rattle.counting.proofs.Prelude.{ap₂, needs}
 use lib.Ieee.{Float}
 use Rattle.page.specs.declared.Point.{Point}
 use Rattle.page.proofs.Drawing.{OnPage, on}

@@ -1,8 +1,7 @@
 -- `planning::chained` meets its contract: the predecessors are those of the rule. Assumes nothing.
-use native.Mathlib.Omega.{arith}
+use Rattle.counting.proofs.Prelude.{arith, needs}
 use Rattle.planning.proofs.Laying.{none-upto}
 use Rattle.planning.proofs.Following.{chained-short, chained-all}
-use borrow.Author.Needs.{needs}
 use Rattle.planning.proofs.chained.Statement.{statement}
 use Rattle.planning.proofs.chained.Tie as tie
 

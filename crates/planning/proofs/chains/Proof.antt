@@ -1,11 +1,8 @@
 -- `planning::chains` meets its contract: the channels that begin below v are laid. Assumes nothing.
-use mathlib.Core.Path.{refl, sym}
-use Prim.Native.Nat.{_-_}
-use native.Mathlib.Omega.{arith}
+use Rattle.counting.proofs.Prelude.{refl, sym, _-_, arith, needs}
 use Rattle.planning.specs.Arranged.{Kept}
 use Rattle.planning.proofs.Laying.{kept-same, kept-on}
 use Rattle.planning.proofs.Following.{Laid, laid-none, laid-ready, laid-chain, laid-pass, laid-few, laid-all}
-use borrow.Author.Needs.{needs}
 use Rattle.planning.proofs.chains.Statement.{statement}
 use Rattle.planning.proofs.chains.Tie as tie
 

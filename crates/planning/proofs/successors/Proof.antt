@@ -1,7 +1,6 @@
 -- `planning::successors` meets its contract: the vertices from v on are looked at. Assumes nothing.
-use native.Mathlib.Omega.{arith}
+use Rattle.counting.proofs.Prelude.{arith, needs}
 use Rattle.planning.proofs.Following.{Seeking, seek-none, seek-here, seek-on, seek-all}
-use borrow.Author.Needs.{needs}
 use Rattle.planning.proofs.successors.Statement.{statement}
 use Rattle.planning.proofs.successors.Tie as tie
 

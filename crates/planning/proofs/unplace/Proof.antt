@@ -1,12 +1,7 @@
 -- `planning::unplace` meets its contract: the first v vertices have no channel. Assumes nothing.
-use mathlib.Core.Path.{refl}
-use mathlib.Core.List.{[]}
-use Prim.Native.Nat.{_-_, _/_, _≤_}
-use native.Mathlib.Omega.{arith}
-use lib.ListN.{length, length-set}
+use Rattle.counting.proofs.Prelude.{refl, [], _-_, _/_, _≤_, arith, length, length-set, needs}
 use Rattle.planning.specs.Arranged.{Arranged, Kept}
 use Rattle.planning.proofs.Laying.{kept-same, kept-placed, none-more}
-use borrow.Author.Needs.{needs}
 use Rattle.planning.proofs.unplace.Statement.{statement}
 use Rattle.planning.proofs.unplace.Tie as tie
 

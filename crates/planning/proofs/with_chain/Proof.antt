@@ -1,9 +1,6 @@
 -- `planning::with_chain` meets its contract: the first vertices of the channel are laid, and the next one comes. Assumes nothing.
-use Prim.Native.Nat.{suc, _+_, _*_, _-_, _≤_, _<_}
-use native.Mathlib.Omega.{arith}
-use lib.ListN.{length, length-set}
+use Rattle.counting.proofs.Prelude.{suc, _+_, _*_, _-_, _≤_, _<_, arith, length, length-set, needs}
 use Rattle.planning.proofs.Following.{Follows, follows-none, follows-more, follows-all, following-byte, ready-few, within}
-use borrow.Author.Needs.{needs}
 use Rattle.planning.proofs.with_chain.Statement.{statement}
 use Rattle.planning.proofs.with_chain.Tie as tie
 

@@ -1,11 +1,7 @@
 -- `prefixes::join` meets its contract: the sets passed have all they are to have. Assumes nothing.
-use mathlib.Core.Path.{_≡_, refl, _∙_, subst}
-use Prim.Native.Nat.{ℕ, _+_, _-_, _*_, _≤_, zero-le}
-use native.Mathlib.Omega.{arith}
-use lib.ListN.{length, getD, length-set}
+use Rattle.counting.proofs.Prelude.{_≡_, refl, _∙_, subst, ℕ, _+_, _-_, _*_, _≤_, zero-le, arith, length, getD, length-set, needs}
 use Rattle.prefixes.specs.Prefixes.{Stage}
 use Rattle.prefixes.proofs.Stages.{stage-pair, stage-all, twice-length}
-use borrow.Author.Needs.{needs}
 use Rattle.prefixes.proofs.join.Statement.{statement}
 use Rattle.prefixes.proofs.join.Tie as tie
 

@@ -1,12 +1,8 @@
 -- `prefixes::prefixes` meets its contract: the vertices passed stand in the sets after their keys. Assumes nothing.
-use mathlib.Core.Path.{_≡_, refl, _∙_}
-use Prim.Native.Nat.{_-_, _/_, _≤_, min, zero-le}
-use native.Mathlib.Omega.{arith}
-use lib.ListN.{length}
+use Rattle.counting.proofs.Prelude.{_≡_, refl, _∙_, _-_, _/_, _≤_, min, zero-le, arith, length, needs}
 use Rattle.counting.specs.Quads.{quad}
 use Rattle.prefixes.specs.Prefixes.{Stage}
 use Rattle.prefixes.proofs.Stages.{stage-start, put-step, stage-joined}
-use borrow.Author.Needs.{needs}
 use Rattle.prefixes.proofs.prefixes.Statement.{statement}
 use Rattle.prefixes.proofs.prefixes.Tie as tie
 

@@ -1,14 +1,9 @@
-use mathlib.Core.Path.{sym, ap, _∙_}
-use Prim.Native.Nat.{ℕ, _+_, _*_, _/_, _%_}
-use native.Mathlib.Omega.{arith}
-use borrow.Author.Tests.{eq-eqb, ne-eqb}
+use Rattle.counting.proofs.Prelude.{sym, ap, _∙_, ℕ, _+_, _*_, _/_, _%_, arith, getD, set, eq-eqb, ne-eqb, needs}
 use lib.Bits.{bitOr}
-use lib.ListN.{getD, set}
 use Rattle.counting.proofs.Choosing.{choose-yes, choose-no}
 use Rattle.masks.specs.Sets.{member?, inserted}
 use Rattle.masks.proofs.Bits.{one-shl}
 use Rattle.masks.proofs.Sets.{member-test}
-use borrow.Author.Needs.{needs}
 use Rattle.scanning.proofs.mark.Statement.{statement}
 use Rattle.scanning.proofs.mark.Tie as tie
 

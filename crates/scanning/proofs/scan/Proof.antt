@@ -1,10 +1,5 @@
-use mathlib.Core.Path.{_≡_, refl, _∙_, subst}
-use mathlib.Core.Logic.{inl, inr}
-use Prim.Native.Nat.{ℕ, _+_, _-_, _*_, _≤_, zero-le}
-use native.Mathlib.Omega.{arith}
-use lib.ListN.{length, getD}
+use Rattle.counting.proofs.Prelude.{_≡_, refl, _∙_, subst, inl, inr, ℕ, _+_, _-_, _*_, _≤_, zero-le, arith, length, getD, needs}
 use Rattle.scanning.proofs.Scanning.{Scanning, scanning-none, scanning-more, scanned-strange, scanned-all}
-use borrow.Author.Needs.{needs}
 use Rattle.scanning.proofs.scan.Statement.{statement}
 use Rattle.scanning.proofs.scan.Tie as tie
 

@@ -1,9 +1,4 @@
-use mathlib.Core.Path.{_≡_, sym, _∙_}
-use mathlib.Core.Bool.{false}
-use Prim.Native.Nat.{_*_, _/_, _≤_, min}
-use native.Mathlib.Omega.{arith}
-use borrow.Author.Needs.{needs}
-use lib.ListN.{length}
+use Rattle.counting.proofs.Prelude.{_≡_, sym, _∙_, false, _*_, _/_, _≤_, min, arith, length, needs}
 use Rattle.reach.specs.Refusal.{outsized?}
 use Rattle.scanning.proofs.Scanning.{outsized-positive, scans-short, scans-outsized, scans-checked}
 use Rattle.scanning.proofs.scanned.Statement.{statement}

@@ -1,5 +1,4 @@
-use borrow.Author.Needs.{needs}
-use borrow.Author.Tests.{eq-eqb, ne-eqb, lt-ltb, le-ltb}
+use Rattle.counting.proofs.Prelude.{eq-eqb, ne-eqb, lt-ltb, le-ltb, needs}
 use Rattle.script.specs.Scanning.{advanced}
 use Rattle.script.proofs.advance.Statement.{statement}
 use Rattle.script.proofs.advance.Tie as tie

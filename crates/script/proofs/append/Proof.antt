@@ -1,7 +1,4 @@
-use mathlib.Core.Path.{ap, _∙_}
-use Prim.Native.Nat.{ℕ, _+_, _-_, _*_, min}
-use borrow.Author.Needs.{needs}
-use borrow.Author.Tests.{le-leb, lt-leb}
+use Rattle.counting.proofs.Prelude.{ap, _∙_, ℕ, _+_, _-_, _*_, min, le-leb, lt-leb, needs}
 use Rattle.script.specs.declared.Numeral.{Numeral}
 use Rattle.script.specs.Orders.{digit?}
 use Rattle.script.specs.Scanning.{appended}

@@ -1,8 +1,7 @@
-use mathlib.Core.Path.{refl}
+use Rattle.counting.proofs.Prelude.{refl, needs}
 use Rattle.script.specs.declared.Command.{Command}
 use Rattle.script.specs.Performing.{Effect}
 use Rattle.script.proofs.Performing.{performs}
-use borrow.Author.Needs.{needs}
 use Rattle.script.proofs.perform.Statement.{statement}
 use Rattle.script.proofs.perform.Tie as tie
 

@@ -1,7 +1,4 @@
-use mathlib.Core.Path.{_≡_, refl}
-use mathlib.Core.Logic.{_≢_}
-use mathlib.Core.Bool.{Bool}
-use Prim.Native.Nat.{ℕ, zero, suc}
+use Rattle.counting.proofs.Prelude.{_≡_, refl, _≢_, Bool, ℕ, zero, suc}
 use Rattle.editing.specs.Promise.{replyAnswer}
 use Rattle.script.specs.declared.Outcome.{Outcome}
 use Rattle.script.specs.Performing.{outcomeOf}

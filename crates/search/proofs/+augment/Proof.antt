@@ -1,12 +1,6 @@
 -- The proof of the cycle of calls {augment}. The measure is the number of unvisited vertices. What each step keeps is in proofs/Going; here stand the paths to it.
 -- Assumes nothing.
-use mathlib.Core.Path.{refl, sym, _∙_}
-use mathlib.Core.Bool.{false}
-use mathlib.Core.List.{[], _∷_}
-use Prim.Native.Nat.{ℕ, _<_, _-_}
-use native.Mathlib.Omega.{arith}
-use borrow.Author.Needs.{needs}
-use lib.ListN.{length-set}
+use Rattle.counting.proofs.Prelude.{refl, sym, _∙_, false, [], _∷_, ℕ, _<_, _-_, arith, length-set, needs}
 use Rattle.masks.proofs.Tables.{Row}
 use Rattle.matching.specs.Search.{unvisited}
 use Rattle.search.specs.Search.{state}

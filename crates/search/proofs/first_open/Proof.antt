@@ -1,8 +1,6 @@
 -- `search::first_open` meets its contract: by the trailing zeros of the one mask, or else of the other. Assumes nothing.
-use native.Mathlib.Omega.{arith}
+use Rattle.counting.proofs.Prelude.{arith, getD, needs}
 use lib.Count.{trailing-le}
-use lib.ListN.{getD}
-use borrow.Author.Needs.{needs}
 use Rattle.masks.proofs.Bits.{without}
 use Rattle.search.proofs.Open.{open-low, open-high, open-none}
 use Rattle.search.proofs.first_open.Statement.{statement}

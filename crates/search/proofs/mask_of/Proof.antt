@@ -1,8 +1,5 @@
 -- `search::mask_of` meets its contract. Assumes nothing.
-use mathlib.Core.Path.{sym}
-use native.Mathlib.Omega.{arith}
-use lib.ListN.{List·getD-eq-default}
-use borrow.Author.Needs.{needs}
+use Rattle.counting.proofs.Prelude.{sym, arith, List·getD-eq-default, needs}
 use Rattle.search.proofs.mask_of.Statement.{statement}
 use Rattle.search.proofs.mask_of.Tie as tie
 

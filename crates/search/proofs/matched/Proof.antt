@@ -1,12 +1,8 @@
 -- `search::matched` meets its contract: what is still to be asked gives what the whole rule gives. Assumes nothing.
-use mathlib.Core.Path.{_≡_, refl, sym, ap, _∙_}
-use Prim.Native.Nat.{_-_, _≤_}
-use native.Mathlib.Omega.{arith}
-use lib.ListN.{length}
+use Rattle.counting.proofs.Prelude.{_≡_, refl, sym, ap, _∙_, _-_, _≤_, arith, length, needs}
 use Rattle.matching.specs.Search.{asks, matching}
 use Rattle.search.specs.Table.{leadsIn}
 use Rattle.search.proofs.Asking.{ask-none, ask-more, ask-all}
-use borrow.Author.Needs.{needs}
 use Rattle.search.proofs.matched.Statement.{statement}
 use Rattle.search.proofs.matched.Tie as tie
 

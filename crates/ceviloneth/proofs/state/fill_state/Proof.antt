@@ -1,7 +1,5 @@
 -- `ceviloneth::state::fill_state` meets its contract: the invariant is a fill up to i. Assumes nothing.
-use Prim.Native.Nat.{_-_, _≤_}
-use native.Mathlib.Omega.{arith}
-use borrow.Author.Needs.{needs}
+use Rattle.counting.proofs.Prelude.{_-_, _≤_, arith, needs}
 use Rattle.lists.specs.Filled.{Filled}
 use Rattle.ceviloneth.specs.State.{sessionBy, stateNumber}
 use Rattle.lists.proofs.Stores.{filled-none, filled-more, filled-all}

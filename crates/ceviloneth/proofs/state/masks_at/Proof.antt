@@ -1,9 +1,5 @@
 -- `ceviloneth::state::masks_at` meets its contract: the invariant is a fill up to i. Assumes nothing.
-use mathlib.Core.Path.{refl}
-use Prim.Native.Nat.{ℕ, _+_, _-_, _≤_}
-use native.Mathlib.Omega.{arith}
-use lib.ListN.{getD, replicate}
-use borrow.Author.Needs.{needs}
+use Rattle.counting.proofs.Prelude.{refl, ℕ, _+_, _-_, _≤_, arith, getD, replicate, needs}
 use Rattle.lists.specs.Filled.{Filled}
 use Rattle.lists.proofs.Stores.{filled-none, filled-more}
 use Rattle.ceviloneth.proofs.Spelling.{copied}

@@ -1,11 +1,7 @@
-use mathlib.Core.Path.{_≡_, _∙_, subst}
-use Prim.Native.Nat.{ℕ}
-use native.Mathlib.Omega.{arith}
-use lib.ListN.{length, getD}
+use Rattle.counting.proofs.Prelude.{_≡_, _∙_, subst, ℕ, arith, length, getD, needs}
 use Rattle.counting.specs.Quads.{quad}
 use Rattle.drawing.specs.Parts.{Tabled}
 use Rattle.counting.proofs.Clearing.{cleared-length, cleared-own}
-use borrow.Author.Needs.{needs}
 use Rattle.drawing.proofs.columns.columns_of.Statement.{statement}
 use Rattle.drawing.proofs.columns.columns_of.Tie as tie
 

@@ -1,13 +1,8 @@
-use mathlib.Core.Path.{_≡_, sym, subst}
-use mathlib.Core.List.{List}
-use Prim.Native.Nat.{ℕ, _+_, _-_, _≤_, zero-le}
-use native.Mathlib.Omega.{arith}
-use lib.ListN.{getD}
+use Rattle.counting.proofs.Prelude.{_≡_, sym, subst, List, ℕ, _+_, _-_, _≤_, zero-le, arith, getD, needs}
 use Rattle.page.specs.Page as page
 use Rattle.geometry.specs.Placement.{evenGaps}
 use Rattle.drawing.specs.Parts.{Owns}
 use Rattle.drawing.proofs.Owning.{owns-none, owns-more, block-within}
-use borrow.Author.Needs.{needs}
 use Rattle.drawing.proofs.columns.own_columns.Statement.{statement}
 use Rattle.drawing.proofs.columns.own_columns.Tie as tie
 

@@ -1,12 +1,7 @@
-use mathlib.Core.Path.{_≡_, sym, ap, subst}
-use mathlib.Core.List.{List}
-use Prim.Native.Nat.{ℕ, _-_, _≤_, _<_, zero-le}
-use native.Mathlib.Omega.{arith}
-use lib.ListN.{length, getD}
+use Rattle.counting.proofs.Prelude.{_≡_, sym, ap, subst, List, ℕ, _-_, _≤_, _<_, zero-le, arith, length, getD, needs}
 use Rattle.counting.specs.Quads.{quad}
 use Rattle.drawing.specs.Parts.{Tabled}
 use Rattle.drawing.proofs.Tabling.{tabled-none, tabled-more}
-use borrow.Author.Needs.{needs}
 use Rattle.drawing.proofs.columns.vertex_columns.Statement.{statement}
 use Rattle.drawing.proofs.columns.vertex_columns.Tie as tie
 

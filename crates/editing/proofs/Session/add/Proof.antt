@@ -1,7 +1,4 @@
-use mathlib.Core.Path.{refl, sym, _∙_}
-use Prim.Native.Nat.{_<_}
-use native.Mathlib.Omega.{arith}
-use borrow.Author.Needs.{needs}
+use Rattle.counting.proofs.Prelude.{refl, sym, _∙_, _<_, arith, needs}
 use Rattle.editing.proofs.Sessions.{add-refused, add-accepted}
 use Rattle.editing.proofs.Session.add.Statement.{statement}
 use Rattle.editing.proofs.Session.add.Tie as tie

@@ -1,5 +1,4 @@
-use native.Mathlib.Omega.{arith}
-use borrow.Author.Needs.{needs}
+use Rattle.counting.proofs.Prelude.{arith, needs}
 use Rattle.masks.specs.Sets.{at}
 use Rattle.editing.proofs.Sessions.{outside-tail, outside-head, inside, leads-outside, leads-inside}
 use Rattle.editing.proofs.Session.leads.Statement.{statement}

@@ -1,11 +1,8 @@
 -- `flat::entries::kind_at` meets its contract. Assumes nothing.
-use mathlib.Core.Path.{ap₂, _∙_}
-use Prim.Native.Nat.{ℕ, _+_, _*_}
-use lib.ListN.{getD}
+use Rattle.counting.proofs.Prelude.{ap₂, _∙_, ℕ, _+_, _*_, getD, needs}
 use Rattle.counting.specs.Quads.{quad}
 use Rattle.kinds.specs.Codes.{codeOf}
 use Rattle.kinds.specs.Kinds.{kindAmong}
-use borrow.Author.Needs.{needs}
 use Rattle.flat.proofs.entries.kind_at.Statement.{statement}
 use Rattle.flat.proofs.entries.kind_at.Tie as tie
 

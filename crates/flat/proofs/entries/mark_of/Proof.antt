@@ -1,9 +1,6 @@
 -- `flat::entries::mark_of` meets its contract, by the law of a mask's bit (`Passing.antt`). Assumes nothing.
-use mathlib.Core.Path.{refl}
-use Prim.Native.Nat.{_*_}
-use native.Mathlib.Omega.{arith}
+use Rattle.counting.proofs.Prelude.{refl, _*_, arith, needs}
 use Rattle.flat.proofs.Passing.{mark-is}
-use borrow.Author.Needs.{needs}
 use Rattle.flat.proofs.entries.mark_of.Statement.{statement}
 use Rattle.flat.proofs.entries.mark_of.Tie as tie
 

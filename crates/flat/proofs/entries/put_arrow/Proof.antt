@@ -1,6 +1,5 @@
 -- `flat::entries::put_arrow` meets its contract, from what its callees ensure. Assumes nothing.
-use native.Mathlib.Omega.{arith}
-use borrow.Author.Needs.{needs}
+use Rattle.counting.proofs.Prelude.{arith, needs}
 use Rattle.flat.specs.Numbers.{given, implied?}
 use Rattle.flat.proofs.Passing.{arrow-stored, kind-here, mark-here, unmarked}
 use Rattle.flat.proofs.entries.put_arrow.Statement.{statement}

@@ -1,9 +1,5 @@
 -- `flat::entries::put_arrows` meets its contract. The invariant: the first e entries stand, the reduced ones are counted. Assumes nothing.
-use mathlib.Core.Path.{_≡_}
-use mathlib.Core.Bool.{not}
-use Prim.Native.Nat.{_-_, _≤_}
-use native.Mathlib.Omega.{arith}
-use borrow.Author.Needs.{needs}
+use Rattle.counting.proofs.Prelude.{_≡_, not, _-_, _≤_, arith, needs}
 use Rattle.counting.specs.Count.{count}
 use Rattle.flat.specs.Numbers.{given, implied?}
 use Rattle.flat.specs.Pass.{arrowAt}

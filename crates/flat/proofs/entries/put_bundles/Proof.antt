@@ -1,7 +1,5 @@
 -- `flat::entries::put_bundles` meets its contract. The invariant: the first i numbers stand in the list. Assumes nothing.
-use Prim.Native.Nat.{_-_, _≤_}
-use native.Mathlib.Omega.{arith}
-use borrow.Author.Needs.{needs}
+use Rattle.counting.proofs.Prelude.{_-_, _≤_, arith, needs}
 use Rattle.lists.specs.Filled.{Filled}
 use Rattle.lists.proofs.Stores.{filled-none, filled-more, filled-all}
 use Rattle.flat.specs.Chart.{bundles}

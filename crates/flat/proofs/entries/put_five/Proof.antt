@@ -1,7 +1,5 @@
 -- `flat::entries::put_five` meets its contract: each store keeps the length. Assumes nothing.
-use native.Mathlib.Omega.{arith}
-use lib.ListN.{length-set}
-use borrow.Author.Needs.{needs}
+use Rattle.counting.proofs.Prelude.{arith, length-set, needs}
 use Rattle.flat.proofs.entries.put_five.Statement.{statement}
 use Rattle.flat.proofs.entries.put_five.Tie as tie
 

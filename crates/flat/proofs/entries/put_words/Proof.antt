@@ -1,8 +1,5 @@
 -- `flat::entries::put_words` meets its contract. The invariant: the first v entries stand in the list. Assumes nothing.
-use mathlib.Core.Path.{_≡_, _∙_}
-use Prim.Native.Nat.{_+_, _-_, _*_, _≤_}
-use native.Mathlib.Omega.{arith}
-use borrow.Author.Needs.{needs}
+use Rattle.counting.proofs.Prelude.{_≡_, _∙_, _+_, _-_, _*_, _≤_, arith, needs}
 use Rattle.flat.specs.Chart.{wordNumber}
 use Rattle.flat.specs.Numbers.{wordFrom}
 use Rattle.flat.proofs.Blocks.{entered, entered-none, entered-more, entered-long, entered-all}

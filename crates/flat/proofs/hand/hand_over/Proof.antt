@@ -1,9 +1,5 @@
 -- `flat::hand::hand_over` meets its contract: refused, or the entries are the chart's (`Leaving.antt`, `Charted.antt`). Assumes nothing.
-use mathlib.Core.Path.{_≡_, refl, sym, ap, subst, _∙_}
-use mathlib.Core.List.{List}
-use Prim.Native.Nat.{ℕ, _*_, _/_, _≤_}
-use native.Mathlib.Omega.{arith}
-use lib.ListN.{length, replicate}
+use Rattle.counting.proofs.Prelude.{_≡_, refl, sym, ap, subst, _∙_, List, ℕ, _*_, _/_, _≤_, arith, length, replicate}
 use lib.Seq.{length-take-le}
 use Rattle.drawing.specs.Drawn.{graphContent}
 use Rattle.drawing.specs.Laid.{Lists, lists, Laid}

@@ -1,10 +1,6 @@
-use mathlib.Core.Path.{refl, subst}
-use Prim.Native.Nat.{ℕ, _/_, min}
-use native.Mathlib.Omega.{arith}
-use lib.ListN.{length}
+use Rattle.counting.proofs.Prelude.{refl, subst, ℕ, _/_, min, arith, length, needs}
 use Rattle.counting.specs.Quads.{quad}
 use Rattle.prefixes.specs.Prefixes.{Prefixes}
-use borrow.Author.Needs.{needs}
 use Rattle.flat.proofs.hand.make_left.Statement.{statement}
 use Rattle.flat.proofs.hand.make_left.Tie as tie
 

@@ -1,8 +1,6 @@
-use mathlib.Core.Path.{sym, subst}
-use mathlib.Core.Bool.{Bool}
+use Rattle.counting.proofs.Prelude.{sym, subst, Bool, needs}
 use Rattle.channels.specs.Promise.{Answers}
 use Rattle.record.specs.Checked.{channelsRefusal, channelsBy}
-use borrow.Author.Needs.{needs}
 use Rattle.record.proofs.checks.channels_of.Statement.{statement}
 use Rattle.record.proofs.checks.channels_of.Tie as tie
 

@@ -1,5 +1,4 @@
-use mathlib.Core.Path.{refl}
-use borrow.Author.Needs.{needs}
+use Rattle.counting.proofs.Prelude.{refl, needs}
 use Rattle.record.proofs.Checking.{edges-fail, channels-fail, all-pass}
 use Rattle.record.proofs.checks.check.Statement.{statement}
 use Rattle.record.proofs.checks.check.Tie as tie

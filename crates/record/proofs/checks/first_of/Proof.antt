@@ -1,5 +1,4 @@
-use mathlib.Core.Path.{sym, _∙_}
-use borrow.Author.Needs.{needs}
+use Rattle.counting.proofs.Prelude.{sym, _∙_, needs}
 use Rattle.channels.specs.Given.{verticesOf, unknown?}
 use Rattle.record.proofs.Judging.{first-low, first-high, first-bare, first-known, first-unknown}
 use Rattle.record.proofs.checks.first_of.Statement.{statement}

@@ -1,11 +1,9 @@
-use mathlib.Core.Path.{_≡_, refl, sym, _∙_}
-use native.Mathlib.Omega.{arith}
+use Rattle.counting.proofs.Prelude.{_≡_, refl, sym, _∙_, arith, needs}
 use Rattle.fields.specs.declared.Layout.the-variants.{Good}
 use Rattle.fields.specs.Layout.{layoutOf}
 use Rattle.fields.proofs.Standing.{LaidOut, layout-good}
 use Rattle.record.proofs.Readings.{bad-refusal, unread-reads}
 use Rattle.record.proofs.Handing.{read-refused, read-passed}
-use borrow.Author.Needs.{needs}
 use Rattle.record.proofs.reading.read.Statement.{statement}
 use Rattle.record.proofs.reading.read.Tie as tie
 

@@ -1,7 +1,6 @@
-use mathlib.Core.Path.{sym, ap, _∙_}
+use Rattle.counting.proofs.Prelude.{sym, ap, _∙_, needs}
 use Rattle.script.specs.declared.Numeral.{Numeral}
 use Rattle.script.specs.Scanning.{withNumber, finishedOne, finished}
-use borrow.Author.Needs.{needs}
 use Rattle.script.proofs.Scanner.finish.Statement.{statement}
 use Rattle.script.proofs.Scanner.finish.Tie as tie
 

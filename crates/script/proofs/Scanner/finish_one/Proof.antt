@@ -1,8 +1,6 @@
-use borrow.Author.Tests.{eq-eqb, ne-eqb}
-use mathlib.Core.Path.{sym, ap, _∙_}
+use Rattle.counting.proofs.Prelude.{sym, ap, _∙_, eq-eqb, ne-eqb, needs}
 use Rattle.script.specs.declared.Numeral.{Numeral}
 use Rattle.script.specs.Scanning.{withNumber, finishedTwo, finishedOne}
-use borrow.Author.Needs.{needs}
 use Rattle.script.proofs.Scanner.finish_one.Statement.{statement}
 use Rattle.script.proofs.Scanner.finish_one.Tie as tie
 

@@ -1,6 +1,5 @@
-use borrow.Author.Tests.{eq-eqb, ne-eqb}
+use Rattle.counting.proofs.Prelude.{eq-eqb, ne-eqb, needs}
 use Rattle.script.specs.Scanning.{within}
-use borrow.Author.Needs.{needs}
 use Rattle.script.proofs.Scanner.inner.Statement.{statement}
 use Rattle.script.proofs.Scanner.inner.Tie as tie
 

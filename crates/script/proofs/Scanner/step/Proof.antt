@@ -1,9 +1,5 @@
-use mathlib.Core.Path.{_≡_}
-use Prim.Native.Nat.{_+_, min}
-use native.Mathlib.Omega.{arith}
-use borrow.Author.Tests.{eq-eqb, ne-eqb}
+use Rattle.counting.proofs.Prelude.{_≡_, _+_, min, arith, eq-eqb, ne-eqb, needs}
 use Rattle.script.specs.Scanning.{scanned, nextPart}
-use borrow.Author.Needs.{needs}
 use Rattle.script.proofs.Scanner.step.Statement.{statement}
 use Rattle.script.proofs.Scanner.step.Tie as tie
 
