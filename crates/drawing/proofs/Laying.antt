@@ -271,7 +271,7 @@ module _ {n : ℕ} {k : Checked} {e p spans number used column : List ℕ} (x : 
         );
       }
 
-      module _ {column′ : List ℕ} {width : ℕ} (d : Spaced n m p used′ (length column) column′ width) where
+      module _ {column′ : List ℕ} {width : ℕ} (d : Spaced n m p used′ column column′ width) where
         column-laid : (v : ℕ) → v < n → getD column′ v 0 ≡ columnIn (planOf c) v
         unfolding columnIn planOf chart.bundled chart.tracked
         column-laid v h =
@@ -298,7 +298,6 @@ module _ {n : ℕ} {k : Checked} {e p spans number used column : List ℕ} (x : 
           track = track-laid;
           used = used-laid;
           column = column-laid;
-          column-past = d .standing .past;
           width = d .owns .end ∙ width-same;
           longer-pairs = longer-laid;
           below-rows = below-laid;
@@ -315,7 +314,7 @@ module _ {n : ℕ} {k : Checked} {e p spans number used column : List ℕ} (x : 
 module _ {n m bs q width : ℕ} {k : Checked} {e p spans number used column spans₁ spans′ number′ used′ column′ : List ℕ}
     (known : m ≡ k .channels) (made : Bundled n e m p spans number bs spans₁ number′)
     (tracked : Tracked bs spans₁ used q spans′ used′)
-    (d : Spaced n m p used′ (length column) column′ width) where
+    (d : Spaced n m p used′ column column′ width) where
   pub all-laid : Filled n k e p spans number used column (planFrom k bs width) spans′ number′ used′ column′
   all-laid = record {
     refusal = refl;

@@ -9,7 +9,7 @@ use Rattle.drawing.proofs.Tabling.{tabled-none, tabled-more}
 
 pub owns-none : (W : Widths) → Owns W 0 (replicate 128 0) 0
 unfolding blockStart sum
-owns-none W = record { columns = tabled-none 128 (ownColumn W); end = refl }
+owns-none W = record { columns = tabled-none (replicate 128 0) (ownColumn W); end = refl }
 
 module _ (tracks : ℕ → ℕ) (j : ℕ) where
   -- the next block

@@ -57,9 +57,9 @@ pub record Roomy (n : ℕ) (t : Lists) : Type 0 where
   pub used : 128 ≤ length (t .used)
   pub column : min n 128 ≤ length (t .column)
 
--- p and t have the rows, channels, bundles, tracks and columns of the graph's chart, 0 past the last bundle and column; `below` has, for each k up
+-- p and t have the rows, channels, bundles, tracks and columns of the graph's chart, 0 past the last bundle; `below` has, for each k up
 -- to the rows used, the set of the vertices whose row is below k, and `longer` the pairs of vertices with a vertex between. Left free,
--- since nobody reads it, is what `below` has past the rows used, `longer` and `places` past the vertices, `used` past 128 channels, and what `edges` and
+-- since nobody reads it, is what `below` has past the rows used, `longer`, `places` and `column` past the vertices, `used` past 128 channels, and what `edges` and
 -- `table` have
 pub record Laid (c : Content) (p : Plan) (t : Lists) : Type 0 where
   pub sound : Sound c
@@ -73,7 +73,6 @@ pub record Laid (c : Content) (p : Plan) (t : Lists) : Type 0 where
   pub track : (b : ℕ) → quad 3 (t .spans) b ≡ getD (planOf c .tracks) b 0
   pub used : (l : ℕ) → l < 128 → getD (t .used) l 0 ≡ tracksIn (planOf c) l
   pub column : (v : ℕ) → v < c .vertices → getD (t .column) v 0 ≡ columnIn (planOf c) v
-  pub column-past : (v : ℕ) → c .vertices ≤ v → getD (t .column) v 0 ≡ 0
   pub width : p .width ≡ widthOf (planOf c)
   pub longer-pairs : (u v : ℕ) → u < c .vertices → v < c .vertices → member? (t .longer) (2 * u) v ≡ transitive? (leads? c) (c .vertices) u v
   pub below-rows : (k v : ℕ) → k ≤ rowCount c → v < 128 → at 2 (t .below) k v ≡ 1 ↔ ((v < c .vertices) × (rowOf c v < k))

@@ -3,7 +3,7 @@ use mathlib.Core.Path.{_≡_}
 use mathlib.Core.Bool.{Bool}
 use mathlib.Core.List.{List}
 use Prim.Native.Nat.{ℕ, _*_, _≤_, _<_}
-use lib.ListN.{length, getD}
+use lib.ListN.{length, getD, replicate}
 use Rattle.counting.specs.Quads.{quad}
 use Rattle.geometry.specs.Placement.{Widths, evenGaps, blockStart, ownColumn}
 use Rattle.page.specs.Page as page
@@ -14,15 +14,15 @@ use Rattle.drawing.specs.Drawn.{graphContent}
 use Rattle.drawing.specs.Laid.{lists, Roomy, Laid}
 use Rattle.drawing.specs.declared.Plan.{Plan}
 
--- the first j entries of a table are those of f, and past them stands 0
-pub record Tabled (size : ℕ) (f : ℕ → ℕ) (j : ℕ) (t : List ℕ) : Type 0 where
-  pub long : length t ≡ size
+-- the first j entries of a table are those of f, and the others as they were
+pub record Tabled (was : List ℕ) (f : ℕ → ℕ) (j : ℕ) (t : List ℕ) : Type 0 where
+  pub long : length t ≡ length was
   pub made : (i : ℕ) → i < j → getD t i 0 ≡ f i
-  pub past : (i : ℕ) → j ≤ i → getD t i 0 ≡ 0
+  pub past : (i : ℕ) → j ≤ i → getD t i 0 ≡ getD was i 0
 
 -- the own columns of the first j channels, and the width of their blocks
 pub record Owns (W : Widths) (j : ℕ) (own : List ℕ) (width : ℕ) : Type 0 where
-  pub columns : Tabled 128 (ownColumn W) j own
+  pub columns : Tabled (replicate 128 0) (ownColumn W) j own
   pub end : width ≡ blockStart W j
 
 -- the blocks of the channels, by the tracks of each
@@ -38,10 +38,10 @@ pub record Spaceable (n channels : ℕ) (places tracks column : List ℕ) : Type
   pub sizes : (4 * n ≤ length places) × (128 ≤ length tracks) × (n ≤ length column)
 
 -- each of n vertices stands in its channel's own column, and so wide are all blocks
-pub record Spaced (n channels : ℕ) (places tracks : List ℕ) (size : ℕ) (column : List ℕ) (width : ℕ) : Type 0 where
+pub record Spaced (n channels : ℕ) (places tracks was column : List ℕ) (width : ℕ) : Type 0 where
   pub own : List ℕ
   pub owns : Owns (blocksOf tracks) channels own width
-  pub standing : Tabled size (λ v. getD own (quad 0 places v) 0) n column
+  pub standing : Tabled was (λ v. getD own (quad 0 places v) 0) n column
 
 -- a graph of n vertices passed the checks with k, and the lists have room for its plan
 pub record Passed (n : ℕ) (k : Checked) (edges places spans number used column : List ℕ) : Type 0 where

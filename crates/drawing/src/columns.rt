@@ -26,26 +26,17 @@ fn own_columns(channels: usize, tracks: &[u16], own: &mut [u16]) -> u16
     start
 }
 
-// No column.
-fn clear(columns: &mut [u16])
-    ensures { λ _. ⌜ now (columns .exit) ≡ replicate (length (now (columns .entry))) 0 ⌝ }
-{
-    for i in 0..columns.len() {
-        columns[i] = 0;
-    }
-}
-
 // Each of n vertices stands in its channel's own column.
 fn vertex_columns<'a>(n: usize, places: &'a [u8], own: &'a [u16], columns: &mut [u16])
-    requires { ⌜ (n ≤ 128) × (n ≤ length (now columns)) × (4 * n ≤ length (now places)) × (length (now own) ≡ 128) × ((v : ℕ) → v < n → quad 0 (now places) v < 128) × (now columns ≡ replicate (length (now columns)) 0) ⌝ }
-    ensures { λ _. ⌜ Tabled (length (now (columns .entry))) (λ v. getD (now (own .entry)) (quad 0 (now (places .entry)) v) 0) n (now (columns .exit)) ⌝ }
+    requires { ⌜ (n ≤ 128) × (n ≤ length (now columns)) × (4 * n ≤ length (now places)) × (length (now own) ≡ 128) × ((v : ℕ) → v < n → quad 0 (now places) v < 128) ⌝ }
+    ensures { λ _. ⌜ Tabled (now (columns .entry)) (λ v. getD (now (own .entry)) (quad 0 (now (places .entry)) v) 0) n (now (columns .exit)) ⌝ }
 {
     for v in 0..n {
         columns[v] = own[wide(places[4 * v])];
     }
 }
 
-// The columns of n vertices by their channels, 0 past the last, and the columns of all blocks, by the tracks of each channel.
+// The columns of n vertices by their channels, and the columns of all blocks, by the tracks of each channel.
 pub(crate) fn columns_of<'a, 't>(
     n: usize,
     channels: usize,
@@ -54,11 +45,10 @@ pub(crate) fn columns_of<'a, 't>(
     column: &mut [u16],
 ) -> u16
     requires { ⌜ Spaceable n channels (now places) (now tracks) (now column) ⌝ }
-    ensures { λ r. ⌜ Spaced n channels (now (places .entry)) (now (tracks .entry)) (length (now (column .entry))) (now (column .exit)) r ⌝ }
+    ensures { λ r. ⌜ Spaced n channels (now (places .entry)) (now (tracks .entry)) (now (column .entry)) (now (column .exit)) r ⌝ }
 {
     let mut own = [0; 128];
     let width = own_columns(channels, tracks, &mut own);
-    clear(column);
     vertex_columns(n, places, &own, column);
     width
 }

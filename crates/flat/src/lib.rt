@@ -13,8 +13,8 @@ mod hand;
 use fields::Layout;
 use hand::hand_over;
 
-// For so many vertices there are smaller work lists.
-const FEW: usize = 16;
+// For so many vertices there are smaller work lists: none is longer than 256 bytes, which the compiler clears without a call.
+const FEW: usize = 15;
 
 // Document 01's number, or 0; how many entries each list got; the other counts, and the side columns of each line, 0 past the last.
 // Every number but the first is 0 where the chart is refused.
@@ -122,7 +122,7 @@ fn drawn<'g, 'f, 'e, 'b, 't, 'l, 'p, 's, 'n, 'c, 'u>(
     )
 }
 
-// The same with work lists for at most 16 vertices: clearing larger ones would take most of the time of a small chart.
+// The same with work lists for at most 15 vertices: clearing larger ones would take most of the time of a small chart.
 fn few<'g, 'f, 'u>(
     n: usize,
     ends: &'g [u8],
@@ -133,17 +133,17 @@ fn few<'g, 'f, 'u>(
     bundles: &mut [u16],
     used: &'u mut [u16],
 ) -> Counts
-    requires { ⌜ (n ≤ 16) × (length (now used) ≡ 128) ⌝ }
+    requires { ⌜ (n ≤ 15) × (length (now used) ≡ 128) ⌝ }
     ensures { λ r. ⌜ Left (lent (length (now (words .entry)) / 5) (length (now (arrows .entry)) / 5) (length (now (bundles .entry)) / 4) (graphDrawn n (now (ends .entry)) given (now (field .entry)))) (now (words .entry)) (now (arrows .entry)) (now (bundles .entry)) (whole r (now (used .exit))) (now (words .exit)) (now (arrows .exit)) (now (bundles .exit)) ⌝ }
 {
-    let mut edges = [0; 32];
-    let mut below = [0; 34];
-    let mut table = [0; 34];
-    let mut longer = [0; 32];
-    let mut places = [0; 64];
-    let mut spans = [0; 128];
-    let mut number = [0; 32];
-    let mut column = [0; 16];
+    let mut edges = [0; 30];
+    let mut below = [0; 32];
+    let mut table = [0; 32];
+    let mut longer = [0; 30];
+    let mut places = [0; 60];
+    let mut spans = [0; 120];
+    let mut number = [0; 30];
+    let mut column = [0; 15];
     drawn(
         n,
         ends,

@@ -4,7 +4,7 @@ use mathlib.Core.Bool.{Bool, true, false, not, _&&_}
 use mathlib.Core.List.{List}
 use Prim.Native.Nat.{ℕ, _≤_, _<_}
 use Rattle.masks.specs.Sets.{member?}
-use Rattle.matching.specs.Search.{State, unvisited, augment}
+use Rattle.matching.specs.Search.{State, unvisited, augment, fresh}
 use Rattle.search.specs.Table.{leadsIn}
 
 abbrev pub state : List ℕ → List ℕ → Bool → State
@@ -24,3 +24,9 @@ pub record NextOpen (table : List ℕ) (h : ℕ) (visited : List ℕ) (from r : 
 pub record Augments (leads : ℕ → ℕ → Bool) (n h : ℕ) (s r : State) : Type 0 where
   pub same : (k : ℕ) → unvisited n s < k → r ≡ augment leads n k h s
   pub fewer : unvisited n r ≤ unvisited n s
+
+-- h asked: a search that began with no vertex visited took the predecessors P to P′
+pub record Asks (leads : ℕ → ℕ → Bool) (n h : ℕ) (P P′ : List ℕ) : Type 0 where
+  pub visited : List ℕ
+  pub found : Bool
+  pub augments : Augments leads n h (fresh P) (state P′ visited found)

@@ -8,7 +8,7 @@ ghost use lib.ListN.{length, getD};
 ghost use Rattle.masks.specs.Sets.{inserted};
 ghost use Rattle.matching.specs.Search.{matching};
 ghost use Rattle.search.specs.Table.{leadsIn};
-ghost use Rattle.search.specs.Search.{state, NextOpen, Augments};
+ghost use Rattle.search.specs.Search.{state, NextOpen, Augments, Asks};
 
 // The most vertices, and what stands for no vertex.
 const MOST: usize = 128;
@@ -112,6 +112,22 @@ fn capped(n: usize) -> usize
     n
 }
 
+// Has h ask for a successor. Mostly the first vertex that it leads to has no predecessor, and there is nothing to search.
+fn ask(table: &[u64], n: usize, h: u8, predecessor: &mut [u8])
+    requires { ⌜ (n ≤ 128) × (length (now predecessor) ≡ 128) ⌝ }
+    ensures { λ _. ⌜ Asks (leadsIn (now (table .entry))) n h (now (predecessor .entry)) (now (predecessor .exit)) ⌝ }
+{
+    let mut visited = [0u64; 2];
+    let v = next_open(table, h, &visited);
+    if v < n {
+        if predecessor[v] == NOBODY {
+            predecessor[v] = h;
+            return;
+        }
+        augment(table, n, h, predecessor, &mut visited);
+    }
+}
+
 // Each vertex's predecessor, or NOBODY, after every vertex, from 0 up, has asked for a successor; of more than 128 the first 128.
 pub fn matched(table: &[u64], n: usize) -> [u8; 128]
     ensures { λ r. ⌜ (r ≡ matching (leadsIn (now (table .entry))) (min n 128)) × (length r ≡ 128) ⌝ }
@@ -120,8 +136,7 @@ pub fn matched(table: &[u64], n: usize) -> [u8; 128]
     let mut predecessor = [NOBODY; 128];
     let mut h: u8 = 0;
     while wide(h) < most {
-        let mut visited = [0u64; 2];
-        augment(table, most, h, &mut predecessor, &mut visited);
+        ask(table, most, h, &mut predecessor);
         h += 1;
     }
     predecessor

@@ -1,4 +1,4 @@
--- `flat::few` meets its contract: its lists have room for 16 vertices. Assumes nothing.
+-- `flat::few` meets its contract: its lists have room for 15 vertices. Assumes nothing.
 use Rattle.counting.proofs.Prelude.{refl, needs}
 use Rattle.flat.proofs.few.Statement.{statement}
 use Rattle.flat.proofs.few.Tie as tie

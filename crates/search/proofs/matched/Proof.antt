@@ -16,16 +16,14 @@ loop-holds : tie.Need-loop-holds Inv-loop μ-loop
 loop-holds c =
     (omega arith, refl, ask-none _ _)
 
-augment-requires : tie.Need-augment-requires Inv-loop μ-loop
-augment-requires c κs =
-    let o = c .before .before .before .before in
-    (omega arith, o .loop .inv .1, refl)
+ask-requires : tie.Need-ask-requires Inv-loop μ-loop
+ask-requires c κs = (omega arith, c .before .before .before .loop .inv .1)
 
 loop-again : tie.Need-loop-again Inv-loop μ-loop
 loop-again c =
-    let a = c .before .before in
-    let o = a .before .before .before .before .before in
-    (omega arith, a .augment .kept .1 .1 .1 .0 ∙ o .loop .inv .1, o .loop .inv .2 ∙ ask-more _ _ _ _ _ _ _ (omega arith) (a .augment .ensures))
+    let a = c .before in
+    let o = a .before .before .before .before in
+    (omega arith, a .ask .kept .1 .1 .1 .0 ∙ o .loop .inv .1, o .loop .inv .2 ∙ ask-more _ _ _ _ _ _ _ (omega arith) (a .ask .ensures .augments))
 
 returns : tie.Need-returns Inv-loop μ-loop
 returns c =
@@ -42,8 +40,7 @@ matched-spec =
     loop-holds
     (λ c κs. search needs)
     (λ c. search needs)
-    (λ c. search needs)
-    augment-requires
+    ask-requires
     (λ c. search needs)
     (λ c. search needs)
     loop-again

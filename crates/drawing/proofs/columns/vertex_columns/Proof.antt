@@ -6,17 +6,13 @@ use Rattle.drawing.proofs.columns.vertex_columns.Statement.{statement}
 use Rattle.drawing.proofs.columns.vertex_columns.Tie as tie
 
 abbrev Inv-loop : tie.InvT-loop
-Inv-loop n places own columns₀ v₀ columns v = (v ≤ n) × Tabled (length columns₀) (λ x. getD own (quad 0 places x) 0) v columns
+Inv-loop n places own columns₀ v₀ columns v = (v ≤ n) × Tabled columns₀ (λ x. getD own (quad 0 places x) 0) v columns
 
 abbrev μ-loop : tie.MeasureT-loop
 μ-loop n places own columns₀ v₀ columns v = n - v
 
 loop-holds : tie.Need-loop-holds Inv-loop μ-loop
-loop-holds c =
-    let st = c .before .before .before in
-    let a = st .args in
-    let f : ℕ → ℕ = λ x. getD (a .own .now) (quad 0 (a .places .now) x) 0 in
-    (zero-le, subst (λ (t : List ℕ). Tabled (length (a .columns .now)) f 0 t) (sym (st .pre .5)) (tabled-none (length (a .columns .now)) f))
+loop-holds c = (zero-le, tabled-none _ _)
 
 -- the channel of a vertex has an own column
 known : (c : tie.In-loop Inv-loop μ-loop) → quad 0 (c .before .before .before .before .before .args .places .now) (c .before .loop .v) < 128
@@ -47,7 +43,7 @@ returns : tie.Need-returns Inv-loop μ-loop
 returns c =
     let a = c .before .before .before .before .before .args in
     let l = c .before .loop in
-    subst (λ (j : ℕ). Tabled (length (a .columns .now)) (λ x. getD (a .own .now) (quad 0 (a .places .now) x) 0) j (l .columns))
+    subst (λ (j : ℕ). Tabled (a .columns .now) (λ x. getD (a .own .now) (quad 0 (a .places .now) x) 0) j (l .columns))
     (let e : l .v ≡ a .n = omega arith in e) (l .inv .1)
 
 pub vertex-columns-spec : {M : Type 1} → statement M
