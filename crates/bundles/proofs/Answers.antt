@@ -2,7 +2,7 @@
 use Rattle.counting.proofs.Prelude.{_≡_, refl, sym, ap, ap₂, _∙_, subst, Bool, true, false, List, ℕ, _+_, _*_, _/_, _≤_, _<_, min, arith, ltb, length, getD, lt-ltb}
 use Rattle.counting.specs.Quads.{quad}
 use Rattle.counting.proofs.Truth.{and-elim, same-truth, and-intro}
-use Rattle.bundles.specs.Bundles.{Bundle, along, bundles}
+use Rattle.specification.specs.Bundles.{Bundle, along, bundles}
 use Rattle.bundles.specs.Sides.{tableSide?}
 use Rattle.bundles.specs.Promise.{fitting, Listed, bundlesIn, Bundled}
 use Rattle.bundles.specs.Steps.{

@@ -1,10 +1,10 @@
 -- Laws of the choice: no vertex goes before the best. Assumes nothing.
 use Rattle.counting.proofs.Prelude.{_≡_, refl, sym, ap, _∙_, subst, _⊎_, inl, inr, ⊎-elim, Bool, true, false, true≢false, _&&_, _||_, List, ℕ, zero, suc, _≤_, _<_, arith, eqb, ltb, getD, eq-eqb, ne-eqb, eqb-true, ltb-true, ltb-false}
 use native.Mathlib.Nat.{not-suc-le-zero}
-use Rattle.counting.specs.Count.{choose}
+use Rattle.specification.specs.Count.{choose}
 use Rattle.counting.specs.Quads.{quad}
 use Rattle.counting.proofs.Truth.{true-or-false, lt-or-le, and-intro, and-elim, or-elim, or-neither}
-use Rattle.bundles.specs.Bundles.{before, best, better}
+use Rattle.specification.specs.Bundles.{before, best, better}
 use Rattle.bundles.specs.Steps.{endOf, loadAt}
 use Rattle.counting.proofs.Choosing.{choose-yes, choose-no}
 

@@ -8,12 +8,12 @@ use lib.Pow.{pow-pos}
 use Rattle.counting.specs.Quads.{quad}
 use Rattle.counting.proofs.Truth.{true-or-false, lt-or-le, and-intro, and-elim, same-truth}
 use Rattle.counting.proofs.Booleans.{and-no}
-use Rattle.masks.specs.Bits.{bit}
+use Rattle.specification.specs.Sets.{bit, member, member?, at, inserted}
+use Rattle.specification.specs.Bundles.{adjacent?, apart?}
 use Rattle.masks.proofs.Bits.{bit-lt, bit-of-zero, bit-and, one-shl, bit-high, bit-not}
-use Rattle.masks.specs.Sets.{member, member?, at, inserted}
 use Rattle.masks.proofs.Sets.{inserted-length, member-lt}
 use Rattle.masks.proofs.Tables.{at-zeros, Put, put-law}
-use Rattle.bundles.specs.Sides.{adjacent?, apart?, tableSide?}
+use Rattle.bundles.specs.Sides.{tableSide?}
 use Rattle.bundles.specs.Steps.{FirstBits, Owned, Part, lowSide}
 
 -- a bit is set in a mask as the code does it

@@ -2,17 +2,17 @@
 use Rattle.counting.proofs.Prelude.{_≡_, refl, sym, ap, ap₂, _∙_, _≢_, _⊎_, inl, inr, ⊎-elim, Bool, true, false, true≢false, not, _&&_, List, [], _∷_, _++_, ℕ, zero, suc, _+_, _*_, _≤_, _<_, min, max, arith, eqb, ltb, length, getD, set, length-set, length-append, List·getD-append, List·getD-eq-default, eq-eqb, ne-eqb, lt-ltb, ltb-true}
 use native.Mathlib.Decide.{ℕ-discrete}
 use lib.Seq.{getD-set-same, getD-set-other, getD-append-seam}
-use Rattle.counting.specs.Count.{indicator, count}
+use Rattle.specification.specs.Count.{indicator, count}
+use Rattle.specification.specs.Sets.{member, member?}
+use Rattle.specification.specs.Bundles.{Bundle, gathers, taken, along, waits, waitsAt, lowest, highest, made, empty}
 use Rattle.counting.specs.Quads.{quad}
 use Rattle.counting.proofs.Truth.{true-or-false, lt-or-le, and-elim, two-cases}
 use Rattle.counting.proofs.Falsity.{not-true}
 use Rattle.counting.proofs.Sums.{sum-ext, sum-less}
 use Rattle.counting.proofs.Classes.{sum-term}
 use Rattle.counting.proofs.Quads.{quad-same, quad-other, quad-zero}
-use Rattle.masks.specs.Sets.{member, member?}
 use Rattle.masks.proofs.Sets.{member-lt}
-use Rattle.bundles.specs.Bundles.{Bundle, gathers, taken, along, waits, waitsAt, lowest, highest, made}
-use Rattle.bundles.specs.Promise.{empty, numberFrom, Listed}
+use Rattle.bundles.specs.Promise.{numberFrom, Listed}
 use Rattle.bundles.specs.Steps.{
   endOf,
   Sets,

@@ -8,15 +8,14 @@ use mathlib.Core.List.{List}
 use Prim.Native.Nat.{ℕ, zero, suc, _+_, _-_, _*_, _≤_, _<_, min, max}
 use lib.Dec.{eqb, ltb}
 use lib.ListN.{length, getD, set}
-use Rattle.counting.specs.Count.{choose, indicator, sum, count}
+use Rattle.specification.specs.Count.{choose, indicator, sum, count}
+use Rattle.specification.specs.Sets.{bit, member, member?}
+use Rattle.specification.specs.Bundles.{Bundle, along, waitsAt, best, lowest, highest, rounds, bundles, adjacent?, empty}
 use Rattle.counting.specs.Quads.{quad}
-use Rattle.masks.specs.Bits.{bit}
-use Rattle.masks.specs.Sets.{member, member?}
 use Rattle.sorting.specs.Sorted.{Sorted}
-use Rattle.bundles.specs.Bundles.{Bundle, along, waitsAt, best, lowest, highest, rounds, bundles}
 use Rattle.bundles.specs.Choice.{live}
-use Rattle.bundles.specs.Sides.{adjacent?, tableSide?}
-use Rattle.bundles.specs.Promise.{noBundle, empty, numberFrom, Listed, bundlesIn}
+use Rattle.bundles.specs.Sides.{tableSide?}
+use Rattle.bundles.specs.Promise.{noBundle, numberFrom, Listed, bundlesIn}
 use Rattle.bundles.specs.declared.Span.{Span}
 
 -- the number of an end: of the edges into v, or out of v

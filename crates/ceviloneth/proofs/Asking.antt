@@ -2,13 +2,14 @@
 use Rattle.counting.proofs.Prelude.{_≡_, sym, ap, _∙_, Bool, true, false, _||_, List, ℕ, _*_, _<_, _≤_, arith, leb, eq-eqb, ne-eqb, le-leb, lt-leb}
 use Rattle.counting.proofs.Truth.{or-left, or-right}
 use Rattle.counting.proofs.Falsity.{neither}
-use Rattle.masks.specs.Sets.{member?, at}
+use Rattle.specification.specs.Sets.{member?, at}
 use Rattle.reach.proofs.Closures.{same-test}
-use Rattle.record.specs.Reading.{recordRefusal, said, Reads}
+use Rattle.specification.specs.Checks.{recordRefusal, said}
+use Rattle.record.specs.Reading.{Reads}
 use Rattle.record.specs.declared.reading.Reading.{Reading}
 use Rattle.record.proofs.Accepted.{said-passes}
 use Rattle.record.proofs.Soundness.{accepted-sound}
-use Rattle.outline.specs.Chart.{leads?}
+use Rattle.specification.specs.Chart.{leads?}
 use Rattle.ceviloneth.specs.declared.Leading.{Leading}
 use Rattle.ceviloneth.specs.State.{toldBy}
 use Rattle.ceviloneth.specs.Asked.{askRefusal, asked}

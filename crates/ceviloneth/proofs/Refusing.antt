@@ -1,9 +1,9 @@
 -- What a caller knows of a refused chart: every list is as it was, and every count is 0. Assumes nothing.
 use Rattle.counting.proofs.Prelude.{_≡_, refl, subst, _∙_, List, ℕ, _/_, _<_, arith, length, getD}
 use Rattle.lists.proofs.Written.{untouched}
-use Rattle.record.specs.Checks.{Content}
-use Rattle.outline.specs.Chart.{planOf}
-use Rattle.drawing.specs.Drawn.{recordDrawn}
+use Rattle.specification.specs.Checks.{Content}
+use Rattle.specification.specs.Chart.{planOf}
+use Rattle.specification.specs.Drawn.{recordDrawn}
 use Rattle.drawing.proofs.Nothing.{empty}
 use Rattle.drawing.proofs.Refusals.{record-sound, lent-quiet}
 use Rattle.flat.specs.declared.ChartCounts.{ChartCounts}

@@ -1,7 +1,7 @@
 -- Every list of calls after a start: the session that the list spells and every answer are those of `editing`'s machine. Assumes nothing.
 use Rattle.counting.proofs.Prelude.{_≡_, refl, sym, ap, subst, _∙_, Bool, true, false, List, ℕ, _≤_, arith, eqb, ltb, length, ltb-false}
-use Rattle.counting.specs.Count.{choose, indicator}
-use Rattle.editing.specs.Machine.{Call, Answer, fresh, startRefusal}
+use Rattle.specification.specs.Count.{choose, indicator}
+use Rattle.specification.specs.Machine.{Call, Answer, fresh, startRefusal}
 use Rattle.editing.specs.Promise.{replyAnswer}
 use Rattle.editing.specs.Histories.{Performed, History, Follows}
 use Rattle.editing.proofs.Sequences.{every-list}

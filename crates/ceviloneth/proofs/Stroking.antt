@@ -1,10 +1,10 @@
 -- From `page`'s promise to the strokes as numbers. Assumes nothing.
 use Rattle.counting.proofs.Prelude.{_≡_, sym, ap, subst, _∙_, List}
-use Rattle.page.specs.Page.{Answer, answerOf, AllAt, Answers}
-use Rattle.page.specs.declared.Cell.{Cell}
-use Rattle.page.specs.declared.Point.{Point}
-use Rattle.page.specs.declared.Polyline.{Polyline}
-use Rattle.page.specs.declared.Polyline.the-variants.{Straight, Bent, Side, OffPage}
+use Rattle.specification.specs.Page.{Answer, answerOf, AllAt, Answers}
+use Rattle.specification.specs.declared.Cell.{Cell}
+use Rattle.specification.specs.declared.Point.{Point}
+use Rattle.specification.specs.declared.Polyline.{Polyline}
+use Rattle.specification.specs.declared.Polyline.the-variants.{Straight, Bent, Side, OffPage}
 use Rattle.ceviloneth.specs.declared.Stroke.{Stroke}
 use Rattle.ceviloneth.specs.Strokes.{origin, joinedAt, strokeFor, Drawn}
 

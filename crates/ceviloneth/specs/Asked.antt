@@ -3,9 +3,9 @@ use mathlib.Core.Bool.{_||_, _&&_}
 use mathlib.Core.List.{List}
 use Prim.Native.Nat.{ℕ}
 use lib.Dec.{eqb, leb}
-use Rattle.counting.specs.Count.{choose}
-use Rattle.record.specs.Reading.{recordRefusal, said}
-use Rattle.outline.specs.Chart.{leads?}
+use Rattle.specification.specs.Count.{choose}
+use Rattle.specification.specs.Checks.{recordRefusal, said}
+use Rattle.specification.specs.Chart.{leads?}
 use Rattle.ceviloneth.specs.declared.Leading.{Leading}
 use Rattle.ceviloneth.specs.State.{toldBy}
 

@@ -2,7 +2,7 @@
 use mathlib.Core.List.{List, [], _∷_}
 use Prim.Native.Nat.{ℕ}
 use lib.Dec.{eqb}
-use Rattle.editing.specs.Machine.{Call, Answer}
+use Rattle.specification.specs.Machine.{Call, Answer}
 use Rattle.editing.specs.Promise.{changeAnswer, replyAnswer}
 use Rattle.ceviloneth.specs.declared.Leading.{Leading}
 use Rattle.ceviloneth.specs.State.{Adds, Tells}

@@ -6,9 +6,9 @@ use mathlib.Core.List.{List}
 use Prim.Native.Nat.{ℕ, _-_, _<_, _≤_}
 use lib.Dec.{eqb, ltb}
 use lib.ListN.{length, getD, take, drop}
-use Rattle.counting.specs.Count.{choose, indicator}
+use Rattle.specification.specs.Count.{choose, indicator}
 use Rattle.lists.specs.Filled.{Filled}
-use Rattle.editing.specs.Machine.{startRefusal}
+use Rattle.specification.specs.Machine.{startRefusal}
 use Rattle.editing.specs.Promise.{refusalOf, StartPromise, AddPromise, LeadsPromise}
 use Rattle.editing.specs.declared.Session.{Session}
 use Rattle.editing.specs.declared.Reply.{Reply}

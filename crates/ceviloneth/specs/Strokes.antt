@@ -6,9 +6,9 @@ use Prim.Native.Nat.{ℕ}
 use lib.Ieee.{Float, binary32, ofBits}
 use lib.Ieee.Exact.{HasValue}
 use lib.ListN.{length, getD}
-use Rattle.page.specs.Page.{Answer, answerFor, AllAt}
-use Rattle.page.specs.declared.Cell.{Cell}
-use Rattle.page.specs.declared.Point.{Point}
+use Rattle.specification.specs.Page.{Answer, answerFor, AllAt}
+use Rattle.specification.specs.declared.Cell.{Cell}
+use Rattle.specification.specs.declared.Point.{Point}
 use Rattle.ceviloneth.specs.declared.Stroke.{Stroke}
 
 abbrev pub cell : ℕ → ℕ → Cell

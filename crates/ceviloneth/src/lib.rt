@@ -11,7 +11,7 @@ mod state;
 mod strokes;
 
 use flat::ChartCounts;
-use page::Cell;
+use specification::Cell;
 use state::STATE_NUMBERS;
 use state::fill_state;
 use state::session_of;

@@ -1,10 +1,10 @@
 // A polyline as numbers.
 ghost use mathlib.Core.Path.{_≡_};
-ghost use Rattle.page.specs.Page.{answerOf};
+ghost use Rattle.specification.specs.Page.{answerOf};
 ghost use Rattle.ceviloneth.specs.Strokes.{origin, strokeFor, joinedAt};
 use crate::Stroke;
-use page::Point;
-use page::Polyline;
+use specification::Point;
+use specification::Polyline;
 
 // Stands for a point that a stroke has not.
 fn nowhere() -> Point

@@ -1,10 +1,9 @@
 -- Channels by a table and by a relation that agrees with it on the vertices below n: they are the same. Assumes nothing.
 use Rattle.counting.proofs.Prelude.{_≡_, refl, ap, ap₂, Bool, true, false, not, _&&_, _||_, ℕ, _<_, leb, leb-false}
 use mathlib.Core.List.{List, [], _∷_, _++_, flatten}
-use Rattle.counting.specs.Count.{choose}
+use Rattle.specification.specs.Count.{choose}
+use Rattle.specification.specs.Channels.{linked, every, allLinked, linesOf, verticesOf, unknown?, repeats?, lacks?, broken?}
 use Rattle.counting.proofs.Truth.{or-neither}
-use Rattle.matching.specs.Lists.{linked, every, allLinked}
-use Rattle.channels.specs.Given.{linesOf, verticesOf, unknown?, repeats?, lacks?, broken?}
 use Rattle.channels.specs.Promise.{outsized?, givenRefusal}
 
 unknown-append : (n : ℕ) (l s : List ℕ) → unknown? n (l ++ s) ≡ false → (unknown? n l ≡ false) × (unknown? n s ≡ false)

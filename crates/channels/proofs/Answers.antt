@@ -1,9 +1,9 @@
 -- The answers of the public calls, case by case. Assumes nothing.
 use Rattle.counting.proofs.Prelude.{_≡_, refl, sym, ap, _∙_, subst, _≢_, Bool, true, false, _||_, List, ℕ, _*_, _≤_, _<_, min, arith, eqb, ltb, length, eq-eqb, ne-eqb, lt-ltb, le-ltb}
-use Rattle.counting.specs.Count.{choose}
+use Rattle.specification.specs.Count.{choose}
 use Rattle.counting.proofs.Truth.{or-left, or-right}
-use Rattle.matching.specs.Chains.{planned}
-use Rattle.channels.specs.Given.{linesOf, verticesOf, unknown?, repeats?, lacks?, broken?}
+use Rattle.specification.specs.Planning.{planned}
+use Rattle.specification.specs.Channels.{linesOf, verticesOf, unknown?, repeats?, lacks?, broken?}
 use Rattle.search.specs.Table.{leadsIn}
 use Rattle.planning.specs.Arranged.{Arranged, Kept}
 use Rattle.planning.specs.Promise.{Chained}

@@ -1,15 +1,15 @@
 -- The checks of given channels: what each says, and what each step of its loop keeps. Assumes nothing.
 use Rattle.counting.proofs.Prelude.{_≡_, refl, sym, ap, _∙_, subst, _≢_, Bool, true, false, true≢false, not, _&&_, _||_, List, [], _∷_, ℕ, suc, _+_, _-_, _≤_, _<_, arith, eqb, leb, length, getD, drop, replicate, eq-eqb, ne-eqb, lt-ltb, le-leb, lt-leb, leb-false, not-false}
 use native.Mathlib.Decide.{ℕ-discrete}
-use Rattle.counting.specs.Count.{indicator, choose}
+use Rattle.specification.specs.Count.{indicator, choose}
+use Rattle.specification.specs.Sets.{member?, inserted}
+use Rattle.specification.specs.Channels.{times, has, linked, every, allLinked, front, lines, filled, linesOf, verticesOf, unknown?, repeats?, lacks?, broken?}
 use Rattle.counting.proofs.Truth.{indicator-le, or-neither}
 use Rattle.counting.proofs.Somes.{some-found, some-none}
-use Rattle.masks.specs.Sets.{member?, inserted}
 use Rattle.masks.proofs.Members.{length-inserted, inserted-here, inserted-other, member-zeros}
-use Rattle.matching.specs.Lists.{times, has, linked, every, full, allLinked}
+use Rattle.matching.specs.Lists.{full}
 use Rattle.matching.specs.Division.{Covers}
 use Rattle.matching.proofs.Lists.{Within, times-here, times-other, times-tail, times-none, has-true, has-false, times-hasnt}
-use Rattle.channels.specs.Given.{front, lines, filled, linesOf, verticesOf, unknown?, repeats?, lacks?, broken?}
 use Rattle.channels.proofs.Fields.{left, left-all, left-length, left-vertex, left-end, lines-length, lines-vertex, lines-end}
 
 -- ---- what the checks say

@@ -1,7 +1,7 @@
 -- The tables of given channels, laid byte by byte in the walk that checks them. Assumes nothing.
 use Rattle.counting.proofs.Prelude.{_≡_, sym, ap, _∙_, _≢_, Bool, false, List, [], ℕ, _+_, _-_, _*_, _≤_, _<_, arith, length, getD}
 use Rattle.matching.proofs.Lists.{length-bound}
-use Rattle.channels.specs.Given.{verticesOf, unknown?, repeats?}
+use Rattle.specification.specs.Channels.{verticesOf, unknown?, repeats?}
 use Rattle.planning.specs.Arranged.{Arranged, Kept}
 use Rattle.channels.specs.Laid.{Lays}
 use Rattle.channels.specs.Promise.{givenRefusal}

@@ -2,15 +2,14 @@
 -- least of all. Here the theorems stand of what `plan` and `given` hand over. Assumes nothing.
 use Rattle.counting.proofs.Prelude.{_≡_, refl, sym, ap, _∙_, Bool, true, false, true≢false, _||_, List, ℕ, suc, _*_, _≤_, _<_, min, arith, eqb, ltb, length, ltb-false}
 use native.Mathlib.Decide.{decLt}
-use Rattle.counting.specs.Count.{choose}
+use Rattle.specification.specs.Count.{choose}
+use Rattle.specification.specs.Channels.{channelOf, positionOf, linesOf, verticesOf, unknown?, repeats?, lacks?, broken?}
+use Rattle.specification.specs.Planning.{planned}
 use Rattle.counting.specs.Quads.{quad}
-use Rattle.matching.specs.Lists.{channelOf, positionOf}
-use Rattle.matching.specs.Chains.{planned}
 use Rattle.matching.specs.Division.{Order, Division, Covers, Channelled}
 use Rattle.matching.proofs.Ordered.{channelled}
 use Rattle.matching.proofs.Planned.{planned-least, planned-covers}
 use Rattle.search.specs.Table.{leadsIn}
-use Rattle.channels.specs.Given.{linesOf, verticesOf, unknown?, repeats?, lacks?, broken?}
 use Rattle.planning.specs.Arranged.{Arranged}
 use Rattle.channels.specs.Promise.{Answers, Plans, Gives, outsized?, planRefusal, givenRefusal}
 use Rattle.channels.specs.Sound.{Sound}

@@ -1,14 +1,13 @@
 -- The walk over the bytes of given channels, one byte after the other. Assumes nothing.
 use Rattle.counting.proofs.Prelude.{_≡_, refl, sym, ap, _∙_, subst, _≢_, Bool, true, false, not, false≢true, _||_, List, ℕ, _+_, _-_, _≤_, _<_, arith, eqb, length, getD, replicate, eq-eqb, ne-eqb}
 use native.Mathlib.Decide.{ℕ-discrete}
-use Rattle.counting.specs.Count.{choose}
+use Rattle.specification.specs.Count.{choose}
+use Rattle.specification.specs.Sets.{member?, inserted}
+use Rattle.specification.specs.Channels.{times, has, linesOf, verticesOf, unknown?, repeats?, lacks?, broken?}
 use Rattle.counting.proofs.Sums.{sum-bound, sum-smaller, sum-mono}
 use Rattle.counting.proofs.Classes.{sum-one}
 use Rattle.counting.proofs.Somes.{some-which}
-use Rattle.masks.specs.Sets.{member?, inserted}
-use Rattle.matching.specs.Lists.{times, has}
 use Rattle.matching.proofs.Lists.{Within, has-false, length-times}
-use Rattle.channels.specs.Given.{linesOf, verticesOf, unknown?, repeats?, lacks?, broken?}
 use Rattle.channels.specs.Promise.{outsized?, givenRefusal}
 use Rattle.channels.specs.Walked.{weighed, settled}
 use Rattle.channels.proofs.Fields.{left, left-all, left-length, left-vertex, left-end}

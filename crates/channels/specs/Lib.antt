@@ -1,4 +1,3 @@
-pub mod Given
 pub mod Laid
 pub mod Promise
 pub mod Walked

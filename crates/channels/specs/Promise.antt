@@ -6,13 +6,12 @@ use mathlib.Core.List.{List}
 use Prim.Native.Nat.{ℕ, _*_, _≤_, _<_, min}
 use lib.Dec.{eqb, ltb}
 use lib.ListN.{length}
-use Rattle.counting.specs.Count.{choose}
+use Rattle.specification.specs.Count.{choose}
+use Rattle.specification.specs.Planning.{most, planned}
+use Rattle.specification.specs.Channels.{linesOf, verticesOf, unknown?, repeats?, lacks?, broken?}
 use Rattle.counting.specs.Quads.{quad}
-use Rattle.matching.specs.Search.{most}
-use Rattle.matching.specs.Chains.{planned}
 use Rattle.planning.specs.declared.Channels.{Channels}
 use Rattle.search.specs.Table.{leadsIn}
-use Rattle.channels.specs.Given.{linesOf, verticesOf, unknown?, repeats?, lacks?, broken?}
 use Rattle.planning.specs.Arranged.{Arranged}
 
 -- no vertex, or too many

@@ -4,8 +4,8 @@ use mathlib.Core.Bool.{Bool}
 use mathlib.Core.List.{List}
 use Prim.Native.Nat.{ℕ, _≤_}
 use lib.Dec.{eqb}
-use Rattle.counting.specs.Count.{choose}
-use Rattle.channels.specs.Given.{linesOf}
+use Rattle.specification.specs.Count.{choose}
+use Rattle.specification.specs.Channels.{linesOf}
 use Rattle.planning.specs.Arranged.{Arranged, Kept}
 use Rattle.channels.specs.Promise.{givenRefusal}
 use Rattle.channels.specs.declared.Walked.{Walked}

@@ -2,10 +2,10 @@
 ghost use mathlib.Core.Path.{_≡_};
 ghost use Prim.Native.Nat.{_+_, _*_, _<_, _≤_};
 ghost use lib.ListN.{length};
-use fields::Layout;
 use flat::ChartCounts;
 use libc::STDIN_FILENO;
 use libc::STDOUT_FILENO;
+use specification::Layout;
 
 // Room for any line but the first.
 const LINE: usize = 36;

@@ -1,15 +1,15 @@
 -- From what `hand_over` leaves to the promises of the calls. Assumes nothing.
 use Rattle.counting.proofs.Prelude.{_≡_, sym, ap, subst, _∙_, Bool, not, List, ℕ, length}
-use Rattle.counting.specs.Count.{count}
+use Rattle.specification.specs.Count.{count}
 use Rattle.counting.proofs.Sums.{count-ext}
 use Rattle.lists.proofs.Written.{refilled}
-use Rattle.record.specs.Checks.{Content, edgesOf}
-use Rattle.reduction.specs.Reduction.{reducedCount}
-use Rattle.outline.specs.Chart.{Plan, transitiveEdge?, reducedEdges, edgeEntry}
-use Rattle.outline.specs.declared.VertexEntry.{VertexEntry}
-use Rattle.outline.specs.declared.EdgeEntry.{EdgeEntry}
-use Rattle.outline.specs.declared.BundleEntry.{BundleEntry}
-use Rattle.drawing.specs.Drawn.{Drawn, graphDrawn, recordDrawn}
+use Rattle.specification.specs.Checks.{Content, edgesOf}
+use Rattle.specification.specs.Marks.{reducedCount}
+use Rattle.specification.specs.Chart.{Plan, transitiveEdge?, reducedEdges, edgeEntry}
+use Rattle.specification.specs.declared.VertexEntry.{VertexEntry}
+use Rattle.specification.specs.declared.EdgeEntry.{EdgeEntry}
+use Rattle.specification.specs.declared.BundleEntry.{BundleEntry}
+use Rattle.specification.specs.Drawn.{Drawn, graphDrawn, recordDrawn}
 use Rattle.charts.specs.declared.Sheet.{Sheet}
 use Rattle.charts.specs.declared.Chart.{Chart}
 use Rattle.charts.specs.Promise.{HandedOver}

@@ -19,12 +19,12 @@ use denote.Steps.{nothing}
 use denote.Triple.End.{Kepts}
 use denote.Triple.Walked.{Stays, stay-dropped, gave-slice, AllGo, Goes, Silent, goes-dropped, goes-gave-slice}
 use denote.Exit.{yes}
-use Rattle.outline.specs.declared.VertexEntry.{VertexEntry}
-use Rattle.outline.specs.declared.EdgeEntry.{EdgeEntry}
-use Rattle.outline.specs.declared.BundleEntry.{BundleEntry}
-use Rattle.outline.proofs.VertexEntry as Vt
-use Rattle.outline.proofs.EdgeEntry as Et
-use Rattle.outline.proofs.BundleEntry as Bt
+use Rattle.specification.specs.declared.VertexEntry.{VertexEntry}
+use Rattle.specification.specs.declared.EdgeEntry.{EdgeEntry}
+use Rattle.specification.specs.declared.BundleEntry.{BundleEntry}
+use Rattle.specification.proofs.VertexEntry as Vt
+use Rattle.specification.proofs.EdgeEntry as Et
+use Rattle.specification.proofs.BundleEntry as Bt
 use Rattle.charts.specs.declared.Chart.{Chart}
 use Rattle.charts.proofs.Chart as Ct
 

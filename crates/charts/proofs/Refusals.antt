@@ -2,12 +2,12 @@
 -- Assumes nothing.
 use Rattle.counting.proofs.Prelude.{_≡_, refl, subst, _∙_, _↔_, true, List, ℕ, _<_, length, getD}
 use Rattle.lists.proofs.Written.{untouched}
-use Rattle.record.specs.Checks.{Content}
-use Rattle.outline.specs.Chart.{planOf}
-use Rattle.outline.specs.declared.VertexEntry.{VertexEntry}
-use Rattle.outline.specs.declared.EdgeEntry.{EdgeEntry}
-use Rattle.outline.specs.declared.BundleEntry.{BundleEntry}
-use Rattle.drawing.specs.Drawn.{Drawn, short?}
+use Rattle.specification.specs.Checks.{Content}
+use Rattle.specification.specs.Chart.{planOf}
+use Rattle.specification.specs.declared.VertexEntry.{VertexEntry}
+use Rattle.specification.specs.declared.EdgeEntry.{EdgeEntry}
+use Rattle.specification.specs.declared.BundleEntry.{BundleEntry}
+use Rattle.specification.specs.Drawn.{Drawn, short?}
 use Rattle.drawing.proofs.Nothing.{empty}
 use Rattle.drawing.proofs.Refusals.{Sound, lent-quiet, lent-eight}
 use Rattle.charts.specs.declared.Chart.{Chart}

@@ -2,20 +2,19 @@
 use Rattle.counting.proofs.Prelude.{_≡_, refl, sym, ap, ap₂, subst, _∙_, Bool, true, List, ℕ, _+_, _-_, _*_, _/_, _<_, _≤_, min, arith, length, getD, take, drop, replicate}
 use Rattle.counting.specs.Quads.{quad}
 use Rattle.counting.proofs.Zeros.{zeros}
-use Rattle.masks.specs.Sets.{member?}
+use Rattle.specification.specs.Sets.{member?}
+use Rattle.specification.specs.Checks.{Content, edgesOf, refusalOf, nothing}
+use Rattle.specification.specs.Layout.{layoutOf}
+use Rattle.specification.specs.declared.Fields.{Fields}
+use Rattle.specification.specs.declared.Layout.the-variants.{Good, Bad}
+use Rattle.specification.specs.Chart.{planOf, tailOf, headOf, kindBetween, transitiveEdge?, vertexEntry, edgeEntry, bundleEntry}
+use Rattle.specification.specs.declared.Kind.{Kind}
+use Rattle.specification.specs.Drawn.{Drawn, graphContent, graphDrawn, short?, lent, refusedBy}
 use Rattle.reach.proofs.Ends.{tail-at, head-at}
-use Rattle.record.specs.Checks.{Content, edgesOf, refusalOf}
-use Rattle.fields.specs.Layout.{layoutOf}
-use Rattle.record.specs.Reading.{nothing}
-use Rattle.fields.specs.declared.Fields.{Fields}
-use Rattle.fields.specs.declared.Layout.the-variants.{Good, Bad}
-use Rattle.outline.specs.Chart.{planOf, tailOf, headOf, kindBetween, transitiveEdge?, vertexEntry, edgeEntry, bundleEntry}
-use Rattle.outline.specs.declared.Kind.{Kind}
 use Rattle.kinds.specs.Codes.{codeOf, kindOf}
 use Rattle.prefixes.specs.Prefixes.{lastSet, Prefixes}
 use Rattle.kinds.specs.declared.Code.{Code}
 use Rattle.kinds.proofs.Coding.{kind-coded}
-use Rattle.drawing.specs.Drawn.{Drawn, graphContent, graphDrawn, short?, lent, refusedBy}
 use Rattle.drawing.specs.Laid.{Lists, lists, Roomy, Laid, Plans}
 use Rattle.drawing.specs.declared.Plan.{Plan}
 use Rattle.drawing.proofs.Entries.{edges-counted, small, edges-few, bundles-few, vertex-drawn, bundle-drawn, kind-among, mark-drawn}

@@ -4,11 +4,11 @@ use mathlib.Core.List.{List}
 use Prim.Native.Nat.{ℕ, _+_, _*_, min}
 use lib.ListN.{getD, take}
 use Rattle.counting.specs.Quads.{quad}
-use Rattle.masks.specs.Sets.{member?}
-use Rattle.outline.specs.declared.Kind.{Kind}
-use Rattle.outline.specs.declared.VertexEntry.{VertexEntry}
-use Rattle.outline.specs.declared.EdgeEntry.{EdgeEntry}
-use Rattle.outline.specs.declared.BundleEntry.{BundleEntry}
+use Rattle.specification.specs.Sets.{member?}
+use Rattle.specification.specs.declared.Kind.{Kind}
+use Rattle.specification.specs.declared.VertexEntry.{VertexEntry}
+use Rattle.specification.specs.declared.EdgeEntry.{EdgeEntry}
+use Rattle.specification.specs.declared.BundleEntry.{BundleEntry}
 use Rattle.kinds.specs.Kinds.{kindAmong}
 use Rattle.charts.specs.declared.Sheet.{Sheet}
 

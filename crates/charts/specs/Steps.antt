@@ -4,20 +4,20 @@ use mathlib.Core.Bool.{Bool}
 use mathlib.Core.List.{List, []}
 use Prim.Native.Nat.{ℕ, _*_, _/_, _≤_, _<_, min}
 use lib.ListN.{length, getD, take, drop, replicate}
-use Rattle.counting.specs.Count.{count}
+use Rattle.specification.specs.Count.{count}
 use Rattle.counting.specs.Quads.{quad}
 use Rattle.lists.specs.Filled.{Filled}
-use Rattle.record.specs.Checks.{Content, edgesOf}
-use Rattle.fields.specs.Layout.{layoutOf}
-use Rattle.fields.specs.declared.Layout.{Layout}
-use Rattle.fields.specs.declared.Layout.the-variants.{Good, Bad}
-use Rattle.outline.specs.Chart as chart
-use Rattle.outline.specs.Chart.{planOf, rowCount, widthOf, tracksIn, vertexEntry, edgeEntry, bundleEntry}
-use Rattle.outline.specs.declared.VertexEntry.{VertexEntry}
-use Rattle.outline.specs.declared.EdgeEntry.{EdgeEntry}
-use Rattle.outline.specs.declared.BundleEntry.{BundleEntry}
+use Rattle.specification.specs.Checks.{Content, edgesOf}
+use Rattle.specification.specs.Layout.{layoutOf}
+use Rattle.specification.specs.declared.Layout.{Layout}
+use Rattle.specification.specs.declared.Layout.the-variants.{Good, Bad}
+use Rattle.specification.specs.Chart as chart
+use Rattle.specification.specs.Chart.{planOf, rowCount, widthOf, tracksIn, vertexEntry, edgeEntry, bundleEntry}
+use Rattle.specification.specs.declared.VertexEntry.{VertexEntry}
+use Rattle.specification.specs.declared.EdgeEntry.{EdgeEntry}
+use Rattle.specification.specs.declared.BundleEntry.{BundleEntry}
 use Rattle.prefixes.specs.Prefixes.{lastSet, Prefixes}
-use Rattle.drawing.specs.Drawn.{Drawn, graphDrawn, recordDrawn, lent}
+use Rattle.specification.specs.Drawn.{Drawn, graphDrawn, recordDrawn, lent}
 use Rattle.drawing.specs.Laid.{Lists}
 use Rattle.drawing.specs.declared.Plan.{Plan}
 use Rattle.charts.specs.declared.Sheet.{Sheet}

@@ -3,22 +3,22 @@ ghost use mathlib.Core.Path.{_≡_};
 ghost use mathlib.Core.List.{List};
 ghost use Prim.Native.Nat.{ℕ, _+_, _<_, _≤_, min};
 ghost use lib.ListN.{length, getD};
-ghost use Rattle.counting.specs.Count.{indicator, count};
+ghost use Rattle.specification.specs.Count.{indicator, count};
 ghost use Rattle.lists.specs.Filled.{Filled};
 ghost use Rattle.kinds.specs.Codes.{codeOf, kindOf};
-ghost use Rattle.drawing.specs.Drawn.{recordDrawn, graphDrawn};
+ghost use Rattle.specification.specs.Drawn.{recordDrawn, graphDrawn};
 ghost use Rattle.drawing.specs.Laid.{lists};
 ghost use Rattle.charts.specs.Promise.{HandedOver};
 ghost use Rattle.charts.specs.Entries.{vertexAt, kindBy, kindAt, transitive?, edgeAt, bundleAt, reduced?};
 ghost use Rattle.charts.specs.Steps.{blankOf, Drafted, Room, GraphSheet, RecordSheet, endsOf, summaryOf, Leaves};
 use drawing::Plan;
-use fields::Layout;
 use kinds::Code;
-use outline::Bend;
-use outline::BundleEntry;
-use outline::EdgeEntry;
-use outline::Kind;
-use outline::VertexEntry;
+use specification::Bend;
+use specification::BundleEntry;
+use specification::EdgeEntry;
+use specification::Kind;
+use specification::Layout;
+use specification::VertexEntry;
 
 // Document 01's number, or 0; how many entries each list got; the other counts, and the tracks (document 01: side columns) of each
 // channel, 0 past the last. Every number but the first is 0 where the chart is refused.

@@ -1,6 +1,6 @@
 -- Laws of truth values in `||` and `&&`. Assumes nothing.
 use Rattle.counting.proofs.Prelude.{_≡_, refl, Bool, true, false, true≢false, not, _&&_, _||_, _≤_, arith}
-use Rattle.counting.specs.Count.{indicator}
+use Rattle.specification.specs.Count.{indicator}
 use Rattle.counting.proofs.Truth.{indicator-le}
 
 pub or-swap : (a b c d : Bool) → ((a || b) || (c || d)) ≡ ((a || c) || (b || d))

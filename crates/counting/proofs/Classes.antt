@@ -2,7 +2,7 @@
 use Rattle.counting.proofs.Prelude.{_≡_, refl, sym, ap, _∙_, subst, _≢_, Bool, true, false, true≢false, _&&_, _||_, ℕ, zero, suc, _+_, _≤_, _<_, arith, eqb, leb, ltb, eq-eqb, ne-eqb, le-leb, lt-leb, lt-ltb, le-ltb}
 use native.Mathlib.Nat.{not-suc-le-zero}
 use native.Mathlib.Decide.{ℕ-discrete, decLt}
-use Rattle.counting.specs.Count.{indicator, sum, count}
+use Rattle.specification.specs.Count.{indicator, sum, count}
 use Rattle.counting.proofs.Truth.{indicator-le}
 use Rattle.counting.proofs.Sums.{sum-ext, sum-zero}
 

@@ -1,6 +1,6 @@
 -- Counts of what is mapped one to one, or onto. Assumes nothing.
 use Rattle.counting.proofs.Prelude.{_≡_, refl, sym, ap, _∙_, Bool, true, false, false≢true, _&&_, ℕ, _≤_, _<_, arith, eqb, eq-eqb, eqb-true}
-use Rattle.counting.specs.Count.{indicator, sum, count}
+use Rattle.specification.specs.Count.{indicator, sum, count}
 use Rattle.counting.proofs.Truth.{and-elim, indicator-le}
 use Rattle.counting.proofs.Sums.{sum-mono, sum-zero, sum-smaller}
 use Rattle.counting.proofs.Classes.{sum-one, sum-swap, sum-term, one-of, at-most-one, count-classes}

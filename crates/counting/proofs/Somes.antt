@@ -2,7 +2,7 @@
 use Rattle.counting.proofs.Prelude.{_≡_, refl, ap, _∙_, Bool, true, false, false≢true, _||_, ℕ, zero, suc, _<_, arith}
 use native.Mathlib.Nat.{not-suc-le-zero}
 use native.Mathlib.Decide.{ℕ-discrete}
-use Rattle.counting.specs.Count.{some}
+use Rattle.specification.specs.Count.{some}
 
 -- one passes the test
 pub some-found : (n : ℕ) (f : ℕ → Bool) (i : ℕ) → i < n → f i ≡ true → some n f ≡ true

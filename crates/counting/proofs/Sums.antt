@@ -3,7 +3,7 @@ use Rattle.counting.proofs.Prelude.{_≡_, refl, sym, ap, _∙_, Bool, 
 use native.Mathlib.Nat.{not-suc-le-zero, add-zero, add-suc}
 use native.Mathlib.Decide.{ℕ-discrete}
 use native.Mathlib.Numerals.{add-one}
-use Rattle.counting.specs.Count.{indicator, sum, count}
+use Rattle.specification.specs.Count.{indicator, sum, count}
 
 -- equal terms have equal sums
 pub sum-ext : (n : ℕ) (f g : ℕ → ℕ) → ((i : ℕ) → i < n → f i ≡ g i) → sum n f ≡ sum n g

@@ -1,7 +1,7 @@
 -- Laws of truth values, and of the order of two numbers. Assumes nothing.
 use Rattle.counting.proofs.Prelude.{_≡_, refl, _⊎_, inl, inr, Bool, true, false, true≢false, false≢true, _&&_, _||_, ℕ, _≤_, _<_, arith}
 use native.Mathlib.Decide.{decLt}
-use Rattle.counting.specs.Count.{indicator}
+use Rattle.specification.specs.Count.{indicator}
 
 pub lt-or-le : (m n : ℕ) → (m < n) ⊎ (n ≤ m)
 lt-or-le m n = go (decLt m n)

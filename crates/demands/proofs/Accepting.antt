@@ -1,17 +1,15 @@
 -- What a call accepts is a sound graph that fits the lists, and what it leaves then is the graph's chart. Assumes nothing.
 use Rattle.counting.proofs.Prelude.{_≡_, refl, sym, ap, _∙_, subst, _↔_, _⊎_, ⊎-elim, Bool, false, _||_, List, ℕ, arith, ltb, length, getD, List·getD-eq-default, eq-eqb, ltb-false}
 use Rattle.counting.proofs.Truth.{lt-or-le, true-or-false, or-neither}
-use Rattle.record.specs.Checks.{Content, edgesOf, refusalOf}
-use Rattle.record.specs.Sound.{Sound, SoundRecord}
-use Rattle.record.specs.Reading.{contentOf, contentIn, recordRefusal, said}
+use Rattle.specification.specs.Checks.{Content, edgesOf, refusalOf, Sound, SoundRecord, contentOf, contentIn, recordRefusal, said}
+use Rattle.specification.specs.Chart.{planOf, tracksIn}
+use Rattle.specification.specs.declared.VertexEntry.{VertexEntry}
+use Rattle.specification.specs.declared.EdgeEntry.{EdgeEntry}
+use Rattle.specification.specs.declared.BundleEntry.{BundleEntry}
+use Rattle.specification.specs.Drawn.{Drawn, judged, recordDrawn, graphContent, graphDrawn, short?}
 use Rattle.record.proofs.Soundness.{accepted-sound, sound-accepted, record-sound}
-use Rattle.outline.specs.Chart.{planOf, tracksIn}
-use Rattle.outline.specs.declared.VertexEntry.{VertexEntry}
-use Rattle.outline.specs.declared.EdgeEntry.{EdgeEntry}
-use Rattle.outline.specs.declared.BundleEntry.{BundleEntry}
 use Rattle.outline.proofs.Channels.{channels-few, vertices-small}
 use Rattle.outline.proofs.Bundling.{plan-channels, tracks-past}
-use Rattle.drawing.specs.Drawn.{Drawn, judged, recordDrawn, graphContent, graphDrawn, short?}
 use Rattle.drawing.proofs.Shortage.{enough, lent-short, lent-whole}
 use Rattle.charts.specs.declared.Chart as answer
 use Rattle.charts.specs.Promise.{Listed, HandedOver}

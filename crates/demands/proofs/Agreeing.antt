@@ -1,18 +1,18 @@
 -- What agrees with the definitions on the graph's vertices, edges and bundles; our chart does, by them and as the entries show it. Assumes nothing.
 use Rattle.counting.proofs.Prelude.{_≡_, refl, sym, ap, _∙_, subst, true, not, _&&_, ℕ, _<_, eqb, length, eq-eqb, eqb-true, not-true}
-use Rattle.counting.specs.Count.{some}
+use Rattle.specification.specs.Count.{some}
+use Rattle.specification.specs.Graph.{Edge}
+use Rattle.specification.specs.Channels.{channelOf}
+use Rattle.specification.specs.Checks.{Content, edgesOf, Sound}
+use Rattle.specification.specs.Marks.{reducedLink}
+use Rattle.specification.specs.Chart.{leads?, tailOf, headOf, rowOf, transitiveEdge?, channelsOf, planOf, bundleIn, trackIn, vertexEntry, edgeEntry, bundleEntry}
+use Rattle.specification.specs.declared.VertexEntry.{VertexEntry}
+use Rattle.specification.specs.declared.EdgeEntry.{EdgeEntry}
+use Rattle.specification.specs.declared.BundleEntry.{BundleEntry}
 use Rattle.counting.proofs.Truth.{same-truth, and-intro, and-elim}
 use Rattle.counting.proofs.Somes.{some-found, some-which}
-use Rattle.reach.specs.Graph.{Edge}
-use Rattle.matching.specs.Lists.{channelOf}
-use Rattle.record.specs.Checks.{Content, edgesOf}
-use Rattle.record.specs.Sound.{Sound}
-use Rattle.reduction.specs.Reduction.{Reduced, reducedLink}
+use Rattle.reduction.specs.Reduction.{Reduced}
 use Rattle.reduction.proofs.Links.{link-decided}
-use Rattle.outline.specs.Chart.{leads?, tailOf, headOf, rowOf, transitiveEdge?, channelsOf, planOf, bundleIn, trackIn, vertexEntry, edgeEntry, bundleEntry}
-use Rattle.outline.specs.declared.VertexEntry.{VertexEntry}
-use Rattle.outline.specs.declared.EdgeEntry.{EdgeEntry}
-use Rattle.outline.specs.declared.BundleEntry.{BundleEntry}
 use Rattle.outline.proofs.Marks.{unmarked-reduced}
 use Rattle.outline.proofs.Bundling.{plan-channels}
 use Rattle.charts.specs.declared.Chart as answer

@@ -1,14 +1,12 @@
 -- THE DEMANDS, proved of the chart that the definitions give of every sound graph, and of what every call leaves. Of a call nothing is
 -- asked but its promise. The statements are in specs/Demands.antt and specs/Lawful.antt. Assumes nothing.
 use Rattle.counting.proofs.Prelude.{_≡_, _↔_, Bool, List, ℕ, length}
-use Rattle.record.specs.Checks.{Content}
-use Rattle.record.specs.Sound.{Sound, SoundRecord}
-use Rattle.record.specs.Reading.{contentOf, said}
-use Rattle.outline.specs.Chart.{channelsOf, planOf, rowCount, reducedEdges, tracksIn}
-use Rattle.outline.specs.declared.VertexEntry.{VertexEntry}
-use Rattle.outline.specs.declared.EdgeEntry.{EdgeEntry}
-use Rattle.outline.specs.declared.BundleEntry.{BundleEntry}
-use Rattle.drawing.specs.Drawn.{recordDrawn, graphContent, graphDrawn}
+use Rattle.specification.specs.Checks.{Content, Sound, SoundRecord, contentOf, said}
+use Rattle.specification.specs.Chart.{channelsOf, planOf, rowCount, reducedEdges, tracksIn}
+use Rattle.specification.specs.declared.VertexEntry.{VertexEntry}
+use Rattle.specification.specs.declared.EdgeEntry.{EdgeEntry}
+use Rattle.specification.specs.declared.BundleEntry.{BundleEntry}
+use Rattle.specification.specs.Drawn.{recordDrawn, graphContent, graphDrawn}
 use Rattle.drawing.proofs.Refusals.{record-sound, graph-sound}
 use Rattle.charts.specs.declared.Chart as answer
 use Rattle.charts.specs.Promise.{HandedOver}

@@ -1,18 +1,17 @@
 -- What agrees with our chart is lawful, has its counts, and no lawful chart has fewer. Assumes nothing.
 use Rattle.counting.proofs.Prelude.{_≡_, sym, ap, _∙_, _↔_, _⊎_, inl, inr, ⊎-elim, _≢_, true, ℕ, _≤_, _<_, arith, eqb, length}
 use Rattle.counting.proofs.Sums.{sum-ext, count-ext}
-use Rattle.reach.specs.Graph.{Reaches}
+use Rattle.specification.specs.Graph.{Reaches}
+use Rattle.specification.specs.Checks.{Content, Leads, Sound}
+use Rattle.specification.specs.Marks.{Linked, linkCount, reducedLink}
+use Rattle.specification.specs.Tracks.{differentIn}
+use Rattle.specification.specs.Chart.{leads?, tailOf, headOf, rowOf, rowCount, reducedEdges, Plan, channelsOf, planOf, bundleIn, trackIn, tracksIn}
 use Rattle.matching.specs.Division.{Division}
-use Rattle.record.specs.Checks.{Content}
-use Rattle.record.specs.Sound.{Leads, Sound}
 use Rattle.layers.proofs.Above.{above-ext}
-use Rattle.reduction.specs.Reduction.{Linked, linkCount, reducedLink}
 use Rattle.reduction.proofs.Transitive.{reaches-map}
-use Rattle.tracks.specs.Tracks.{differentIn}
 use Rattle.tracks.specs.Order.{Apart, Among}
 use Rattle.tracks.proofs.FirstFit.{row-meet, meet-row, meet-fact}
 use Rattle.tracks.proofs.Different.{different-ext}
-use Rattle.outline.specs.Chart.{leads?, tailOf, headOf, rowOf, rowCount, reducedEdges, Plan, channelsOf, planOf, bundleIn, trackIn, tracksIn}
 use Rattle.outline.proofs.Leading.{leads-decided}
 use Rattle.outline.proofs.Channels.{channels-divide, channel-below, channels-least}
 use Rattle.outline.proofs.Rows.{edge-rises, row-count, rows-fewest}

@@ -1,24 +1,19 @@
 -- Entries that are the definitions' lead where the graph does, and their polylines are clear and on the page. Assumes nothing.
 use Rattle.counting.proofs.Prelude.{_≡_, refl, ap, subst, _↔_, _≢_, ⊎-elim, true, List, ℕ, _<_, eqb, length, eqb-true, eqb-false}
 use Rattle.counting.proofs.Truth.{true-or-false}
-use Rattle.reach.specs.Graph.{Reaches, edge?}
-use Rattle.matching.specs.Lists.{channelOf, positionOf}
-use Rattle.record.specs.Checks.{Content, edgesOf}
-use Rattle.record.specs.Sound.{Leads, Sound}
+use Rattle.specification.specs.Graph.{Reaches, edge?}
+use Rattle.specification.specs.Channels.{channelOf, positionOf}
+use Rattle.specification.specs.Checks.{Content, edgesOf, Leads, Sound}
+use Rattle.specification.specs.Bundles.{adjacent?}
+use Rattle.specification.specs.Geometry.{Point, Meets, gapWidth, trackAt, byTrack, courseOf}
+use Rattle.specification.specs.declared.Course.{Course}
+use Rattle.specification.specs.Chart.{tailOf, headOf, Plan, channelsOf, planOf, placeOf, crossing, kindBetween, vertexEntry, edgeEntry, bundleEntry, pointAt, polylineOf}
+use Rattle.specification.specs.declared.Kind.{Kind}
+use Rattle.specification.specs.declared.Kind.the-variants.{Path, PathTransitive, Straight, Bent}
+use Rattle.specification.specs.declared.VertexEntry.{VertexEntry}
+use Rattle.specification.specs.declared.BundleEntry.{BundleEntry}
+use Rattle.specification.specs.declared.Course.the-variants as course
 use Rattle.reduction.proofs.Transitive.{reaches-map}
-use Rattle.bundles.specs.Sides.{adjacent?}
-use Rattle.geometry.specs.Segment.{Point, Meets}
-use Rattle.geometry.specs.Placement.{gapWidth, trackAt}
-use Rattle.geometry.specs.Polylines.{byTrack}
-use Rattle.geometry.specs.Courses.{courseOf}
-use Rattle.geometry.specs.declared.Course.{Course}
-use Rattle.geometry.specs.declared.Course.the-variants as course
-use Rattle.outline.specs.Chart.{tailOf, headOf, Plan, channelsOf, planOf, placeOf, crossing, kindBetween, vertexEntry, edgeEntry, bundleEntry}
-use Rattle.outline.specs.Lines.{pointAt, polylineOf}
-use Rattle.outline.specs.declared.Kind.{Kind}
-use Rattle.outline.specs.declared.Kind.the-variants.{Path, PathTransitive, Straight, Bent}
-use Rattle.outline.specs.declared.VertexEntry.{VertexEntry}
-use Rattle.outline.specs.declared.BundleEntry.{BundleEntry}
 use Rattle.outline.proofs.Leading.{edge-there}
 use Rattle.outline.proofs.Bundling.{side-edge, side-bundle}
 use Rattle.outline.proofs.EdgeKinds.{kind-path, kind-side, kind-cross}

@@ -7,20 +7,17 @@ use mathlib.Core.List.{List}
 use Prim.Native.Nat.{ℕ, _≤_, _<_}
 use lib.Dec.{eqb}
 use lib.ListN.{length, getD}
-use Rattle.counting.specs.Count.{some}
-use Rattle.reach.specs.Graph.{Reaches, Longer, Edge}
-use Rattle.matching.specs.Lists.{channelOf}
-use Rattle.record.specs.Checks.{Content, edgesOf}
-use Rattle.record.specs.Sound.{Leads}
-use Rattle.reduction.specs.Reduction.{reducedLink}
-use Rattle.geometry.specs.Segment.{Point}
-use Rattle.geometry.specs.Polylines.{Clear}
-use Rattle.outline.specs.Chart.{leads?, tailOf, headOf, rowOf, channelsOf, planOf, bundleIn, trackIn, vertexEntry, edgeEntry, bundleEntry}
-use Rattle.outline.specs.Lines.{pointAt, polylineOf, OnPage}
-use Rattle.outline.specs.declared.Kind.the-variants.{Path}
-use Rattle.outline.specs.declared.VertexEntry.{VertexEntry}
-use Rattle.outline.specs.declared.EdgeEntry.{EdgeEntry}
-use Rattle.outline.specs.declared.BundleEntry.{BundleEntry}
+use Rattle.specification.specs.Count.{some}
+use Rattle.specification.specs.Graph.{Reaches, Longer, Edge}
+use Rattle.specification.specs.Channels.{channelOf}
+use Rattle.specification.specs.Checks.{Content, edgesOf, Leads}
+use Rattle.specification.specs.Marks.{reducedLink}
+use Rattle.specification.specs.Geometry.{Point, Clear}
+use Rattle.specification.specs.Chart.{leads?, tailOf, headOf, rowOf, channelsOf, planOf, bundleIn, trackIn, vertexEntry, edgeEntry, bundleEntry, pointAt, polylineOf, OnPage}
+use Rattle.specification.specs.declared.Kind.the-variants.{Path}
+use Rattle.specification.specs.declared.VertexEntry.{VertexEntry}
+use Rattle.specification.specs.declared.EdgeEntry.{EdgeEntry}
+use Rattle.specification.specs.declared.BundleEntry.{BundleEntry}
 use Rattle.charts.specs.declared.Chart as answer
 use Rattle.demands.specs.Lawful.{Chart, Lawful, rowsOf, linksOf, sideColumns, SameLines, SameRows, SameBundles}
 

@@ -5,13 +5,12 @@ use mathlib.Core.Logic.{_↔_, _⊎_, _≢_}
 use mathlib.Core.Bool.{Bool, true}
 use Prim.Native.Nat.{ℕ, _≤_, _<_}
 use lib.Dec.{eqb}
-use Rattle.reach.specs.Graph.{Reaches}
-use Rattle.record.specs.Checks.{Content, edgesOf}
-use Rattle.record.specs.Sound.{Leads}
-use Rattle.layers.specs.Rows.{above}
-use Rattle.reduction.specs.Reduction.{Linked, linkCount}
-use Rattle.tracks.specs.Tracks.{differentIn}
-use Rattle.outline.specs.Chart.{tailOf, headOf}
+use Rattle.specification.specs.Graph.{Reaches}
+use Rattle.specification.specs.Checks.{Content, edgesOf, Leads}
+use Rattle.specification.specs.Rows.{above}
+use Rattle.specification.specs.Marks.{Linked, linkCount}
+use Rattle.specification.specs.Tracks.{differentIn}
+use Rattle.specification.specs.Chart.{tailOf, headOf}
 
 -- rows, lines, links, bundles and side columns, all free
 pub record Chart : Type 0 where

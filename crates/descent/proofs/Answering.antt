@@ -1,14 +1,11 @@
 -- What the whole answers: the first check that fails, or the tables. Assumes nothing.
 use Rattle.counting.proofs.Prelude.{_≡_, refl, sym, ap, _∙_, _≢_, ⊎-elim, _↔_, Bool, true, false, true≢false, _&&_, List, ℕ, _+_, _*_, _≤_, _<_, min, arith, leb, length, le-leb, leb-true}
 use native.Mathlib.Decide.{ℕ-discrete}
-use Rattle.counting.specs.Count.{choose, some}
+use Rattle.specification.specs.Count.{choose, some}
+use Rattle.specification.specs.Sets.{at}
+use Rattle.specification.specs.Graph.{edgeCount, outsized?, refusal, tailsOf, headsOf, Adjacent, reachable?}
 use Rattle.counting.proofs.Truth.{true-or-false, and-intro, and-elim}
 use Rattle.counting.proofs.Choosing.{choose-yes}
-use Rattle.masks.specs.Sets.{at}
-use Rattle.reach.specs.Graph.{edgeCount}
-use Rattle.reach.specs.Refusal.{outsized?, refusal}
-use Rattle.reach.specs.Ends.{tailsOf, headsOf}
-use Rattle.reach.specs.Closure.{Adjacent, reachable?}
 use Rattle.scanning.specs.Scanned.{Blank, endsRefusal, Scanned, Scans}
 use Rattle.scanning.proofs.Scanning.{outsized-positive}
 use Rattle.descent.specs.declared.Descent.{Descent}

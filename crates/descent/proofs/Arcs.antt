@@ -1,11 +1,11 @@
 -- The edges of a table, and what they reach, computed. Assumes nothing.
 use Rattle.counting.proofs.Prelude.{_≡_, ap, _∙_, _↔_, true, _&&_, List, ℕ, eqb, ltb, eq-eqb, eqb-true, lt-ltb, ltb-true}
-use Rattle.counting.specs.Count.{indicator, sum, count}
+use Rattle.specification.specs.Count.{indicator, sum, count}
 use Rattle.counting.proofs.Truth.{and-intro, and-elim, same-truth}
 use Rattle.counting.proofs.Sums.{sum-ext}
-use Rattle.masks.specs.Sets.{at}
+use Rattle.specification.specs.Sets.{at}
 use Rattle.masks.proofs.Tables.{at-lt}
-use Rattle.reach.specs.Graph.{Reaches, reaches?}
+use Rattle.specification.specs.Graph.{Reaches, reaches?}
 use Rattle.reach.proofs.Decide.{reaches-decided}
 use Rattle.reach.proofs.Closures.{test-value}
 use Rattle.descent.specs.Closed.{Arc, edgeIn, arc?, Reached, Inside}

@@ -3,15 +3,15 @@ use Rattle.counting.proofs.Prelude.{_≡_, refl, sym, ap₂, _∙_, subst, _≢
 use lib.Bits.{bitOr}
 use lib.Count.{ones}
 use lib.Seq.{getD-set-same, getD-set-other}
-use Rattle.counting.specs.Count.{sum}
+use Rattle.specification.specs.Count.{sum}
 use Rattle.counting.specs.Quads.{quad}
 use Rattle.counting.proofs.Sums.{sum-ext}
-use Rattle.masks.specs.Sets.{at}
+use Rattle.specification.specs.Sets.{at}
 use Rattle.masks.specs.Pairs.{inPair}
 use Rattle.masks.proofs.Sets.{count-masks}
 use Rattle.masks.proofs.Pairing.{pair-lt, pair-or, pair-at, max-split, max-make}
-use Rattle.reach.specs.Graph.{Reaches, Longer}
-use Rattle.reach.specs.Graph.Reaches.{one, more}
+use Rattle.specification.specs.Graph.{Reaches, Longer}
+use Rattle.specification.specs.Graph.Reaches.{one, more}
 use Rattle.reach.proofs.Routes.{reaches-trans}
 use Rattle.descent.specs.Members.{Long, Pictured, Nested}
 use Rattle.descent.specs.Closed.{Arc, Ample, Reached, Finished, Same, Vertex}

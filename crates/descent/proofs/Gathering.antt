@@ -4,8 +4,7 @@ use native.Mathlib.Nat.{le-trans, mul-suc, mul-le-mul-left}
 use lib.Bits.{bitOr}
 use lib.Count.{trailingZeros}
 use Rattle.counting.proofs.Truth.{lt-or-le}
-use Rattle.masks.specs.Bits.{bit}
-use Rattle.masks.specs.Sets.{at}
+use Rattle.specification.specs.Sets.{bit, at}
 use Rattle.masks.specs.Pairs.{inPair}
 use Rattle.masks.proofs.Tables.{at-lt}
 use Rattle.masks.proofs.Clearing.{clear}

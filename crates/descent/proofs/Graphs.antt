@@ -1,16 +1,16 @@
 -- The descent for the table of edges of a graph: its reachability, longer routes and rows. Assumes nothing.
 use Rattle.counting.proofs.Prelude.{_≡_, sym, ap₂, _∙_, subst, _≢_, ⊎-elim, _↔_, true, false, List, ℕ, _+_, _*_, _≤_, _<_, arith, eqb, getD, eq-eqb, eqb-true}
 use native.Mathlib.Nat.{lt-of-lt-of-le}
-use Rattle.counting.specs.Count.{count, some}
+use Rattle.specification.specs.Count.{count, some}
+use Rattle.specification.specs.Sets.{at}
+use Rattle.specification.specs.Graph.{Reaches, Longer, edgeCount, Edge, edge?, refusal, Adjacent, reachable?}
+use Rattle.specification.specs.Rows.{row, rowsUsed}
 use Rattle.counting.specs.Quads.{quad}
 use Rattle.counting.proofs.Truth.{lt-or-le, true-or-false, same-truth}
 use Rattle.counting.proofs.Somes.{some-found, some-none}
-use Rattle.masks.specs.Sets.{at}
 use Rattle.masks.specs.Pairs.{inPair}
 use Rattle.masks.proofs.Pairing.{pair-at, pair-zero}
-use Rattle.reach.specs.Graph.{Reaches, Longer, edgeCount, Edge, edge?}
-use Rattle.reach.specs.Refusal.{refusal}
-use Rattle.reach.specs.Closure.{Adjacent, reachable?, Closure, Composed}
+use Rattle.reach.specs.Closure.{Closure, Composed}
 use Rattle.reach.specs.Steps.{Within}
 use Rattle.reach.proofs.Routes.{longer-between, begins-below, ends-below}
 use Rattle.reach.proofs.Extending.{reaches-mono}
@@ -18,7 +18,6 @@ use Rattle.reach.proofs.Marking.{tail-below, head-below}
 use Rattle.reach.proofs.Decide.{edge-decided, reachable-decided}
 use Rattle.reach.proofs.Refusing.{accepted-within}
 use Rattle.reach.proofs.Closures.{Bits, same-count}
-use Rattle.layers.specs.Rows.{row, rowsUsed}
 use Rattle.layers.proofs.Same.{row-same, used-same}
 use Rattle.descent.specs.Closed.{Arc, edgeIn, Inside, Laid, Closed}
 use Rattle.descent.proofs.Arcs.{reached-count}

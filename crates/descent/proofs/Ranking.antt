@@ -2,15 +2,14 @@
 use Rattle.counting.proofs.Prelude.{_≡_, refl, sym, ap, ap₂, _∙_, subst, _≢_, inr, ⊎-elim, _↔_, List, ℕ, _+_, _-_, _*_, _^_, _≤_, _<_, arith, length, getD, eq-eqb}
 use Rattle.counting.specs.Quads.{quad}
 use Rattle.counting.proofs.Truth.{lt-or-le, two-cases}
-use Rattle.masks.specs.Bits.{bit}
-use Rattle.masks.specs.Sets.{at}
+use Rattle.specification.specs.Sets.{bit, at}
+use Rattle.specification.specs.Graph.{Reaches}
+use Rattle.specification.specs.Graph.Reaches.{one, more}
+use Rattle.specification.specs.Rows.{above, rowWithin, row}
 use Rattle.masks.specs.Pairs.{inPair}
 use Rattle.masks.proofs.Bits.{without}
 use Rattle.masks.proofs.Tables.{at-lt}
 use Rattle.masks.proofs.Pairing.{pair-lt, pair-low, pair-high, pair-at, pair-without}
-use Rattle.reach.specs.Graph.{Reaches}
-use Rattle.reach.specs.Graph.Reaches.{one, more}
-use Rattle.layers.specs.Rows.{above, rowWithin, row}
 use Rattle.layers.proofs.Above.{above-each}
 use Rattle.layers.proofs.Depth.{settled}
 use Rattle.descent.specs.Members.{Long}

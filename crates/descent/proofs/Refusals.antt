@@ -1,10 +1,7 @@
 -- The answer, by the tests of its checks. Assumes nothing.
 use Rattle.counting.proofs.Prelude.{_≡_, refl, _∙_, _≢_, Bool, true, false, true≢false, List, ℕ, arith, eqb}
-use Rattle.counting.specs.Count.{choose, some}
-use Rattle.reach.specs.Graph.{edgeCount}
-use Rattle.reach.specs.Refusal.{outsized?, strange?, verdict, refusal}
-use Rattle.reach.specs.Ends.{duplicate?}
-use Rattle.reach.specs.Closure.{reachable?}
+use Rattle.specification.specs.Count.{choose, some}
+use Rattle.specification.specs.Graph.{edgeCount, outsized?, strange?, verdict, refusal, duplicate?, reachable?}
 use Rattle.scanning.specs.Scanned.{endsRefusal}
 use Rattle.descent.specs.Promise.{edgesRefusal}
 

@@ -5,19 +5,18 @@ use native.Mathlib.Decide.{ℕ-discrete}
 use native.Mathlib.Numerals.{add-one}
 use lib.Bits.{bitOr, bitAnd, and-le-l, or-comm}
 use lib.Count.{trailingZeros}
-use Rattle.counting.specs.Count.{some}
+use Rattle.specification.specs.Count.{some}
+use Rattle.specification.specs.Sets.{bit, at}
+use Rattle.specification.specs.Graph.{reaches?}
+use Rattle.specification.specs.Graph.Reaches.{one}
+use Rattle.specification.specs.Rows.{above, rowWithin, row, rowsUsed}
 use Rattle.counting.specs.Quads.{quad}
 use Rattle.counting.proofs.Truth.{lt-or-le, two-cases, true-or-false}
 use Rattle.counting.proofs.Somes.{some-found, some-which}
-use Rattle.masks.specs.Bits.{bit}
-use Rattle.masks.specs.Sets.{at}
 use Rattle.masks.specs.Pairs.{inPair}
 use Rattle.masks.proofs.Bits.{without, trailing-at, trailing-lt}
 use Rattle.masks.proofs.Pairing.{pair-lt, pair-low, pair-high, pair-at, pair-and, pair-or, pair-zero, pair-without}
-use Rattle.reach.specs.Graph.{reaches?}
-use Rattle.reach.specs.Graph.Reaches.{one}
 use Rattle.reach.proofs.Routes.{reaches-trans}
-use Rattle.layers.specs.Rows.{above, rowWithin, row, rowsUsed}
 use Rattle.layers.proofs.Above.{above-each, above-le, above-which}
 use Rattle.layers.proofs.Depth.{settled, shallow}
 use Rattle.layers.proofs.Compaction.{Order, rows-below}

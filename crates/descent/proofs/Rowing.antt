@@ -4,7 +4,7 @@ use native.Mathlib.Decide.{ℕ-discrete}
 use lib.Count.{trailingZeros}
 use Rattle.counting.specs.Quads.{quad}
 use Rattle.counting.proofs.Quads.{quad-same, quad-other}
-use Rattle.masks.specs.Bits.{bit}
+use Rattle.specification.specs.Sets.{bit}
 use Rattle.masks.proofs.Clearing.{clear}
 use Rattle.masks.proofs.Visiting.{Visited, visited-none, visited-all, visited-more, lowest-lt, lowest-in}
 use Rattle.descent.specs.Members.{Written}

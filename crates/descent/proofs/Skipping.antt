@@ -4,8 +4,7 @@ use native.Mathlib.Nat.{lt-of-le-of-lt}
 use lib.Bits.{bitOr, and-le-l, or-lt}
 use lib.Count.{trailingZeros}
 use Rattle.counting.proofs.Truth.{lt-or-le, two-cases}
-use Rattle.masks.specs.Bits.{bit}
-use Rattle.masks.specs.Sets.{at}
+use Rattle.specification.specs.Sets.{bit, at}
 use Rattle.masks.specs.Pairs.{inPair}
 use Rattle.masks.proofs.Bits.{bit-lt, bit-and, bit-not, bit-high, bit-of-zero, without}
 use Rattle.masks.proofs.Tables.{at-lt}

@@ -2,7 +2,7 @@
 use Rattle.counting.proofs.Prelude.{_≡_, sym, ap, _∙_, subst, ⊎-elim, _↔_, ℕ, _+_, _-_, _^_, _<_, arith}
 use lib.Pow.{pow-pos}
 use Rattle.counting.proofs.Truth.{lt-or-le}
-use Rattle.masks.specs.Bits.{bit}
+use Rattle.specification.specs.Sets.{bit}
 use Rattle.masks.specs.Pairs.{inPair}
 use Rattle.masks.proofs.Bits.{bit-not, bit-of-zero, bit-high}
 use Rattle.masks.proofs.Pairing.{pair-low, pair-high}

@@ -7,13 +7,12 @@ use mathlib.Core.List.{List}
 use Prim.Native.Nat.{ℕ, _+_, _*_, _≤_, _<_}
 use lib.Dec.{eqb, ltb}
 use lib.ListN.{length, getD}
-use Rattle.counting.specs.Count.{sum, count}
+use Rattle.specification.specs.Count.{sum, count}
+use Rattle.specification.specs.Sets.{bit, at}
+use Rattle.specification.specs.Graph.{Reaches, Longer, reaches?}
+use Rattle.specification.specs.Rows.{row, rowsUsed}
 use Rattle.counting.specs.Quads.{quad}
-use Rattle.masks.specs.Bits.{bit}
-use Rattle.masks.specs.Sets.{at}
-use Rattle.reach.specs.Graph.{Reaches, Longer, reaches?}
 use Rattle.scanning.specs.Scanned.{Blank}
-use Rattle.layers.specs.Rows.{row, rowsUsed}
 use Rattle.descent.specs.declared.Descent.{Descent}
 use Rattle.descent.specs.Promise.{noDescent}
 

@@ -5,8 +5,7 @@ use mathlib.Core.List.{List}
 use Prim.Native.Nat.{ℕ, _+_, _*_, _^_, _≤_, _<_}
 use lib.ListN.{length}
 use Rattle.counting.specs.Quads.{quad}
-use Rattle.masks.specs.Bits.{bit}
-use Rattle.masks.specs.Sets.{at}
+use Rattle.specification.specs.Sets.{bit, at}
 use Rattle.masks.specs.Pairs.{inPair}
 
 -- the set a, b has the vertices below n

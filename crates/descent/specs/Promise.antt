@@ -6,14 +6,12 @@ use mathlib.Core.List.{List}
 use Prim.Native.Nat.{ℕ, _+_, _*_, _≤_, _<_, min}
 use lib.Dec.{eqb, leb}
 use lib.ListN.{length}
-use Rattle.counting.specs.Count.{choose, some}
+use Rattle.specification.specs.Count.{choose, some}
+use Rattle.specification.specs.Sets.{at}
+use Rattle.specification.specs.Graph.{edgeCount, edge?, refusal, tailsOf, headsOf, duplicate?, reachable?}
+use Rattle.specification.specs.Rows.{row, rowsUsed}
 use Rattle.counting.specs.Quads.{quad}
-use Rattle.masks.specs.Sets.{at}
-use Rattle.reach.specs.Graph.{edgeCount, edge?}
-use Rattle.reach.specs.Refusal.{refusal}
-use Rattle.reach.specs.Ends.{tailsOf, headsOf, duplicate?}
-use Rattle.reach.specs.Closure.{reachable?, Closure, Composed}
-use Rattle.layers.specs.Rows.{row, rowsUsed}
+use Rattle.reach.specs.Closure.{Closure, Composed}
 use Rattle.descent.specs.declared.Descent.{Descent}
 
 -- why edges are refused: document 01's numbers 2 ('size') to 5 ('cycle'), the first that applies, or 0

@@ -6,7 +6,7 @@ ghost use mathlib.Core.Path.{_≡_};
 ghost use Prim.Native.Nat.{ℕ, _+_, _*_, _≤_, _<_, min};
 ghost use lib.Count.{ones};
 ghost use lib.ListN.{length};
-ghost use Rattle.masks.specs.Bits.{bit};
+ghost use Rattle.specification.specs.Sets.{bit};
 ghost use Rattle.scanning.specs.Scanned.{Blank};
 ghost use Rattle.descent.specs.Members.{Below, Long, Gathered, Pictured, Nested, Covered, Written};
 ghost use Rattle.descent.specs.Closed.{Arc, Ample, Reached, Finished, Vertex, Row, Inside, Prefixes, Laid, Closed, Layered};

@@ -1,26 +1,23 @@
 -- What the tables of a plan are, entry by entry: the chart's entries. Cites the chart's laws. Assumes nothing.
 use Rattle.counting.proofs.Prelude.{_≡_, refl, sym, ap, ap₂, _∙_, subst, _↔_, Bool, true, false, List, ℕ, _+_, _*_, _/_, _≤_, _<_, min, arith, eqb, length, getD, take, eqb-true}
 use lib.Seq.{getD-take, length-take-le}
-use Rattle.counting.specs.Count.{choose}
+use Rattle.specification.specs.Count.{choose}
+use Rattle.specification.specs.Sets.{member?, at}
+use Rattle.specification.specs.Channels.{channelOf, positionOf}
+use Rattle.specification.specs.Checks.{Content, edgesOf}
+use Rattle.specification.specs.Bundles.{bundleOf, adjacent?}
+use Rattle.specification.specs.Geometry.{Point, point, isHit, isBlocked, ownColumn, courseOf}
+use Rattle.specification.specs.Chart.{planOf, rowCount, widths, columnIn, placeOf, tailOf, headOf, crossing, transitiveEdge?, kindBetween, vertexEntry, bundleEntry}
+use Rattle.specification.specs.declared.Kind.{Kind}
+use Rattle.specification.specs.declared.Kind.the-variants.{Path, PathTransitive}
+use Rattle.specification.specs.declared.VertexEntry.{VertexEntry}
+use Rattle.specification.specs.declared.BundleEntry.{BundleEntry}
+use Rattle.specification.specs.Drawn.{graphContent}
+use Rattle.specification.specs.Chart as chart
 use Rattle.counting.specs.Quads.{quad}
 use Rattle.counting.proofs.Somes.{some-ext}
-use Rattle.masks.specs.Sets.{member?, at}
-use Rattle.matching.specs.Lists.{channelOf, positionOf}
 use Rattle.reach.proofs.Ends.{ends-counted}
-use Rattle.record.specs.Checks.{Content, edgesOf}
-use Rattle.bundles.specs.Bundles.{bundleOf}
-use Rattle.bundles.specs.Sides.{adjacent?}
-use Rattle.geometry.specs.Segment.{Point, point, pointOf, vertexCount}
-use Rattle.geometry.specs.Test.{isHit, isBlocked}
-use Rattle.geometry.specs.Placement.{ownColumn}
-use Rattle.geometry.specs.Courses.{courseOf}
-use Rattle.outline.specs.Chart as chart
-use Rattle.outline.specs.Chart.{planOf, rowCount, widths, columnIn, placeOf, tailOf, headOf, crossing}
-use Rattle.outline.specs.Chart.{transitiveEdge?, kindBetween, vertexEntry, bundleEntry}
-use Rattle.outline.specs.declared.Kind.{Kind}
-use Rattle.outline.specs.declared.Kind.the-variants.{Path, PathTransitive}
-use Rattle.outline.specs.declared.VertexEntry.{VertexEntry}
-use Rattle.outline.specs.declared.BundleEntry.{BundleEntry}
+use Rattle.geometry.specs.Segment.{pointOf, vertexCount}
 use Rattle.outline.proofs.Leading.{edge-there}
 use Rattle.outline.proofs.Channels.{channels-few, channel-below}
 use Rattle.outline.proofs.Rows.{row-counted}
@@ -28,7 +25,6 @@ use Rattle.outline.proofs.Bundling.{side-edge, side-number}
 use Rattle.prefixes.specs.Prefixes.{lastSet, Prefixes}
 use Rattle.kinds.specs.Kinds.{kindIn, kindAmong}
 use Rattle.kinds.proofs.Candidates.{Ready, kind-candidates}
-use Rattle.drawing.specs.Drawn.{graphContent}
 use Rattle.drawing.specs.Laid.{Lists, Laid}
 use Rattle.drawing.specs.declared.Plan.{Plan}
 

@@ -1,13 +1,12 @@
 -- What is drawn of a graph, and of a record: its graph's, or nothing. Assumes nothing.
 use Rattle.counting.proofs.Prelude.{_≡_, refl, ap, _∙_, Bool, List, ℕ, _*_, eqb, take, drop, ne-eqb}
-use Rattle.counting.specs.Count.{choose}
-use Rattle.record.specs.Checks.{refusalOf}
-use Rattle.fields.specs.Layout.{layoutOf}
-use Rattle.record.specs.Reading.{nothing, contentOf, contentIn, refusalIn, recordRefusal, said}
-use Rattle.fields.specs.declared.Fields.{Fields}
-use Rattle.fields.specs.declared.Layout.{Layout}
-use Rattle.fields.specs.declared.Layout.the-variants.{Good, Bad}
-use Rattle.drawing.specs.Drawn.{Drawn, judged, graphContent, graphDrawn, recordDrawn, refusedBy}
+use Rattle.specification.specs.Count.{choose}
+use Rattle.specification.specs.Checks.{refusalOf, nothing, contentOf, contentIn, refusalIn, recordRefusal, said}
+use Rattle.specification.specs.Layout.{layoutOf}
+use Rattle.specification.specs.declared.Fields.{Fields}
+use Rattle.specification.specs.declared.Layout.{Layout}
+use Rattle.specification.specs.declared.Layout.the-variants.{Good, Bad}
+use Rattle.specification.specs.Drawn.{Drawn, judged, graphContent, graphDrawn, recordDrawn, refusedBy}
 
 module _ (n : ℕ) (ends : List ℕ) (given : Bool) (field : List ℕ) where
   pub graph-refused : (k : ℕ) → k ≡ refusalOf (graphContent n ends given field) → (k ≡ 0 → ⊥) → graphDrawn n ends given field ≡ refusedBy k

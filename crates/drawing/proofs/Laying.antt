@@ -1,43 +1,40 @@
 -- What the lower layers promise of a graph that passes the checks is what its chart is drawn from. Cites their promises alone. Assumes
 -- nothing.
 use Rattle.counting.proofs.Prelude.{_≡_, refl, sym, ap, _∙_, subst, _↔_, ⊎-elim, _&&_, List, ℕ, _*_, _/_, _≤_, _<_, min, arith, eqb, length, getD, eq-eqb, eqb-true}
-use Rattle.counting.specs.Count.{choose}
+use Rattle.specification.specs.Count.{choose}
+use Rattle.specification.specs.Sets.{member?, at}
+use Rattle.specification.specs.Channels.{channelOf, positionOf, linesOf}
+use Rattle.specification.specs.Graph.{edge?, tailsOf, headsOf}
+use Rattle.specification.specs.Checks.{Content, Sound}
+use Rattle.specification.specs.Marks.{transitive?}
+use Rattle.specification.specs.Bundles.{Bundle, side?, apart?, bundlesOf, empty}
+use Rattle.specification.specs.Tracks.{tracks, topIn}
+use Rattle.specification.specs.Geometry.{evenGaps, blockStart, ownColumn}
+use Rattle.specification.specs.Chart.{leads?, channelsOf, planOf, rowOf, rowCount, descendantsOf, tracksIn, columnIn, widthOf, widths}
+use Rattle.specification.specs.Drawn.{graphContent}
+use Rattle.specification.specs.Chart as chart
 use Rattle.counting.specs.Quads.{quad}
 use Rattle.counting.proofs.Truth.{same-truth, lt-or-le, and-intro, and-elim}
 use Rattle.counting.proofs.Somes.{some-found, some-which}
-use Rattle.masks.specs.Sets.{member?, at}
-use Rattle.matching.specs.Lists.{channelOf, positionOf}
 use Rattle.matching.proofs.Same.{planned-same}
-use Rattle.reach.specs.Graph.{edge?}
-use Rattle.reach.specs.Ends.{tailsOf, headsOf}
 use Rattle.reach.proofs.Decide.{edge-decided}
 use Rattle.reach.proofs.Closures.{same-test}
-use Rattle.channels.specs.Given.{linesOf}
 use Rattle.planning.specs.Arranged.{Arranged}
 use Rattle.search.specs.Table.{leadsIn}
-use Rattle.record.specs.Checks.{Content}
-use Rattle.record.specs.Sound.{Sound}
 use Rattle.record.specs.declared.checks.Checked.{Checked}
 use Rattle.record.proofs.Soundness.{accepted-sound}
-use Rattle.reduction.specs.Reduction.{transitive?}
-use Rattle.bundles.specs.Bundles.{Bundle}
-use Rattle.bundles.specs.Sides.{side?, tableSide?, apart?}
-use Rattle.bundles.specs.Promise.{vertices, Bundled, Listed, bundlesOf, bundlesIn, empty}
+use Rattle.bundles.specs.Sides.{tableSide?}
+use Rattle.bundles.specs.Promise.{vertices, Bundled, Listed, bundlesIn}
 use Rattle.bundles.proofs.Extension.{bundles-ext}
 use Rattle.bundles.proofs.Theorems.{fitting-all}
 use Rattle.tracks.specs.Promise.{Tracked, Assigned}
-use Rattle.tracks.specs.Tracks.{tracks, topIn}
 use Rattle.tracks.proofs.Extension.{tracks-ext}
 use Rattle.tracks.proofs.Different.{top-ext}
 use Rattle.tracks.proofs.Theorems.{track-past, tracked-rising}
-use Rattle.geometry.specs.Placement.{evenGaps, blockStart, ownColumn}
-use Rattle.outline.specs.Chart as chart
-use Rattle.outline.specs.Chart.{leads?, channelsOf, planOf, rowOf, rowCount, descendantsOf, tracksIn, columnIn, widthOf, widths}
 use Rattle.outline.proofs.Leading.{graph-accepted, leads-ends}
 use Rattle.outline.proofs.Channels.{channels-few, channel-below, vertices-small}
 use Rattle.outline.proofs.Bundling.{bundle-intervals}
 use Rattle.outline.proofs.Columns.{width-on-page}
-use Rattle.drawing.specs.Drawn.{graphContent}
 use Rattle.drawing.specs.Laid.{Lists, lists, Laid}
 use Rattle.drawing.specs.Parts.{Spaceable, Spaced, Passed, Filled}
 use Rattle.drawing.specs.declared.Plan.{Plan}

@@ -1,16 +1,14 @@
 -- The chart of no graph has no count. Assumes nothing.
 use Rattle.counting.proofs.Prelude.{_≡_, refl, sym, ap, subst, List, [], ℕ, zero, suc, _<_, length, replicate}
-use Rattle.counting.specs.Count.{sum, count}
-use Rattle.matching.specs.Chains.{begun, planned}
-use Rattle.record.specs.Checks.{edgesOf}
-use Rattle.record.specs.Reading.{nothing}
-use Rattle.layers.specs.Rows.{above}
-use Rattle.reduction.specs.Reduction.{reducedCount}
-use Rattle.bundles.specs.Bundles.{bundles}
-use Rattle.bundles.specs.Promise.{bundlesOf}
-use Rattle.tracks.specs.Tracks.{inRow, inRows, tracks, topIn}
-use Rattle.geometry.specs.Placement.{blockStart}
-use Rattle.outline.specs.Chart.{Plan, planOf, bundled, tracked, channelsOf, rowCount, reducedEdges, widthOf, tracksIn}
+use Rattle.specification.specs.Count.{sum, count}
+use Rattle.specification.specs.Planning.{begun, planned}
+use Rattle.specification.specs.Checks.{edgesOf, nothing}
+use Rattle.specification.specs.Rows.{above}
+use Rattle.specification.specs.Marks.{reducedCount}
+use Rattle.specification.specs.Bundles.{bundles, bundlesOf}
+use Rattle.specification.specs.Tracks.{inRow, inRows, tracks, topIn}
+use Rattle.specification.specs.Geometry.{blockStart}
+use Rattle.specification.specs.Chart.{Plan, planOf, bundled, tracked, channelsOf, rowCount, reducedEdges, widthOf, tracksIn}
 
 -- without bundles every track is 0
 no-tracks : (f g h : ℕ → ℕ) (r : ℕ) → inRows 0 f g h r ≡ replicate 256 0

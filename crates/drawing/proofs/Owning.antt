@@ -1,9 +1,9 @@
 -- Own columns, channel after channel. Assumes nothing.
 use Rattle.counting.proofs.Prelude.{_≡_, refl, sym, ap, _∙_, List, ℕ, _+_, _≤_, _<_, arith, set, replicate}
-use Rattle.counting.specs.Count.{sum}
+use Rattle.specification.specs.Count.{sum}
 use Rattle.counting.proofs.Sums.{sum-more}
 use Rattle.counting.proofs.Classes.{sum-longer}
-use Rattle.geometry.specs.Placement.{Widths, evenGaps, blockWidth, blockStart, ownColumn}
+use Rattle.specification.specs.Geometry.{Widths, evenGaps, blockWidth, blockStart, ownColumn}
 use Rattle.drawing.specs.Parts.{Owns}
 use Rattle.drawing.proofs.Tabling.{tabled-none, tabled-more}
 

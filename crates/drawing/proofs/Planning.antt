@@ -3,10 +3,10 @@ use Rattle.counting.proofs.Prelude.{_≡_, refl, sym, ap, _∙_, _≢_, Bool, t
 use native.Mathlib.Decide.{decLt}
 use Rattle.counting.proofs.Truth.{and-intro, and-elim}
 use Rattle.descent.specs.Promise.{Sized}
-use Rattle.record.specs.Checks.{refusalOf}
+use Rattle.specification.specs.Checks.{refusalOf}
 use Rattle.record.specs.Checked.{Checks}
 use Rattle.record.specs.declared.checks.Checked.{Checked}
-use Rattle.drawing.specs.Drawn.{graphContent}
+use Rattle.specification.specs.Drawn.{graphContent}
 use Rattle.drawing.specs.Laid.{Lists, lists, roomy?, Roomy, Plans, unplannedBy}
 use Rattle.drawing.specs.Parts.{Passed, Filled}
 use Rattle.drawing.specs.declared.Plan.{Plan}

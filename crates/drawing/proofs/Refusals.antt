@@ -1,13 +1,12 @@
 -- What is known of a refusal: one of 1 to 7 and nothing, or 8 'short' just where a list is too short for what is accepted. Assumes nothing.
 use Rattle.counting.proofs.Prelude.{_≡_, refl, sym, ap, _∙_, _↔_, ⊎-elim, Bool, true, false, List, ℕ, _≤_, arith, eqb, length, eqb-true, eqb-false, ne-eqb}
-use Rattle.counting.specs.Count.{choose}
-use Rattle.record.specs.Checks.{Content, edgesOf, size?, stranger?, double?, ring?, repeated?, lacking?, unled?, looseChecks, laterChecks, firstOf, refusalOf}
-use Rattle.fields.specs.Layout.{layoutOf}
-use Rattle.record.specs.Reading.{nothing, contentOf, refusalIn, recordRefusal, said}
-use Rattle.fields.specs.declared.Layout.{Layout}
-use Rattle.fields.specs.declared.Layout.the-variants.{Good, Bad}
-use Rattle.outline.specs.Chart.{planOf}
-use Rattle.drawing.specs.Drawn.{Drawn, judged, graphContent, recordDrawn, graphDrawn, short?, lent}
+use Rattle.specification.specs.Count.{choose}
+use Rattle.specification.specs.Checks.{Content, edgesOf, size?, stranger?, double?, ring?, repeated?, lacking?, unled?, looseChecks, laterChecks, firstOf, refusalOf, nothing, contentOf, refusalIn, recordRefusal, said}
+use Rattle.specification.specs.Layout.{layoutOf}
+use Rattle.specification.specs.declared.Layout.{Layout}
+use Rattle.specification.specs.declared.Layout.the-variants.{Good, Bad}
+use Rattle.specification.specs.Chart.{planOf}
+use Rattle.specification.specs.Drawn.{Drawn, judged, graphContent, recordDrawn, graphDrawn, short?, lent}
 use Rattle.drawing.proofs.Nothing.{empty}
 use Rattle.drawing.proofs.Shortage.{lacking, lent-short, lent-whole}
 

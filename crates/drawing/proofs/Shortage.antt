@@ -2,9 +2,9 @@
 use Rattle.counting.proofs.Prelude.{_≡_, refl, _⊎_, ⊎-elim, inl, inr, true, false, _||_, ℕ, _<_, _≤_, ltb, length, ltb-true, lt-ltb, le-ltb}
 use Rattle.counting.proofs.Truth.{or-left, or-right, or-elim}
 use Rattle.counting.proofs.Falsity.{neither}
-use Rattle.record.specs.Checks.{edgesOf}
-use Rattle.outline.specs.Chart.{planOf}
-use Rattle.drawing.specs.Drawn.{Drawn, short?, lent, refusedBy}
+use Rattle.specification.specs.Checks.{edgesOf}
+use Rattle.specification.specs.Chart.{planOf}
+use Rattle.specification.specs.Drawn.{Drawn, short?, lent, refusedBy}
 
 module _ (v e b : ℕ) (x : Drawn) where
   abbrev vertices : ℕ

@@ -1,7 +1,7 @@
 -- Columns by blocks depend on the channels alone. Assumes nothing.
 use Rattle.counting.proofs.Prelude.{_≡_, ap, ℕ, _+_, _<_, arith}
 use Rattle.counting.proofs.Sums.{sum-ext}
-use Rattle.geometry.specs.Placement.{evenGaps, blockWidth, blockStart, ownColumn}
+use Rattle.specification.specs.Geometry.{evenGaps, blockWidth, blockStart, ownColumn}
 
 module _ (f g : ℕ → ℕ) where
   pub start-same : (k : ℕ) → ((l : ℕ) → l < k → f l ≡ g l) → blockStart (evenGaps f) k ≡ blockStart (evenGaps g) k

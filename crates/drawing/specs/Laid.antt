@@ -7,15 +7,14 @@ use Prim.Native.Nat.{ℕ, _*_, _≤_, _<_, min}
 use lib.Dec.{leb}
 use lib.ListN.{length, getD}
 use Rattle.counting.specs.Quads.{quad}
-use Rattle.masks.specs.Sets.{member?, at}
-use Rattle.matching.specs.Lists.{channelOf, positionOf}
+use Rattle.specification.specs.Sets.{member?, at}
+use Rattle.specification.specs.Channels.{channelOf, positionOf}
+use Rattle.specification.specs.Checks.{Content, refusalOf, Sound}
+use Rattle.specification.specs.Marks.{transitive?}
+use Rattle.specification.specs.Chart.{leads?, rowOf, rowCount, descendantsOf, planOf, tracksIn, columnIn, widthOf}
+use Rattle.specification.specs.Drawn.{graphContent}
 use Rattle.descent.specs.Promise.{Sized}
-use Rattle.record.specs.Checks.{Content, refusalOf}
-use Rattle.record.specs.Sound.{Sound}
-use Rattle.reduction.specs.Reduction.{transitive?}
 use Rattle.bundles.specs.Promise.{Listed}
-use Rattle.outline.specs.Chart.{leads?, rowOf, rowCount, descendantsOf, planOf, tracksIn, columnIn, widthOf}
-use Rattle.drawing.specs.Drawn.{graphContent}
 use Rattle.drawing.specs.declared.Plan.{Plan}
 
 -- the lists that are lent: four of masks; of each vertex the channel, its position there, its row and how many vertices it reaches, in turn; of

@@ -1,3 +1,2 @@
-pub mod Drawn
 pub mod Laid
 pub mod Parts

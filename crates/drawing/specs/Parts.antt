@@ -5,12 +5,12 @@ use mathlib.Core.List.{List}
 use Prim.Native.Nat.{ℕ, _*_, _≤_, _<_}
 use lib.ListN.{length, getD, replicate}
 use Rattle.counting.specs.Quads.{quad}
-use Rattle.geometry.specs.Placement.{Widths, evenGaps, blockStart, ownColumn}
-use Rattle.page.specs.Page as page
-use Rattle.record.specs.Checks.{refusalOf}
+use Rattle.specification.specs.Geometry.{Widths, evenGaps, blockStart, ownColumn}
+use Rattle.specification.specs.Page as page
+use Rattle.specification.specs.Checks.{refusalOf}
 use Rattle.record.specs.Checked.{Passes}
 use Rattle.record.specs.declared.checks.Checked.{Checked}
-use Rattle.drawing.specs.Drawn.{graphContent}
+use Rattle.specification.specs.Drawn.{graphContent}
 use Rattle.drawing.specs.Laid.{lists, Roomy, Laid}
 use Rattle.drawing.specs.declared.Plan.{Plan}
 

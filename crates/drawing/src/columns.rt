@@ -3,8 +3,8 @@ ghost use mathlib.Core.Path.{_≡_};
 ghost use Prim.Native.Nat.{ℕ, _*_, _≤_, _<_};
 ghost use lib.ListN.{length, getD, replicate};
 ghost use Rattle.counting.specs.Quads.{quad};
-ghost use Rattle.geometry.specs.Placement.{evenGaps, blockStart};
-ghost use Rattle.page.specs.Page as page;
+ghost use Rattle.specification.specs.Geometry.{evenGaps, blockStart};
+ghost use Rattle.specification.specs.Page as page;
 ghost use Rattle.drawing.specs.Parts.{Tabled, Owns, Spaceable, Spaced};
 use crate::wide;
 

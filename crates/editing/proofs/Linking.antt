@@ -4,7 +4,7 @@ use native.Mathlib.Nat.{not-suc-le-zero, le-refl, mul-zero}
 use native.Mathlib.Decide.{ℕ-discrete}
 use borrow.Author.Count.{below-more}
 use Rattle.counting.proofs.Falsity.{or-false, max-test}
-use Rattle.masks.specs.Sets.{member, at, inserted}
+use Rattle.specification.specs.Sets.{member, at, inserted}
 use Rattle.masks.proofs.Sets.{member-lt}
 use Rattle.masks.proofs.Tables.{at-lt, Put, put-law, Row, row-member, Absorbed}
 use Rattle.editing.specs.Promise.{has?, across?, Linked}

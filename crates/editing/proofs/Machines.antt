@@ -5,12 +5,12 @@ use native.Mathlib.Decide.{ℕ-discrete, decLt}
 use Rattle.counting.proofs.Truth.{or-left, or-right, or-neither, same-truth}
 use Rattle.counting.proofs.Deciding.{eq-decided, or-decided, and-decided}
 use Rattle.counting.proofs.Falsity.{neither}
-use Rattle.reach.specs.Graph.{Reaches}
-use Rattle.reach.specs.Graph.Reaches.{one, more}
+use Rattle.specification.specs.Graph.{Reaches}
+use Rattle.specification.specs.Graph.Reaches.{one, more}
 use Rattle.reach.proofs.Decide.{reaches-decided}
 use Rattle.reach.proofs.Extending.{Extends, Across, extended, stays-acyclic}
-use Rattle.editing.specs.Machine.{Edge, Graph, Call, Answer, Turn, contains, In, unknown?, reached?, cyclic?, full?, verdict, refusal, insert, change, reply, step, run, empty, startRefusal, startVertices, fresh, Distinct, Lawful}
-use Rattle.editing.specs.Machine.Edge.{edge}
+use Rattle.specification.specs.Machine.{Edge, Graph, Call, Answer, Turn, contains, In, unknown?, reached?, cyclic?, full?, verdict, refusal, insert, change, reply, step, run, empty, startRefusal, startVertices, fresh, Distinct, Lawful}
+use Rattle.specification.specs.Machine.Edge.{edge}
 
 -- ---- the first test that holds
 

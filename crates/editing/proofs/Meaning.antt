@@ -3,11 +3,11 @@ use Rattle.counting.proofs.Prelude.{_≡_, refl, sym, ap, _∙_, subst, _⊎_, 
 use Rattle.counting.proofs.Truth.{or-elim, true-or-false}
 use Rattle.counting.proofs.Deciding.{eq-decided, or-decided}
 use Rattle.counting.proofs.Falsity.{not-true, neither}
-use Rattle.reach.specs.Graph.{Reaches}
-use Rattle.reach.specs.Graph.Reaches.{one, more}
+use Rattle.specification.specs.Graph.{Reaches}
+use Rattle.specification.specs.Graph.Reaches.{one, more}
 use Rattle.reach.proofs.Extending.{reaches-mono, Extends, stays-acyclic}
-use Rattle.editing.specs.Machine.{Graph, Call, Answer, Turn, contains, In, unknown?, reached?, cyclic?, full?, verdict, refusal, insert, change, reply, step, Lawful}
-use Rattle.editing.specs.Machine.Edge.{edge}
+use Rattle.specification.specs.Machine.{Graph, Call, Answer, Turn, contains, In, unknown?, reached?, cyclic?, full?, verdict, refusal, insert, change, reply, step, Lawful}
+use Rattle.specification.specs.Machine.Edge.{edge}
 use Rattle.editing.specs.Meaning.{Closes, Why, Exact}
 use Rattle.editing.proofs.Machines.{known, reached-decided, insert-extends, add-made, refusedThree, unknown-leads}
 

@@ -2,7 +2,7 @@
 use Rattle.counting.proofs.Prelude.{_≡_, refl, ap, ap₂, _≢_, List, [], _∷_, ℕ, length, replicate, ne-eqb}
 use Rattle.editing.specs.declared.Session.{Session}
 use Rattle.editing.specs.declared.Changed.{Changed}
-use Rattle.editing.specs.Machine.{Graph, Call, Answer, step, run, answers, empty, startRefusal, startVertices, fresh}
+use Rattle.specification.specs.Machine.{Graph, Call, Answer, step, run, answers, empty, startRefusal, startVertices, fresh}
 use Rattle.editing.specs.Promise.{Represents, StartPromise}
 use Rattle.editing.specs.Meaning.{Exact}
 use Rattle.editing.specs.Histories.{Performed, History, Follows}

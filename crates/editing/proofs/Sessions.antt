@@ -3,14 +3,14 @@ use Rattle.counting.proofs.Prelude.{_≡_, refl, sym, ap, ap₂, _∙_, subst, 
 use native.Mathlib.Nat.{lt-of-lt-of-le}
 use native.Mathlib.Numerals.{add-one}
 use native.Mathlib.Decide.{ℕ-discrete}
-use Rattle.counting.specs.Count.{choose}
+use Rattle.specification.specs.Count.{choose}
 use Rattle.counting.proofs.Truth.{or-left, or-right, same-truth}
 use Rattle.counting.proofs.Falsity.{not-true, neither}
 use Rattle.masks.proofs.Tables.{at-zeros, Put, put-law}
 use Rattle.reach.proofs.Extending.{Extends}
 use Rattle.editing.specs.declared.Session.{Session}
-use Rattle.editing.specs.Machine.{Graph, Call, Answer, contains, In, unknown?, reached?, cyclic?, full?, refusal, insert, change, reply, step, empty, startRefusal, startVertices, fresh}
-use Rattle.editing.specs.Machine.Edge.{edge}
+use Rattle.specification.specs.Machine.{Graph, Call, Answer, contains, In, unknown?, reached?, cyclic?, full?, refusal, insert, change, reply, step, empty, startRefusal, startVertices, fresh}
+use Rattle.specification.specs.Machine.Edge.{edge}
 use Rattle.editing.specs.Promise.{has?, outside?, refusalOf, across?, Grown, blank, Represents, changeAnswer, replyAnswer, StartPromise, AddPromise, LeadsPromise}
 use Rattle.editing.proofs.Machines.{verdict-unknown, known, reached-decided, insert-extends, Accepted, accepted, insert-lawful, insert-reached, add-made, add-kept, none-reached, empty-lawful}
 

@@ -5,7 +5,7 @@ use Prim.Native.Nat.{ℕ}
 use Rattle.editing.specs.declared.Session.{Session}
 use Rattle.editing.specs.declared.Changed.{Changed}
 use Rattle.editing.specs.declared.Reply.{Reply}
-use Rattle.editing.specs.Machine.{Graph, Call, Answer, run, answers}
+use Rattle.specification.specs.Machine.{Graph, Call, Answer, run, answers}
 use Rattle.editing.specs.Promise.{Represents, changeAnswer, replyAnswer, AddPromise, LeadsPromise}
 
 -- a call on a session: what it answers, and the session after it, by a result that meets the call's promise

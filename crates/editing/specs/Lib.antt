@@ -1,5 +1,3 @@
-pub mod Machine
 pub mod Promise
 pub mod Meaning
 pub mod Histories
-pub mod Examples

@@ -5,10 +5,9 @@ use mathlib.Core.Bool.{true, false}
 use mathlib.Core.List.{_∷_}
 use Prim.Native.Nat.{ℕ, _≤_, _<_}
 use lib.ListN.{length}
-use Rattle.reach.specs.Graph.{Reaches}
-use Rattle.reach.specs.Refusal.{mostEdges}
-use Rattle.editing.specs.Machine.{Graph, Call, Answer, In, refusal, step, Lawful}
-use Rattle.editing.specs.Machine.Edge.{edge}
+use Rattle.specification.specs.Graph.{Reaches, mostEdges}
+use Rattle.specification.specs.Machine.{Graph, Call, Answer, In, refusal, step, Lawful}
+use Rattle.specification.specs.Machine.Edge.{edge}
 
 -- with the edge from u to v some vertex would reach itself
 abbrev pub Closes : Graph → ℕ → ℕ → Type 0

@@ -6,13 +6,13 @@ use mathlib.Core.List.{List}
 use Prim.Native.Nat.{ℕ, zero, suc, _+_, _*_, _≤_, _<_, min}
 use lib.Dec.{eqb, leb}
 use lib.ListN.{length, replicate}
-use Rattle.counting.specs.Count.{choose}
-use Rattle.masks.specs.Sets.{at, inserted}
-use Rattle.reach.specs.Refusal.{mostVertices, mostEdges}
+use Rattle.specification.specs.Count.{choose}
+use Rattle.specification.specs.Sets.{at, inserted}
+use Rattle.specification.specs.Graph.{mostVertices, mostEdges}
 use Rattle.editing.specs.declared.Session.{Session}
 use Rattle.editing.specs.declared.Changed.{Changed}
 use Rattle.editing.specs.declared.Reply.{Reply}
-use Rattle.editing.specs.Machine.{Graph, Call, Answer, contains, reached?, verdict, refusal, step, startRefusal, startVertices, fresh, Lawful}
+use Rattle.specification.specs.Machine.{Graph, Call, Answer, contains, reached?, verdict, refusal, step, startRefusal, startVertices, fresh, Lawful}
 
 -- ---- of any session value: its tables have two masks a vertex and 128 vertices, whatever its number of vertices says
 

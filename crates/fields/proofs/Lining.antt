@@ -2,7 +2,7 @@
 use Rattle.counting.proofs.Prelude.{_≡_, refl, sym, ap, _∙_, false, List, [], _∷_, ℕ, zero, suc, _+_, _-_, _≤_, _<_, arith, eqb, length, getD, drop, drop-of-length-le, ne-eqb}
 use native.Mathlib.Numerals.{add-one}
 use lib.Seq.{drop-cons}
-use Rattle.fields.specs.Layout.{lined}
+use Rattle.specification.specs.Layout.{lined}
 
 -- the byte at i, and what follows
 next : (left : ℕ) (b : List ℕ) (i : ℕ) → i < length b → lined left (drop i b) ≡ lined left (getD b i 0 ∷ drop (i + 1) b)

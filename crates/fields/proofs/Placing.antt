@@ -1,9 +1,9 @@
 -- A field that is found lies within the record. Assumes nothing.
 use Rattle.counting.proofs.Prelude.{_≡_, refl, sym, Bool, true, false, _&&_, List, ℕ, _+_, _≤_, arith, eqb, leb, length, getD, leb-true}
-use Rattle.counting.specs.Count.{choose}
+use Rattle.specification.specs.Count.{choose}
 use Rattle.counting.proofs.Truth.{and-elim}
-use Rattle.fields.specs.declared.Field.the-variants.{Found, Missing}
-use Rattle.fields.specs.Layout.{sizeAt, fieldAt}
+use Rattle.specification.specs.declared.Field.the-variants.{Found, Missing}
+use Rattle.specification.specs.Layout.{sizeAt, fieldAt}
 
 -- where a found field stands
 pub record Inside (b : List ℕ) (at start size : ℕ) : Type 0 where

@@ -1,13 +1,13 @@
 -- The fields of a record that is laid out as it must be lie within it. Assumes nothing.
 use Rattle.counting.proofs.Prelude.{_≡_, refl, subst, Bool, true, false, true≢false, _&&_, List, ℕ, _+_, _*_, _/_, _%_, _≤_, zero-le, arith, eqb, leb, length, getD, take, drop, eqb-true}
-use Rattle.counting.specs.Count.{choose}
+use Rattle.specification.specs.Count.{choose}
 use Rattle.counting.proofs.Truth.{and-elim}
-use Rattle.fields.specs.declared.Field.{Field}
-use Rattle.fields.specs.declared.Field.the-variants.{Found, Missing}
-use Rattle.fields.specs.declared.Fields.{Fields}
-use Rattle.fields.specs.declared.Layout.{Layout}
-use Rattle.fields.specs.declared.Layout.the-variants.{Good, Bad}
-use Rattle.fields.specs.Layout.{mostBytes, fieldAt, lined, withLines, afterEdges, withEdges, withVertices, layoutOf}
+use Rattle.specification.specs.declared.Field.{Field}
+use Rattle.specification.specs.declared.Field.the-variants.{Found, Missing}
+use Rattle.specification.specs.declared.Fields.{Fields}
+use Rattle.specification.specs.declared.Layout.{Layout}
+use Rattle.specification.specs.declared.Layout.the-variants.{Good, Bad}
+use Rattle.specification.specs.Layout.{mostBytes, fieldAt, lined, withLines, afterEdges, withEdges, withVertices, layoutOf}
 use Rattle.fields.proofs.Placing.{found-inside}
 
 pub record LaidOut (b : List ℕ) (f : Fields) : Type 0 where

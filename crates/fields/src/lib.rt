@@ -2,31 +2,12 @@
 ghost use mathlib.Core.Path.{_≡_};
 ghost use Prim.Native.Nat.{_≤_, _<_};
 ghost use lib.ListN.{length};
-ghost use Rattle.fields.specs.Layout.{fieldAt, layoutOf, lined, withLines, afterEdges, withEdges};
+ghost use Rattle.specification.specs.Layout.{fieldAt, layoutOf, lined, withLines, afterEdges, withEdges};
+use specification::Field;
+use specification::Fields;
+use specification::Layout;
 // The most bytes of a record.
 const MOST_BYTES: usize = 65535;
-
-// A tagged field: its bytes begin at `start`, and there are `size` of them.
-pub enum Field {
-    Found { start: usize, size: usize },
-    Missing,
-}
-
-// Where the fields of a record stand. Edge i has its tail at edges + 2 i and its head after it, and there are `count` of them. The given
-// channels (document 01: house lines) are the `size` bytes from `lines` on, where `given` says so.
-pub struct Fields {
-    pub vertices: usize,
-    pub edges: usize,
-    pub count: usize,
-    pub given: bool,
-    pub lines: usize,
-    pub size: usize,
-}
-
-pub enum Layout {
-    Good(Fields),
-    Bad,
-}
 
 // A byte as a usize: asks nothing of the byte, where a cast of an element asks that it fits.
 fn wide(x: u8) -> usize

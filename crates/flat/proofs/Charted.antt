@@ -1,18 +1,18 @@
 -- From what the fills leave to the chart: over a plan's lists the entries are the chart's. Cites drawing's laws. Assumes nothing.
 use Rattle.counting.proofs.Prelude.{_≡_, refl, sym, ap, ap₂, _∙_, Bool, not, List, ℕ, _+_, _*_, _/_, _%_, _<_, _≤_, min, arith, length, getD, take}
-use Rattle.counting.specs.Count.{count}
+use Rattle.specification.specs.Count.{count}
 use Rattle.counting.proofs.Sums.{count-ext}
 use Rattle.lists.specs.Filled.{Filled}
 use Rattle.lists.proofs.Written.{refilled}
-use Rattle.masks.specs.Sets.{member?}
+use Rattle.specification.specs.Sets.{member?}
 use Rattle.reach.proofs.Ends.{tail-at, head-at}
-use Rattle.reduction.specs.Reduction.{reducedCount}
-use Rattle.record.specs.Checks.{Content, edgesOf}
-use Rattle.outline.specs.Chart.{planOf, transitiveEdge?, reducedEdges, vertexEntry, edgeEntry, bundleEntry, tailOf, headOf, kindBetween}
-use Rattle.outline.specs.declared.VertexEntry.{VertexEntry}
-use Rattle.outline.specs.declared.EdgeEntry.{EdgeEntry}
-use Rattle.outline.specs.declared.BundleEntry.{BundleEntry}
-use Rattle.drawing.specs.Drawn.{graphContent}
+use Rattle.specification.specs.Marks.{reducedCount}
+use Rattle.specification.specs.Checks.{Content, edgesOf}
+use Rattle.specification.specs.Chart.{planOf, transitiveEdge?, reducedEdges, vertexEntry, edgeEntry, bundleEntry, tailOf, headOf, kindBetween}
+use Rattle.specification.specs.declared.VertexEntry.{VertexEntry}
+use Rattle.specification.specs.declared.EdgeEntry.{EdgeEntry}
+use Rattle.specification.specs.declared.BundleEntry.{BundleEntry}
+use Rattle.specification.specs.Drawn.{graphContent}
 use Rattle.drawing.specs.Laid.{Lists, Laid}
 use Rattle.drawing.specs.declared.Plan.{Plan}
 use Rattle.drawing.proofs.Entries.{edges-counted, small, edges-few, bundles-few, ends-known}

@@ -1,17 +1,16 @@
 -- From the lists and the counts to the promise. Assumes nothing.
 use Rattle.counting.proofs.Prelude.{_≡_, refl, sym, ap, ap₂, subst, _∙_, Bool, true, false, _||_, List, ℕ, _+_, _-_, _*_, _/_, _≤_, arith, ltb, length, take, drop, replicate, eq-eqb, ne-eqb, ltb-false}
 use native.Mathlib.Decide.{ℕ-discrete}
-use Rattle.counting.specs.Count.{choose}
+use Rattle.specification.specs.Count.{choose}
+use Rattle.specification.specs.Checks.{Content, edgesOf, refusalOf, nothing}
+use Rattle.specification.specs.Layout.{layoutOf}
+use Rattle.specification.specs.declared.Fields.{Fields}
+use Rattle.specification.specs.declared.Layout.the-variants.{Good}
+use Rattle.specification.specs.Chart.{planOf}
+use Rattle.specification.specs.Drawn.{Drawn, graphContent, graphDrawn, short?, lent, refusedBy}
 use Rattle.counting.proofs.Zeros.{zeros}
 use Rattle.counting.proofs.Truth.{or-neither}
 use Rattle.lists.proofs.Stores.{filled-none, filled-to}
-use Rattle.record.specs.Checks.{Content, edgesOf, refusalOf}
-use Rattle.fields.specs.Layout.{layoutOf}
-use Rattle.record.specs.Reading.{nothing}
-use Rattle.fields.specs.declared.Fields.{Fields}
-use Rattle.fields.specs.declared.Layout.the-variants.{Good}
-use Rattle.outline.specs.Chart.{planOf}
-use Rattle.drawing.specs.Drawn.{Drawn, graphContent, graphDrawn, short?, lent, refusedBy}
 use Rattle.drawing.specs.Laid.{Lists, Laid}
 use Rattle.drawing.specs.declared.Plan.{Plan}
 use Rattle.drawing.proofs.Entries.{edges-counted}

@@ -2,10 +2,10 @@
 use Rattle.counting.proofs.Prelude.{_≡_, refl, sym, ap, ap₂, _∙_, Bool, true, false, not, List, ℕ, zero, suc, _+_, _-_, _*_, _/_, _%_, _^_, _<_, arith, eqb, getD, set}
 use native.Mathlib.Nat.{add-zero}
 use lib.Bits.{bitAnd}
-use Rattle.counting.specs.Count.{count, sum, indicator}
+use Rattle.specification.specs.Count.{count, sum, indicator}
 use Rattle.counting.specs.Quads.{quad}
 use Rattle.counting.proofs.Sums.{sum-more}
-use Rattle.masks.specs.Sets.{member, member?}
+use Rattle.specification.specs.Sets.{member, member?}
 use Rattle.masks.proofs.Bits.{bit-lt}
 use Rattle.masks.proofs.Sets.{member-test}
 use Rattle.kinds.specs.Codes.{codeOf}

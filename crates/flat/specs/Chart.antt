@@ -5,15 +5,15 @@ use mathlib.Core.List.{List}
 use Prim.Native.Nat.{ℕ, _*_, _/_, _%_, _<_}
 use lib.Dec.{eqb}
 use lib.ListN.{length, getD}
-use Rattle.counting.specs.Count.{choose, indicator}
+use Rattle.specification.specs.Count.{choose, indicator}
 use Rattle.lists.specs.Filled.{Filled}
-use Rattle.record.specs.Checks.{Content, edgesOf}
-use Rattle.outline.specs.Chart.{Plan, planOf, rowCount, reducedEdges, widthOf, tracksIn, vertexEntry, edgeEntry, bundleEntry}
-use Rattle.outline.specs.declared.VertexEntry.{VertexEntry}
-use Rattle.outline.specs.declared.EdgeEntry.{EdgeEntry}
-use Rattle.outline.specs.declared.BundleEntry.{BundleEntry}
+use Rattle.specification.specs.Checks.{Content, edgesOf}
+use Rattle.specification.specs.Chart.{Plan, planOf, rowCount, reducedEdges, widthOf, tracksIn, vertexEntry, edgeEntry, bundleEntry}
+use Rattle.specification.specs.declared.VertexEntry.{VertexEntry}
+use Rattle.specification.specs.declared.EdgeEntry.{EdgeEntry}
+use Rattle.specification.specs.declared.BundleEntry.{BundleEntry}
 use Rattle.kinds.specs.Codes.{codeOf}
-use Rattle.drawing.specs.Drawn.{Drawn, recordDrawn, lent}
+use Rattle.specification.specs.Drawn.{Drawn, recordDrawn, lent}
 use Rattle.flat.specs.declared.ChartCounts.{ChartCounts}
 
 -- ---- an entry as numbers

@@ -5,10 +5,10 @@ use mathlib.Core.List.{List}
 use Prim.Native.Nat.{ℕ, _+_, _*_, _/_, _≤_, _<_, min}
 use lib.Dec.{eqb, ltb}
 use lib.ListN.{length}
-use Rattle.counting.specs.Count.{choose}
+use Rattle.specification.specs.Count.{choose}
 use Rattle.counting.specs.Quads.{quad}
-use Rattle.record.specs.Checks.{refusalOf}
-use Rattle.drawing.specs.Drawn.{graphContent, graphDrawn, lent}
+use Rattle.specification.specs.Checks.{refusalOf}
+use Rattle.specification.specs.Drawn.{graphContent, graphDrawn, lent}
 use Rattle.drawing.specs.Laid.{lists, Laid}
 use Rattle.drawing.specs.declared.Plan.{Plan}
 use Rattle.prefixes.specs.Prefixes.{lastSet, Prefixes}

@@ -4,7 +4,7 @@ use mathlib.Core.Bool.{not}
 use mathlib.Core.List.{List}
 use Prim.Native.Nat.{ℕ, _+_, _*_, _≤_, _<_}
 use lib.ListN.{length}
-use Rattle.counting.specs.Count.{count}
+use Rattle.specification.specs.Count.{count}
 use Rattle.lists.specs.Filled.{Filled}
 use Rattle.flat.specs.Chart.{arrowNumber, arrows}
 use Rattle.flat.specs.Numbers.{Given, tailAt, headAt, implied?, arrowFrom}

@@ -2,7 +2,7 @@
 ghost use mathlib.Core.Path.{_≡_};
 ghost use Prim.Native.Nat.{_+_, _*_, _/_, _≤_, _<_, min};
 ghost use lib.ListN.{length, replicate};
-ghost use Rattle.drawing.specs.Drawn.{graphDrawn, lent};
+ghost use Rattle.specification.specs.Drawn.{graphDrawn, lent};
 ghost use Rattle.drawing.specs.Laid.{lists, Roomy};
 ghost use Rattle.flat.specs.Chart.{Left, HandedFlat};
 ghost use Rattle.flat.specs.Hand.{noCounts, whole};
@@ -10,8 +10,8 @@ ghost use Rattle.flat.specs.Hand.{noCounts, whole};
 mod entries;
 mod hand;
 
-use fields::Layout;
 use hand::hand_over;
+use specification::Layout;
 
 // For so many vertices there are smaller work lists: none is longer than 256 bytes, which the compiler clears without a call.
 const FEW: usize = 15;

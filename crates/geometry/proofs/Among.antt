@@ -3,17 +3,14 @@ use Rattle.counting.proofs.Prelude.{_≡_, refl, sym, ap, _∙_, subst, _≢_, 
 use lib.Count.{trailingZeros}
 use Rattle.counting.proofs.Truth.{lt-or-le, same-truth, and-intro, and-elim}
 use Rattle.counting.proofs.Somes.{some-found, some-which, some-ext}
-use Rattle.masks.specs.Bits.{bit}
-use Rattle.masks.specs.Sets.{member}
+use Rattle.specification.specs.Sets.{bit, member}
+use Rattle.specification.specs.declared.Course.the-variants.{Straight}
+use Rattle.specification.specs.Geometry.{Point, Hit, BlockedAmong, Decides, isHit, isBlocked, isBlockedAmong, bendRow, bendBeside, courseOf, courseAmong}
 use Rattle.masks.specs.Pairs.{inPair}
 use Rattle.masks.proofs.Bits.{bit-high, bit-of-zero}
 use Rattle.masks.proofs.Pairing.{pair-low, pair-high}
 use Rattle.masks.proofs.Visiting.{Visited, visited-all, lowest-in}
-use Rattle.geometry.specs.declared.Course.the-variants.{Straight}
-use Rattle.geometry.specs.Segment.{Point, Hit, BlockedAmong, Struck}
-use Rattle.geometry.specs.Test.{Decides, isHit, isBlocked, isBlockedAmong}
-use Rattle.geometry.specs.Polylines.{bendRow}
-use Rattle.geometry.specs.Courses.{bendBeside, courseOf, courseAmong}
+use Rattle.geometry.specs.Segment.{Struck}
 use Rattle.geometry.proofs.Segments.{hit-rise}
 use Rattle.geometry.proofs.Tests.{decides, not-so, so, decides-once, isHit-decides, hit-true}
 

@@ -1,11 +1,11 @@
 -- The layout by blocks is a placement, and how wide it is. Assumes nothing.
 use Rattle.counting.proofs.Prelude.{_≡_, refl, ap, _∙_, ⊎-elim, ℕ, zero, suc, _+_, _*_, _-_, _≤_, _<_, arith}
 use native.Mathlib.Nat.{mul-le-mul-left}
-use Rattle.counting.specs.Count.{sum}
+use Rattle.specification.specs.Count.{sum}
+use Rattle.specification.specs.Geometry.{Point, Widths, blockWidth, blockStart, ownColumn}
 use Rattle.counting.proofs.Truth.{lt-or-le}
 use Rattle.counting.proofs.Sums.{sum-more, sum-split}
-use Rattle.geometry.specs.Segment.{Point}
-use Rattle.geometry.specs.Placement.{Widths, Placement, blockWidth, blockStart, ownColumn}
+use Rattle.geometry.specs.Placement.{Placement}
 
 -- what holds of the lower of two numbers, of equal ones and of the higher
 pub lower-or-higher : {X : Type 0} (c d : ℕ) → (c < d → X) → (c ≡ d → X) → (d < c → X) → X

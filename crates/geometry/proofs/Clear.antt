@@ -2,9 +2,9 @@
 use Rattle.counting.proofs.Prelude.{_≡_, refl, sym, ap, _∙_, _≢_, _⊎_, inl, inr, ⊎-elim, List, [], _∷_, ℕ, _+_, _-_, _≤_, _<_, arith}
 use native.Mathlib.Decide.{ℕ-discrete}
 use Rattle.counting.proofs.Truth.{lt-or-le}
-use Rattle.geometry.specs.Segment.{Point, point, On, Meets, here, later, Blocked}
-use Rattle.geometry.specs.Placement.{Widths, Placement, trackAt}
-use Rattle.geometry.specs.Polylines.{Clear, straight, bendRow, bent, byTrack, Drawn, path, track, cross, bend-right, bend-left}
+use Rattle.specification.specs.Geometry.{Point, point, On, Meets, here, later, Blocked, Widths, trackAt, Clear, straight, bendRow, byTrack}
+use Rattle.geometry.specs.Placement.{Placement}
+use Rattle.geometry.specs.Polylines.{bent, Drawn, path, track, cross, bend-right, bend-left}
 use Rattle.geometry.proofs.Segments.{Between, column-between, on-swap, row-low, row-high, column-low, column-high, row-level, column-level, at-row, at-column}
 use Rattle.geometry.proofs.Blocks.{lower-or-higher}
 

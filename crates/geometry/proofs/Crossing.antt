@@ -1,11 +1,11 @@
 -- The course of a cross edge, and that it meets no vertex but its ends. Assumes nothing.
 use Rattle.counting.proofs.Prelude.{_≡_, sym, _∙_, subst, _≢_, ℕ, _+_, _-_, _≤_, _<_, arith, lt-ltb, le-ltb}
-use Rattle.geometry.specs.declared.Course.{Course}
-use Rattle.geometry.specs.declared.Course.the-variants.{Straight, Bent}
-use Rattle.geometry.specs.Segment.{Point, Blocked}
-use Rattle.geometry.specs.Placement.{Widths, Placement}
-use Rattle.geometry.specs.Polylines.{bendRow, bent, Drawn, cross, bend-right, bend-left}
-use Rattle.geometry.specs.Courses.{bendOffset, bendBeside, courseOf, polylineOf}
+use Rattle.specification.specs.declared.Course.{Course}
+use Rattle.specification.specs.declared.Course.the-variants.{Straight, Bent}
+use Rattle.specification.specs.Geometry.{Point, Blocked, Widths, bendRow, bendOffset, bendBeside, courseOf}
+use Rattle.geometry.specs.Placement.{Placement}
+use Rattle.geometry.specs.Polylines.{bent, Drawn, cross, bend-right, bend-left}
+use Rattle.geometry.specs.Courses.{polylineOf}
 use Rattle.geometry.proofs.Segments.{hit-rise}
 use Rattle.geometry.proofs.Tests.{isBlocked-true, isBlocked-false, blocked-or-free}
 use Rattle.geometry.proofs.Blocks.{lower-or-higher}

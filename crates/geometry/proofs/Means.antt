@@ -1,7 +1,7 @@
 -- One coordinate of a point of a segment: x is the mean of a and b with weights r and s. Assumes nothing.
 use Rattle.counting.proofs.Prelude.{_≡_, ap, ⊎-elim, ℕ, _+_, _*_, _≤_, _<_, arith}
 use native.Mathlib.Nat.{eq-zero-or-pos, le-antisymm, le-of-mul-le-mul-left, mul-le-mul-left}
-use Rattle.geometry.specs.Test.{left, right}
+use Rattle.specification.specs.Geometry.{left, right}
 
 cancel : (k m n : ℕ) → 0 < k → k * m ≡ k * n → m ≡ n
 cancel k m n h e = le-antisymm (le-of-mul-le-mul-left {m = m} {n = n} {k = k} (omega arith) h) (le-of-mul-le-mul-left {m = n} {n = m} {k = k} (omega arith) h)

@@ -2,8 +2,7 @@
 use Rattle.counting.proofs.Prelude.{_≡_, ap, _⊎_, inl, inr, ⊎-elim, ℕ, _+_, _-_, _≤_, _<_, arith}
 use native.Mathlib.Nat.{le-antisymm}
 use Rattle.counting.proofs.Truth.{lt-or-le}
-use Rattle.geometry.specs.Segment.{Point, On, Inside, Hit}
-use Rattle.geometry.specs.Test.{left, right}
+use Rattle.specification.specs.Geometry.{Point, On, Inside, Hit, left, right}
 use Rattle.geometry.proofs.Means.{mean-swap, mean-low, mean-high, mean-first, first-mean, mean-other, mean-products, products-mean, mean-height}
 
 pub point-eq : (p a : Point) → p .column ≡ a .column → p .row ≡ a .row → p ≡ a

@@ -2,8 +2,7 @@
 use Rattle.counting.proofs.Prelude.{_≡_, refl, sym, _∙_, ⊎-elim, Bool, true, false, true≢false, ℕ, _≤_, _<_, arith, eqb-true, eq-eqb, ltb-true, lt-ltb}
 use Rattle.counting.proofs.Truth.{and-intro, and-elim, true-or-false}
 use Rattle.counting.proofs.Somes.{some-found, some-which}
-use Rattle.geometry.specs.Segment.{Point, Hit, Blocked}
-use Rattle.geometry.specs.Test.{aligned, Decides, isHit, isBlocked}
+use Rattle.specification.specs.Geometry.{Point, Hit, Blocked, aligned, Decides, isHit, isBlocked}
 use Rattle.geometry.proofs.Segments.{on-products, products-on, between-inside, inside-low, inside-high}
 
 -- an answer that is true exactly where P holds

@@ -1,26 +1,7 @@
 -- Where vertices stand: what the theorem about polylines asks, and the layout by blocks, which gives it.
 use mathlib.Core.Path.{_≡_}
 use Prim.Native.Nat.{ℕ, _+_, _-_, _≤_, _<_}
-use Rattle.counting.specs.Count.{sum}
-use Rattle.geometry.specs.Segment.{Point}
-
--- The parts of each channel's block: how many tracks (document 01: side columns), and how many columns on either side of the
--- channel's own column are kept free for bends.
-pub record Widths : Type 0 where
-  pub tracks : ℕ → ℕ
-  pub leftGap : ℕ → ℕ
-  pub rightGap : ℕ → ℕ
-
--- Document 01's gaps.
-abbrev pub gapWidth : ℕ
-gapWidth = 1
-
-abbrev pub evenGaps : (ℕ → ℕ) → Widths
-evenGaps tracks = record { tracks = tracks; leftGap = λ c. gapWidth; rightGap = λ c. gapWidth }
-
--- Column of track j beside an own column x: left of the gap, leftwards.
-abbrev pub trackAt : ℕ → ℕ → ℕ → ℕ
-trackAt x gap j = x - (gap + 1) - j
+use Rattle.specification.specs.Geometry.{Point, Widths, trackAt}
 
 -- n vertices at their points, each in a channel at a position; `own c` is channel c's column.
 pub record Placement (n : ℕ) (at : ℕ → Point) (channel position own : ℕ → ℕ) (W : Widths) : Type 0 where
@@ -38,14 +19,3 @@ pub record Placement (n : ℕ) (at : ℕ → Point) (channel position own : ℕ 
   -- tracks hold no vertex, and with the gap they have room on the left
   pub tracks-free : (u v j : ℕ) → u < n → v < n → j < W .tracks (channel u) → own (channel v) ≡ trackAt (own (channel u)) (W .leftGap (channel u)) j → ⊥
   pub room : (v : ℕ) → v < n → W .tracks (channel v) + W .leftGap (channel v) ≤ own (channel v)
-
--- The layout: blocks from column 0, each with the channel's tracks, a gap, its own column, a gap.
-abbrev pub blockWidth : Widths → ℕ → ℕ
-blockWidth W c = W .tracks c + W .leftGap c + 1 + W .rightGap c
-
--- first column of channel c's block, and so the width of the first c blocks
-unfoldable pub blockStart : Widths → ℕ → ℕ
-blockStart W c = sum c (blockWidth W)
-
-unfoldable pub ownColumn : Widths → ℕ → ℕ
-ownColumn W c = blockStart W c + W .tracks c + W .leftGap c

@@ -3,27 +3,11 @@ use mathlib.Core.Path.{_≡_}
 use mathlib.Core.Logic.{_≢_}
 use mathlib.Core.List.{List, [], _∷_}
 use Prim.Native.Nat.{ℕ, _+_, _-_, _<_}
-use Rattle.geometry.specs.Segment.{Point, point, Meets, Blocked}
-use Rattle.geometry.specs.Placement.{Widths, trackAt}
-
--- No vertex below n meets the polyline of the edge u → v but u and v.
-pub record Clear (n : ℕ) (at : ℕ → Point) (u v : ℕ) (polyline : List Point) : Type 0 where
-  pub clear : (w : ℕ) → w < n → w ≢ u → w ≢ v → Meets polyline (at w) → ⊥
-
-abbrev pub straight : Point → Point → List Point
-straight a b = a ∷ b ∷ []
-
--- the row below the head's, in which an edge to it bends
-abbrev pub bendRow : Point → ℕ
-bendRow b = b .row - 1
+use Rattle.specification.specs.Geometry.{Point, point, Blocked, Widths, trackAt, straight, bendRow, byTrack}
 
 -- by one point in column x (document 01: bend)
 abbrev pub bent : Point → Point → ℕ → List Point
 bent a b x = a ∷ point x (bendRow b) ∷ b ∷ []
-
--- level to column x, up, level
-abbrev pub byTrack : Point → Point → ℕ → List Point
-byTrack a b x = a ∷ point x (a .row) ∷ point x (b .row) ∷ b ∷ []
 
 -- The edge u → v is drawn by this polyline: between neighbours of a channel (document 01: spine arrow), along a track of the
 -- channel (side arrow), or across channels, straight or bent in the gap beside the tail's channel.

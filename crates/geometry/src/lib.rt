@@ -4,16 +4,10 @@ ghost use Prim.Native.Nat.{_+_, _*_, _≤_, _<_};
 ghost use lib.Dec.{eqb, leb};
 ghost use lib.ListN.{length};
 ghost use Rattle.masks.specs.Pairs.{inPair};
-ghost use Rattle.geometry.specs.Segment.{point, pointOf, vertexCount, Hit, BlockedAmong, Struck};
+ghost use Rattle.specification.specs.Geometry.{point, Hit, BlockedAmong, aligned, Decides, bendBeside, courseAmong};
+ghost use Rattle.geometry.specs.Segment.{pointOf, vertexCount, Struck};
 ghost use Rattle.geometry.specs.Signed.{Diff};
-ghost use Rattle.geometry.specs.Test.{aligned, Decides};
-ghost use Rattle.geometry.specs.Courses.{bendBeside, courseAmong};
-
-// How a cross edge runs: straight, or with one bend at a column and a row.
-pub enum Course {
-    Straight,
-    Bent(u16, u8),
-}
+use specification::Course;
 
 // Columns from a vertex to the bends beside it.
 const BEND_OFFSET: u16 = 1;

@@ -1,13 +1,12 @@
 -- The candidates of a cross edge, as two masks. Assumes nothing.
 use Rattle.counting.proofs.Prelude.{_≡_, refl, ap, ap₂, _∙_, _⊎_, inl, inr, ⊎-elim, not, _&&_, List, ℕ, _+_, _-_, _*_, _^_, _<_, min, max, arith, eqb, getD, lt-ltb, le-ltb}
 use Rattle.counting.proofs.Truth.{lt-or-le, two-cases}
-use Rattle.masks.specs.Sets.{at}
+use Rattle.specification.specs.Sets.{at}
+use Rattle.specification.specs.Geometry.{Point, courseAmong}
 use Rattle.masks.specs.Pairs.{inPair}
 use Rattle.masks.proofs.Bits.{without}
 use Rattle.masks.proofs.Tables.{at-lt}
 use Rattle.masks.proofs.Pairing.{pair-and, pair-without, pair-at}
-use Rattle.geometry.specs.Segment.{Point}
-use Rattle.geometry.specs.Courses.{courseAmong}
 use Rattle.geometry.proofs.Among.{pair-past, among-same}
 use Rattle.kinds.specs.Kinds.{strictly?, candidate?, between}
 

@@ -3,14 +3,14 @@ use Rattle.counting.proofs.Prelude.{_≡_, refl, sym, ap, _∙_, _↔_, ⊎-eli
 use native.Mathlib.Decide.{ℕ-discrete}
 use Rattle.counting.specs.Quads.{quad}
 use Rattle.counting.proofs.Truth.{and-intro, two-cases}
-use Rattle.masks.specs.Sets.{at}
+use Rattle.specification.specs.Sets.{at}
+use Rattle.specification.specs.Geometry.{Hit, Widths, ownColumn}
+use Rattle.specification.specs.Chart.{crossing}
 use Rattle.masks.proofs.Tables.{at-lt}
-use Rattle.geometry.specs.Segment.{pointOf, vertexCount, Hit}
-use Rattle.geometry.specs.Placement.{Widths, ownColumn}
+use Rattle.geometry.specs.Segment.{pointOf, vertexCount}
 use Rattle.geometry.proofs.Segments.{inside-low, inside-high, column-past, column-back}
 use Rattle.geometry.proofs.Blocks.{lower-or-higher, own-apart}
 use Rattle.geometry.proofs.Among.{among-enough}
-use Rattle.outline.specs.Chart.{crossing}
 use Rattle.prefixes.specs.Prefixes.{Prefixes}
 use Rattle.kinds.specs.Kinds.{kindIn, strictly?, candidate?, kindAmong}
 use Rattle.kinds.proofs.Coding.{across, within, between-across}

@@ -1,13 +1,13 @@
 -- Kinds by their numbers, and the cases of a kind by tables. Assumes nothing.
 use Rattle.counting.proofs.Prelude.{_≡_, refl, sym, ap, _∙_, true, false, List, ℕ, _+_, min, eqb, eq-eqb, ne-eqb}
 use Rattle.counting.specs.Quads.{quad}
-use Rattle.bundles.specs.Sides.{adjacent?}
+use Rattle.specification.specs.Bundles.{adjacent?}
 use Rattle.geometry.specs.Segment.{pointOf, vertexCount}
-use Rattle.geometry.specs.Courses.{courseOf, courseAmong}
-use Rattle.outline.specs.Chart.{crossing}
-use Rattle.outline.specs.declared.Kind.{Kind}
-use Rattle.outline.specs.declared.Kind.the-variants.{Path, PathTransitive, Straight, Bent}
-use Rattle.geometry.specs.declared.Course.{Course}
+use Rattle.specification.specs.Geometry.{courseOf, courseAmong}
+use Rattle.specification.specs.Chart.{crossing}
+use Rattle.specification.specs.declared.Kind.{Kind}
+use Rattle.specification.specs.declared.Kind.the-variants.{Path, PathTransitive, Straight, Bent}
+use Rattle.specification.specs.declared.Course.{Course}
 use Rattle.kinds.specs.declared.Code.{Code}
 use Rattle.kinds.specs.Codes.{codeOf, kindOf}
 use Rattle.kinds.specs.Kinds.{kindIn, candidate?, kindAmong}

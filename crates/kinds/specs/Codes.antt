@@ -1,9 +1,9 @@
 -- A kind by its number: 0 spine, 1 side with its bundle, 2 straight, 3 bent with its bend's column and row. Assumes nothing.
 use Prim.Native.Nat.{ℕ}
 use lib.Dec.{eqb}
-use Rattle.counting.specs.Count.{choose}
-use Rattle.outline.specs.declared.Kind.{Kind}
-use Rattle.outline.specs.declared.Kind.the-variants.{Path, PathTransitive, Straight, Bent}
+use Rattle.specification.specs.Count.{choose}
+use Rattle.specification.specs.declared.Kind.{Kind}
+use Rattle.specification.specs.declared.Kind.the-variants.{Path, PathTransitive, Straight, Bent}
 use Rattle.kinds.specs.declared.Code.{Code}
 
 unfoldable pub codeOf : Kind → Code

@@ -5,14 +5,14 @@ use Prim.Native.Nat.{ℕ, _+_, _-_, _^_, min, max}
 use lib.Bits.{bitAnd}
 use lib.Dec.{eqb, ltb}
 use Rattle.counting.specs.Quads.{quad}
-use Rattle.counting.specs.Count.{choose}
-use Rattle.masks.specs.Sets.{at}
+use Rattle.specification.specs.Count.{choose}
+use Rattle.specification.specs.Sets.{at}
 use Rattle.geometry.specs.Segment.{pointOf, vertexCount}
-use Rattle.geometry.specs.Courses.{courseOf, courseAmong}
-use Rattle.bundles.specs.Sides.{adjacent?}
-use Rattle.outline.specs.Chart.{crossing}
-use Rattle.outline.specs.declared.Kind.{Kind}
-use Rattle.outline.specs.declared.Kind.the-variants.{Path, PathTransitive}
+use Rattle.specification.specs.Geometry.{courseOf, courseAmong}
+use Rattle.specification.specs.Bundles.{adjacent?}
+use Rattle.specification.specs.Chart.{crossing}
+use Rattle.specification.specs.declared.Kind.{Kind}
+use Rattle.specification.specs.declared.Kind.the-variants.{Path, PathTransitive}
 
 -- the kind of the edge from u, in channel c at position p, to v, in channel d at position q; `into` is the bundle of the edges into v, and
 -- `outOf` that of those out of u. Of four numbers a vertex in `places` the third is its row

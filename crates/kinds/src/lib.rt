@@ -5,12 +5,12 @@ ghost use Prim.Native.Nat.{_<_, min, max};
 ghost use lib.ListN.{getD};
 ghost use Rattle.counting.specs.Quads.{quad};
 ghost use Rattle.geometry.specs.Segment.{pointOf, vertexCount};
-ghost use Rattle.geometry.specs.Courses.{courseAmong};
-ghost use Rattle.bundles.specs.Sides.{adjacent?};
-ghost use Rattle.outline.specs.Chart.{crossing};
+ghost use Rattle.specification.specs.Geometry.{courseAmong};
+ghost use Rattle.specification.specs.Bundles.{adjacent?};
+ghost use Rattle.specification.specs.Chart.{crossing};
 ghost use Rattle.kinds.specs.Codes.{codeOf};
 ghost use Rattle.kinds.specs.Kinds.{between, candidate?, kindAmong};
-use geometry::Course;
+use specification::Course;
 
 // The number of a kind, with its bundle or its bend.
 pub struct Code {

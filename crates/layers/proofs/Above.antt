@@ -2,9 +2,9 @@
 use Rattle.counting.proofs.Prelude.{_≡_, refl, sym, ap, _∙_, ⊎-elim, Bool, true, false, false≢true, ℕ, zero, suc, _≤_, _<_, max, arith}
 use native.Mathlib.Nat.{not-suc-le-zero}
 use native.Mathlib.Decide.{ℕ-discrete}
-use Rattle.counting.specs.Count.{choose}
+use Rattle.specification.specs.Count.{choose}
 use Rattle.counting.proofs.Truth.{lt-or-le}
-use Rattle.layers.specs.Rows.{above}
+use Rattle.specification.specs.Rows.{above}
 
 -- the term of one number
 term-true : (b : Bool) (x : ℕ) → b ≡ true → choose b (λ _. suc x) (λ _. 0) ≡ suc x

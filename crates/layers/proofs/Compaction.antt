@@ -1,10 +1,10 @@
 -- Theorems on rows: in a graph without cycles they obey document 01's sentence and are fewer than the vertices, and no rows that rise
 -- along every edge are lower. Assumes nothing.
 use Rattle.counting.proofs.Prelude.{_≡_, sym, ap, inr, ⊎-elim, Bool, true, ℕ, zero, suc, _≤_, _<_, zero-le, arith}
-use Rattle.counting.specs.Count.{indicator, count}
+use Rattle.specification.specs.Count.{indicator, count}
 use Rattle.counting.proofs.Truth.{indicator-le, true-or-false}
 use Rattle.counting.proofs.Sums.{sum-bound, sum-smaller}
-use Rattle.layers.specs.Rows.{above, rowWithin, row, rowsUsed}
+use Rattle.specification.specs.Rows.{above, rowWithin, row, rowsUsed}
 use Rattle.layers.proofs.Above.{above-each, above-le}
 use Rattle.layers.proofs.Depth.{settled}
 

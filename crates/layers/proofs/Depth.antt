@@ -1,7 +1,7 @@
 -- How the row of a vertex depends on how far back edges are followed. Assumes nothing.
 use Rattle.counting.proofs.Prelude.{_≡_, _⊎_, inl, inr, ⊎-elim, Bool, ℕ, zero, suc, _≤_, _<_, arith}
 use native.Mathlib.Nat.{not-suc-le-zero}
-use Rattle.layers.specs.Rows.{rowWithin}
+use Rattle.specification.specs.Rows.{rowWithin}
 use Rattle.layers.proofs.Above.{above-each, above-le, above-ext}
 
 module _ (E : ℕ → ℕ → Bool) (n : ℕ) where

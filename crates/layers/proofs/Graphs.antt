@@ -1,15 +1,13 @@
 -- The theorems of `Compaction` for the edges of a graph without cycles. Assumes nothing.
 use Rattle.counting.proofs.Prelude.{_≡_, sym, _∙_, false, true≢false, List, ℕ, _≤_, _<_, arith}
-use Rattle.counting.specs.Count.{some}
+use Rattle.specification.specs.Count.{some}
+use Rattle.specification.specs.Graph.{edge?, refusal, reachable?}
+use Rattle.specification.specs.Graph.Reaches.{one}
+use Rattle.specification.specs.Rows.{above, row}
 use Rattle.counting.proofs.Somes.{some-found}
-use Rattle.reach.specs.Graph.{edge?}
-use Rattle.reach.specs.Graph.Reaches.{one}
-use Rattle.reach.specs.Refusal.{refusal}
-use Rattle.reach.specs.Closure.{reachable?}
 use Rattle.reach.proofs.Routes.{reaches-trans}
 use Rattle.reach.proofs.Decide.{edge-decided, reachable-decided}
 use Rattle.reach.proofs.Refusing.{accepted-within}
-use Rattle.layers.specs.Rows.{above, row}
 use Rattle.layers.proofs.Compaction.{Order, rows-below, rows-rule}
 
 module _ (n : ℕ) (tails heads : List ℕ) (accepted : refusal n tails heads ≡ 0) (acyclic : some 128 (λ u. reachable? n tails heads u u) ≡ false) where

@@ -1,7 +1,7 @@
 -- Rows go by the edges between the n vertices alone. Assumes nothing.
 use Rattle.counting.proofs.Prelude.{_≡_, refl, ap, ap₂, _∙_, Bool, true, ℕ, zero, suc, _<_, max, arith}
-use Rattle.counting.specs.Count.{choose}
-use Rattle.layers.specs.Rows.{above, rowWithin, mostRows, row, rowsUsed}
+use Rattle.specification.specs.Count.{choose}
+use Rattle.specification.specs.Rows.{above, rowWithin, mostRows, row, rowsUsed}
 use Rattle.layers.proofs.Above.{above-ext}
 
 above-tests : (n : ℕ) (s t : ℕ → Bool) (f : ℕ → ℕ) → ((u : ℕ) → u < n → s u ≡ t u) → above n s f ≡ above n t f

@@ -46,7 +46,7 @@ use denote.Triple.Spec.{Meets, tripleOf}
 use denote.Triple.Clauses.{Ended, Clauses, ensured, closing, lasts}
 use denote.Triple.Walked.{says, needs, Stays, stay-slice, stay-dropped, walkOf, AllGo, Goes, Silent, goes-slice, goes-dropped, Walks, ends-at, walked, walk-meets}
 use denote.Exit.{yes, Last}
-use Rattle.counting.specs.Count.{indicator, sum, count}
+use Rattle.specification.specs.Count.{indicator, sum, count}
 use Rattle.counting.proofs.Classes.{count-le}
 use Rattle.lists.specs.Filled.{Filled}
 use Rattle.lists.proofs.Fill.{Source}

@@ -6,10 +6,10 @@ use lib.Arith.{digits-mod, digits-div, lt-one, le-zero}
 use lib.Pow.{pow-mono, shr-shr, shl-exact, shr-lt}
 use lib.Bits.{bitOr, bitAnd, or-shr, or-step, and-shr, and-step, shifted-half, shifted-even}
 use lib.Count.{ones, ones-step, ones-le, trailingZeros, under}
-use Rattle.counting.specs.Count.{sum}
+use Rattle.specification.specs.Count.{sum}
 use Rattle.counting.proofs.Sums.{sum-ext, sum-front}
 use Rattle.counting.proofs.Truth.{two-cases}
-use Rattle.masks.specs.Bits.{bit}
+use Rattle.specification.specs.Sets.{bit}
 
 pub bit-lt : (x k : ℕ) → bit x k < 2
 unfolding bit

@@ -6,7 +6,7 @@ use lib.Arith.{bin-ind, lt-one}
 use lib.Bits.{bitAnd, and-step, and-le-r}
 use lib.Count.{trailingZeros, under}
 use lib.Pow.{shr-lt}
-use Rattle.masks.specs.Bits.{bit}
+use Rattle.specification.specs.Sets.{bit}
 use Rattle.masks.proofs.Bits.{bit-zero, bit-suc}
 
 -- x without its lowest set bit

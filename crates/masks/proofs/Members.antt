@@ -3,8 +3,7 @@ use Rattle.counting.proofs.Prelude.{_≡_, ap, _∙_, _≢_, true, false, List,
 use native.Mathlib.Decide.{ℕ-discrete, decLt}
 use lib.Bits.{bitOr}
 use lib.Seq.{getD-set-same, getD-set-other, set-out}
-use Rattle.masks.specs.Bits.{bit}
-use Rattle.masks.specs.Sets.{maskOf, member, member?, at, inserted}
+use Rattle.specification.specs.Sets.{bit, maskOf, member, member?, at, inserted}
 use Rattle.masks.proofs.Bits.{with-here, with-other}
 use Rattle.masks.proofs.Tables.{at-zeros}
 

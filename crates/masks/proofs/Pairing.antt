@@ -2,8 +2,7 @@
 use Rattle.counting.proofs.Prelude.{_≡_, sym, ap, ap₂, _∙_, _⊎_, inl, inr, ⊎-elim, List, [], _∷_, ℕ, _+_, _-_, _*_, _/_, _%_, _^_, _<_, max, min, arith, getD}
 use lib.Bits.{bitOr, bitAnd}
 use Rattle.counting.proofs.Truth.{lt-or-le}
-use Rattle.masks.specs.Bits.{bit}
-use Rattle.masks.specs.Sets.{member, at}
+use Rattle.specification.specs.Sets.{bit, member, at}
 use Rattle.masks.proofs.Bits.{bit-lt, bit-or, bit-and, bit-not, bit-of-zero, without}
 use Rattle.masks.specs.Pairs.{inPair}
 

@@ -5,10 +5,9 @@ use borrow.Author.Count.{below-more}
 use lib.Bits.{bitOr, bitAnd, and-mask}
 use lib.Count.{ones}
 use lib.Seq.{getD-set-same, getD-set-other}
-use Rattle.counting.specs.Count.{sum}
+use Rattle.specification.specs.Count.{sum}
+use Rattle.specification.specs.Sets.{bit, maskOf, member, member?, inserted, United}
 use Rattle.counting.proofs.Sums.{sum-ext, sum-split}
-use Rattle.masks.specs.Bits.{bit}
-use Rattle.masks.specs.Sets.{maskOf, member, member?, inserted, United}
 use Rattle.masks.proofs.Bits.{bit-lt, bit-or, without, bit-without, ones-sum}
 
 pub member-lt : (s : List ℕ) (first v : ℕ) → member s first v < 2

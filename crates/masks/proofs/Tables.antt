@@ -7,8 +7,7 @@ use lib.Bits.{bitOr}
 use lib.Seq.{getD-set-same, getD-set-other}
 use Rattle.counting.proofs.Truth.{lt-or-le}
 use Rattle.counting.proofs.Zeros.{zeros}
-use Rattle.masks.specs.Bits.{bit}
-use Rattle.masks.specs.Sets.{maskOf, member, at, inserted, United}
+use Rattle.specification.specs.Sets.{bit, maskOf, member, at, inserted, United}
 use Rattle.masks.proofs.Bits.{bit-of-zero, with-here, with-other}
 use Rattle.masks.proofs.Sets.{member-lt, united-member}
 

@@ -4,7 +4,7 @@ use native.Mathlib.Nat.{lt-of-le-of-lt}
 use native.Mathlib.Decide.{ℕ-discrete}
 use lib.Bits.{and-le-l}
 use lib.Count.{trailingZeros}
-use Rattle.masks.specs.Bits.{bit}
+use Rattle.specification.specs.Sets.{bit}
 use Rattle.masks.proofs.Bits.{bit-of-zero, trailing-at, trailing-lt}
 use Rattle.masks.proofs.Clearing.{clear, cleared-at, cleared-other, clear-less}
 

@@ -1,7 +1,7 @@
 -- A set of 128 vertices in two masks that stand by themselves. Assumes nothing.
 use mathlib.Core.List.{[], _∷_}
 use Prim.Native.Nat.{ℕ}
-use Rattle.masks.specs.Sets.{member}
+use Rattle.specification.specs.Sets.{member}
 
 -- 1 where v is in the set of the two masks a, for the vertices below 64, and b
 unfoldable pub inPair : ℕ → ℕ → ℕ → ℕ

@@ -5,7 +5,7 @@ ghost use mathlib.Core.Bool.{true, false};
 ghost use Prim.Native.Nat.{_+_, _/_, _<_};
 ghost use lib.Dec.{leb, ltb};
 ghost use lib.ListN.{length, getD};
-ghost use Rattle.masks.specs.Sets.{member?, inserted, United};
+ghost use Rattle.specification.specs.Sets.{member?, inserted, United};
 
 // Mask i of the set.
 pub fn mask_at(masks: &[u64], first: usize, i: usize) -> u64

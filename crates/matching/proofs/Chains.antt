@@ -2,10 +2,9 @@
 use Rattle.counting.proofs.Prelude.{_≡_, refl, sym, ap, _∙_, subst, _≢_, Bool, true, false, ℕ, zero, suc, _+_, _≤_, _<_, arith, length, getD, length-append, eq-eqb, ne-eqb}
 use mathlib.Core.List.{List, [], _∷_, _++_, flatten}
 use native.Mathlib.Decide.{ℕ-discrete, decLt}
-use Rattle.counting.specs.Count.{indicator, sum, count}
-use Rattle.matching.specs.Search.{most, nobody}
-use Rattle.matching.specs.Lists.{times}
-use Rattle.matching.specs.Chains.{successorFrom, successor, chain, begins, begun}
+use Rattle.specification.specs.Count.{indicator, sum, count}
+use Rattle.specification.specs.Planning.{most, nobody, successorFrom, successor, chain, begins, begun}
+use Rattle.specification.specs.Channels.{times}
 use Rattle.matching.proofs.Lists.{Within, times-here, times-other, times-none, times-snoc, length-bound}
 
 module _ (n : ℕ) (P : List ℕ) where

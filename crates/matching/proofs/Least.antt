@@ -1,12 +1,11 @@
 -- No division of the vertices, in which of two vertices of a part one leads to the other, has fewer parts than vertices are without predecessor. Assumes nothing.
 use Rattle.counting.proofs.Prelude.{_≡_, refl, sym, ap, _∙_, subst, ⊎-elim, Bool, true, false, true≢false, not, _&&_, List, ℕ, _+_, _≤_, _<_, arith, eqb, leb, getD, lt-ltb, leb-true, le-leb, lt-leb, eqb-true, eqb-false, not-true}
 use native.Mathlib.Decide.{ℕ-discrete, decLt}
-use Rattle.counting.specs.Count.{indicator, sum, count}
+use Rattle.specification.specs.Count.{indicator, sum, count}
+use Rattle.specification.specs.Planning.{most, nobody, begins}
 use Rattle.counting.proofs.Truth.{and-elim}
 use Rattle.counting.proofs.Sums.{sum-ext, sum-mono}
 use Rattle.counting.proofs.Classes.{sum-add, sum-one, sum-swap, one-of, count-positive, at-most-one, count-classes, indicator-and-le}
-use Rattle.matching.specs.Search.{most, nobody}
-use Rattle.matching.specs.Chains.{begins}
 use Rattle.matching.specs.Division.{Division}
 use Rattle.matching.proofs.Kept.{heldBy}
 use Rattle.matching.proofs.Closed.{Into}

@@ -4,7 +4,8 @@ use mathlib.Core.List.{List, [], _∷_, flatten}
 use native.Mathlib.Nat.{not-suc-le-zero}
 use native.Mathlib.Decide.{ℕ-discrete, decLt}
 use Rattle.counting.proofs.Truth.{and-elim, lt-or-le}
-use Rattle.matching.specs.Lists.{times, has, placeFrom, linked, channelFrom, channelOf, positionOf, every, full, allLinked}
+use Rattle.specification.specs.Channels.{times, has, placeFrom, linked, channelFrom, channelOf, positionOf, every, allLinked}
+use Rattle.matching.specs.Lists.{full}
 use Rattle.matching.specs.Division.{Order, Covers, Channelled}
 use Rattle.matching.proofs.Lists.{Within, within-head, within-tail, within-has, times-other, times-none, times-append, has-true, has-false, times-here, times-has, times-hasnt}
 

@@ -3,13 +3,13 @@
 use Rattle.counting.proofs.Prelude.{_≡_, refl, sym, ap, _∙_, subst, _≢_, Bool, true, false, List, _∷_, flatten, ℕ, zero, suc, _+_, _≤_, _<_, arith, eqb, ltb, length, getD, eq-eqb, ne-eqb, lt-ltb}
 use native.Mathlib.Nat.{not-suc-le-zero}
 use native.Mathlib.Decide.{ℕ-discrete, decLt}
-use Rattle.counting.specs.Count.{indicator, sum, count}
+use Rattle.specification.specs.Count.{indicator, sum, count}
+use Rattle.specification.specs.Planning.{most, nobody, matching, successorFrom, successor, chain, begun, planned}
+use Rattle.specification.specs.Channels.{times, linked, every}
 use Rattle.counting.proofs.Truth.{indicator-le, and-intro}
 use Rattle.counting.proofs.Sums.{sum-mono}
 use Rattle.counting.proofs.Classes.{sum-add, sum-two, count-le, one-below, indicator-mono}
-use Rattle.matching.specs.Search.{most, nobody, matching}
-use Rattle.matching.specs.Lists.{times, linked, full, every}
-use Rattle.matching.specs.Chains.{successorFrom, successor, chain, begun, planned}
+use Rattle.matching.specs.Lists.{full}
 use Rattle.matching.specs.Division.{Order, Division, Covers}
 use Rattle.matching.proofs.Kept.{heldBy}
 use Rattle.matching.proofs.Asked.{Asked, asked-matching}

@@ -1,7 +1,6 @@
 -- The channels planned depend on the relation only between the n vertices: no search asks of any other. Assumes nothing.
 use Rattle.counting.proofs.Prelude.{_≡_, refl, sym, ap, _∙_, Bool, not, _&&_, List, ℕ, zero, suc, _+_, _≤_, _<_, arith, length, replicate, length-replicate, getD-replicate, eq-eqb, ne-eqb}
-use Rattle.matching.specs.Search.{State, most, nobody, seen, fresh, scan, augment, asks, matching, candidate, predecessorOf, marked, taken}
-use Rattle.matching.specs.Chains.{begun, planned}
+use Rattle.specification.specs.Planning.{State, most, nobody, seen, fresh, scan, augment, asks, matching, candidate, predecessorOf, marked, taken, begun, planned}
 use Rattle.matching.proofs.Scan.{scan-ind, scan-end, scan-pass, scan-free, scan-moved, scan-stuck}
 use Rattle.matching.proofs.Kept.{Sized, Kept, sized-marked, sized-kept, kept-augment}
 use Rattle.matching.proofs.Sound.{Sound, sound-augment}

@@ -1,23 +1,21 @@
 -- The bundles and tracks of a sound graph: every path-transitive edge is in a bundle of its channel, and how many of both there are.
 -- Assumes nothing.
 use Rattle.counting.proofs.Prelude.{_≡_, refl, ap, Bool, true, false, not, List, ℕ, _*_, _≤_, _<_, min, arith, eqb, length, eq-eqb, eqb-true, lt-ltb}
-use Rattle.counting.specs.Count.{count}
+use Rattle.specification.specs.Count.{count}
+use Rattle.specification.specs.Graph.{edge?}
+use Rattle.specification.specs.Channels.{channelOf, positionOf}
+use Rattle.specification.specs.Checks.{Content, Sound}
+use Rattle.specification.specs.Bundles.{Bundle, bundleOf, adjacent?, apart?, side?}
+use Rattle.specification.specs.Tracks.{differentIn}
+use Rattle.specification.specs.Chart.{rowOf, rowCount, Plan, channelsOf, tracked, bundled, planOf, bundleIn, trackIn, tracksIn}
 use Rattle.counting.proofs.Truth.{and-intro}
-use Rattle.reach.specs.Graph.{edge?}
-use Rattle.matching.specs.Lists.{channelOf, positionOf}
-use Rattle.record.specs.Checks.{Content}
-use Rattle.record.specs.Sound.{Sound}
-use Rattle.bundles.specs.Bundles.{Bundle, bundleOf}
-use Rattle.bundles.specs.Sides.{adjacent?, apart?, side?}
 use Rattle.bundles.specs.Promise.{numberFrom}
 use Rattle.bundles.proofs.Marks.{side-within}
 use Rattle.bundles.proofs.Covering as covering
 use Rattle.bundles.proofs.Theorems as theorems
-use Rattle.tracks.specs.Tracks.{differentIn}
 use Rattle.tracks.specs.Order.{Intervals, Packed}
 use Rattle.tracks.proofs.Different.{top-each, top-least, different-count}
 use Rattle.tracks.proofs.Least.{tracks-packed}
-use Rattle.outline.specs.Chart.{rowOf, rowCount, Plan, channelsOf, tracked, bundled, planOf, bundleIn, trackIn, tracksIn}
 use Rattle.outline.proofs.Rows.{row-counted, rows-few}
 use Rattle.outline.proofs.Channels.{sizeOf, vertices-small, channel-below}
 

@@ -1,21 +1,19 @@
 -- The channels of a sound graph, given or planned: they cover the vertices and divide them, and planned ones are the fewest. Assumes nothing.
 use Rattle.counting.proofs.Prelude.{_≡_, refl, sym, ap, _∙_, ⊎-elim, Bool, true, false, true≢false, _&&_, List, ℕ, _≤_, _<_, arith, eqb, length, eq-eqb}
-use Rattle.counting.specs.Count.{indicator, choose, sum, count, some}
+use Rattle.specification.specs.Count.{indicator, choose, sum, count, some}
+use Rattle.specification.specs.Graph.{strange?}
+use Rattle.specification.specs.Channels.{channelOf, positionOf, linesOf, verticesOf, unknown?}
+use Rattle.specification.specs.Planning.{planned}
+use Rattle.specification.specs.Checks.{Content, edgesOf, size?, stranger?, double?, ring?, repeated?, lacking?, unled?, looseChecks, laterChecks, firstOf, refusalOf, Sound}
+use Rattle.specification.specs.Chart.{leads?, channelsOf}
 use Rattle.counting.proofs.Truth.{true-or-false, or-neither}
 use Rattle.counting.proofs.Classes.{sum-one, sum-term, count-classes}
-use Rattle.reach.specs.Refusal.{strange?}
-use Rattle.matching.specs.Lists.{channelOf, positionOf}
-use Rattle.matching.specs.Chains.{planned}
 use Rattle.matching.specs.Division.{Division, Covers, Channelled}
 use Rattle.matching.proofs.Ordered.{channelled}
 use Rattle.matching.proofs.Planned.{planned-covers, planned-least}
-use Rattle.channels.specs.Given.{linesOf, verticesOf, unknown?}
 use Rattle.channels.proofs.Checks.{given-covers}
-use Rattle.record.specs.Checks.{Content, edgesOf, size?, stranger?, double?, ring?, repeated?, lacking?, unled?, looseChecks, laterChecks, firstOf, refusalOf}
-use Rattle.record.specs.Sound.{Sound}
 use Rattle.record.proofs.Soundness.{sound-accepted}
 use Rattle.geometry.proofs.Blocks.{channels-bound}
-use Rattle.outline.specs.Chart.{leads?, channelsOf}
 use Rattle.outline.proofs.Leading.{leads-order}
 
 -- ---- the checks that given channels pass

@@ -1,26 +1,22 @@
 -- No edge of a sound graph's chart is drawn through a vertex. Assumes nothing.
 use Rattle.counting.proofs.Prelude.{_≡_, refl, sym, _≢_, ⊎-elim, true, false, List, ℕ, _+_, _<_, arith, eqb, eqb-true, eqb-false}
 use Rattle.counting.proofs.Truth.{true-or-false, or-elim}
-use Rattle.reach.specs.Graph.{edge?}
-use Rattle.matching.specs.Lists.{channelOf, positionOf}
-use Rattle.record.specs.Checks.{Content, edgesOf}
-use Rattle.record.specs.Sound.{Sound}
-use Rattle.bundles.specs.Bundles.{bundleOf}
-use Rattle.bundles.specs.Sides.{adjacent?}
-use Rattle.geometry.specs.Segment.{Point}
-use Rattle.geometry.specs.Placement.{Placement, ownColumn}
-use Rattle.geometry.specs.Polylines.{Clear, Drawn, path, track}
-use Rattle.geometry.specs.Courses.{courseOf}
+use Rattle.specification.specs.Graph.{edge?}
+use Rattle.specification.specs.Channels.{channelOf, positionOf}
+use Rattle.specification.specs.Checks.{Content, edgesOf, Sound}
+use Rattle.specification.specs.Bundles.{bundleOf, adjacent?}
+use Rattle.specification.specs.Geometry.{Point, ownColumn, Clear, courseOf}
+use Rattle.specification.specs.declared.Course.{Course}
+use Rattle.specification.specs.declared.Kind.{Kind}
+use Rattle.specification.specs.declared.Kind.the-variants.{Path, PathTransitive}
+use Rattle.specification.specs.Chart.{rowOf, tailOf, headOf, Plan, channelsOf, tracked, bundled, planOf, widths, columnIn, placeOf, crossing, kindBetween, vertexEntry, edgeEntry, bundleEntry, polylineOf}
+use Rattle.specification.specs.declared.Course.the-variants as course
+use Rattle.geometry.specs.Placement.{Placement}
+use Rattle.geometry.specs.Polylines.{Drawn, path, track}
 use Rattle.geometry.specs.Courses as courses
-use Rattle.geometry.specs.declared.Course.{Course}
-use Rattle.geometry.specs.declared.Course.the-variants as course
 use Rattle.geometry.proofs.Blocks.{blocks-placement}
 use Rattle.geometry.proofs.Clear.{drawn-clear}
 use Rattle.geometry.proofs.Crossing.{course-drawn}
-use Rattle.outline.specs.declared.Kind.{Kind}
-use Rattle.outline.specs.declared.Kind.the-variants.{Path, PathTransitive}
-use Rattle.outline.specs.Chart.{rowOf, tailOf, headOf, Plan, channelsOf, tracked, bundled, planOf, widths, columnIn, placeOf, crossing, kindBetween, vertexEntry, edgeEntry, bundleEntry}
-use Rattle.outline.specs.Lines.{polylineOf}
 use Rattle.outline.proofs.Leading.{edge-there}
 use Rattle.outline.proofs.Channels.{channels-divide}
 use Rattle.outline.proofs.Rows.{leads-rises, edge-rises}

@@ -1,12 +1,11 @@
 -- The columns of a sound graph stand on document 01's page. Assumes nothing.
 use Rattle.counting.proofs.Prelude.{_≡_, refl, List, ℕ, _+_, _≤_, _<_, arith, length}
-use Rattle.matching.specs.Lists.{channelOf}
-use Rattle.record.specs.Checks.{Content}
-use Rattle.record.specs.Sound.{Sound}
-use Rattle.geometry.specs.Placement.{ownColumn, gapWidth}
+use Rattle.specification.specs.Channels.{channelOf}
+use Rattle.specification.specs.Checks.{Content, Sound}
+use Rattle.specification.specs.Geometry.{ownColumn, gapWidth}
+use Rattle.specification.specs.Chart.{Plan, channelsOf, tracked, bundled, planOf, widths, columnIn, widthOf}
+use Rattle.specification.specs.Page as page
 use Rattle.geometry.proofs.Blocks.{column-bound, width-bound}
-use Rattle.page.specs.Page as page
-use Rattle.outline.specs.Chart.{Plan, channelsOf, tracked, bundled, planOf, widths, columnIn, widthOf}
 use Rattle.outline.proofs.Channels.{sizeOf, sizes-sum, size-positive, channels-few, channel-below, vertices-small}
 use Rattle.outline.proofs.Bundling.{tracks-few}
 

@@ -1,12 +1,11 @@
 -- The kind of an edge, by its ends' channels and positions. Assumes nothing.
 use Rattle.counting.proofs.Prelude.{_≡_, _≢_, true, false, List, ℕ, eq-eqb, ne-eqb}
-use Rattle.matching.specs.Lists.{channelOf, positionOf}
-use Rattle.record.specs.Checks.{Content}
-use Rattle.bundles.specs.Bundles.{bundleOf}
-use Rattle.bundles.specs.Sides.{adjacent?}
-use Rattle.geometry.specs.Courses.{courseOf}
-use Rattle.outline.specs.declared.Kind.the-variants.{Path, PathTransitive}
-use Rattle.outline.specs.Chart.{Plan, channelsOf, tracked, bundled, planOf, placeOf, crossing, kindBetween}
+use Rattle.specification.specs.Channels.{channelOf, positionOf}
+use Rattle.specification.specs.Checks.{Content}
+use Rattle.specification.specs.Bundles.{bundleOf, adjacent?}
+use Rattle.specification.specs.Geometry.{courseOf}
+use Rattle.specification.specs.declared.Kind.the-variants.{Path, PathTransitive}
+use Rattle.specification.specs.Chart.{Plan, channelsOf, tracked, bundled, planOf, placeOf, crossing, kindBetween}
 
 module _ (c : Content) (u v : ℕ) where
   abbrev ls : List (List ℕ)

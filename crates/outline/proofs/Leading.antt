@@ -1,15 +1,13 @@
 -- What leads where in a sound graph: the computed relation is reachability, and a strict order on the vertices. Assumes nothing.
 use Rattle.counting.proofs.Prelude.{_≡_, refl, subst, _↔_, true, ℕ, _<_}
 use Rattle.matching.specs.Division.{Order}
-use Rattle.reach.specs.Graph.{Edge, edge?}
-use Rattle.reach.specs.Graph.Reaches.{one}
-use Rattle.reach.specs.Refusal.{refusal}
+use Rattle.specification.specs.Graph.{Edge, edge?, refusal}
+use Rattle.specification.specs.Graph.Reaches.{one}
+use Rattle.specification.specs.Checks.{Content, edgesOf, Leads, Sound}
+use Rattle.specification.specs.Chart.{leads?, tailOf, headOf}
 use Rattle.reach.proofs.Routes.{reaches-trans, begins-below, ends-below}
 use Rattle.reach.proofs.Decide.{edge-decided, reachable-decided}
-use Rattle.record.specs.Checks.{Content, edgesOf}
-use Rattle.record.specs.Sound.{Leads, Sound}
 use Rattle.record.proofs.Soundness.{sound-edges}
-use Rattle.outline.specs.Chart.{leads?, tailOf, headOf}
 
 module _ (c : Content) (s : Sound c) where
   abbrev n : ℕ

@@ -1,15 +1,15 @@
 -- The marks of a sound graph's edges: transitive ones are those with a longer route, and the reduced ones are the fewest links with the
 -- graph's reachability. Assumes nothing.
 use Rattle.counting.proofs.Prelude.{_≡_, _↔_, Bool, true, false, ℕ, _≤_, _<_}
-use Rattle.reach.specs.Graph.{Reaches, Longer, Edge}
+use Rattle.specification.specs.Graph.{Reaches, Longer, Edge}
+use Rattle.specification.specs.Checks.{Content, edgesOf, Leads, Sound}
+use Rattle.specification.specs.Marks.{linkCount, reducedLink}
+use Rattle.specification.specs.Chart.{leads?, tailOf, headOf, transitiveEdge?, reducedEdges}
 use Rattle.reach.proofs.Decide.{edge-decided}
-use Rattle.record.specs.Checks.{Content, edgesOf}
-use Rattle.record.specs.Sound.{Leads, Sound}
-use Rattle.reduction.specs.Reduction.{Reduced, linkCount, SameClosure, reducedLink, Fewest, Dag}
+use Rattle.reduction.specs.Reduction.{Reduced, SameClosure, Fewest, Dag}
 use Rattle.reduction.proofs.Transitive.{transitive-longer, reduced-reaches}
 use Rattle.reduction.proofs.Links.{links-least, reduced-link-count, reduced-fewest}
 use Rattle.reduction.proofs.Graphs.{reachable-dag}
-use Rattle.outline.specs.Chart.{leads?, tailOf, headOf, transitiveEdge?, reducedEdges}
 use Rattle.outline.proofs.Leading.{graph-accepted, edge-there}
 
 module _ (c : Content) (s : Sound c) where

@@ -1,21 +1,17 @@
 -- Every polyline of a sound graph's chart stands on document 01's page. Assumes nothing.
 use Rattle.counting.proofs.Prelude.{_≡_, refl, _≢_, ⊎-elim, List, ℕ, _<_, arith, eqb, eqb-true, eqb-false}
 use Rattle.counting.proofs.Truth.{true-or-false}
-use Rattle.matching.specs.Lists.{channelOf, positionOf}
-use Rattle.record.specs.Checks.{Content, edgesOf}
-use Rattle.record.specs.Sound.{Sound}
-use Rattle.bundles.specs.Bundles.{bundleOf}
-use Rattle.bundles.specs.Sides.{adjacent?}
-use Rattle.geometry.specs.Placement.{gapWidth, trackAt}
-use Rattle.geometry.specs.Courses.{courseOf}
-use Rattle.geometry.specs.declared.Course.{Course}
-use Rattle.geometry.specs.declared.Course.the-variants as course
+use Rattle.specification.specs.Channels.{channelOf, positionOf}
+use Rattle.specification.specs.Checks.{Content, edgesOf, Sound}
+use Rattle.specification.specs.Bundles.{bundleOf, adjacent?}
+use Rattle.specification.specs.Geometry.{gapWidth, trackAt, courseOf}
+use Rattle.specification.specs.declared.Course.{Course}
+use Rattle.specification.specs.declared.Kind.{Kind}
+use Rattle.specification.specs.declared.Kind.the-variants.{Path, PathTransitive, Bent}
+use Rattle.specification.specs.Chart.{tailOf, headOf, Plan, channelsOf, planOf, columnIn, placeOf, crossing, kindBetween, vertexEntry, edgeEntry, bundleEntry, polylineOf, OnPage, none, more}
+use Rattle.specification.specs.declared.Course.the-variants as course
+use Rattle.specification.specs.Page as page
 use Rattle.geometry.proofs.Crossing.{course-within}
-use Rattle.outline.specs.declared.Kind.{Kind}
-use Rattle.outline.specs.declared.Kind.the-variants.{Path, PathTransitive, Bent}
-use Rattle.page.specs.Page as page
-use Rattle.outline.specs.Chart.{tailOf, headOf, Plan, channelsOf, planOf, columnIn, placeOf, crossing, kindBetween, vertexEntry, edgeEntry, bundleEntry}
-use Rattle.outline.specs.Lines.{polylineOf, OnPage, none, more}
 use Rattle.outline.proofs.Rows.{row-128}
 use Rattle.outline.proofs.Columns.{column-below}
 use Rattle.outline.proofs.EdgeKinds.{kind-path, kind-side, kind-cross}

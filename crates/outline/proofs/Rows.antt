@@ -1,14 +1,13 @@
 -- The rows of a sound graph: they rise along every edge, are fewer than the vertices, and no other rows that rise are lower. Assumes nothing.
 use Rattle.counting.proofs.Prelude.{_≡_, refl, ap, Bool, true, ℕ, _≤_, _<_, arith}
-use Rattle.reach.specs.Graph.{Edge, edge?}
-use Rattle.reach.specs.Graph.Reaches.{one, more}
+use Rattle.specification.specs.Graph.{Edge, edge?}
+use Rattle.specification.specs.Graph.Reaches.{one, more}
+use Rattle.specification.specs.Checks.{Content, edgesOf, Leads, Sound}
+use Rattle.specification.specs.Rows.{above}
+use Rattle.specification.specs.Chart.{leads?, tailOf, headOf, rowOf, rowCount}
 use Rattle.reach.proofs.Decide.{edge-decided}
-use Rattle.record.specs.Checks.{Content, edgesOf}
-use Rattle.record.specs.Sound.{Leads, Sound}
-use Rattle.layers.specs.Rows.{above}
 use Rattle.layers.proofs.Above.{above-each, above-le}
 use Rattle.layers.proofs.Compaction.{Order, used-least, rows-below, rows-rule}
-use Rattle.outline.specs.Chart.{leads?, tailOf, headOf, rowOf, rowCount}
 use Rattle.outline.proofs.Leading.{edge-ends, leads-decided, leads-order, edge-there, edge-leads}
 
 module _ (c : Content) (s : Sound c) where

@@ -3,10 +3,10 @@ use Rattle.counting.proofs.Prelude.{_≡_, refl, sym, _∙_, Bool, true, false,
 use native.Mathlib.Nat.{lt-of-lt-of-le, mul-lt-mul-of-pos-right}
 use lib.Ieee.Exact.{HasValue}
 use Rattle.counting.proofs.Truth.{or-neither}
-use Rattle.page.specs.declared.Cell.{Cell}
-use Rattle.page.specs.declared.Polyline.{Polyline}
-use Rattle.page.specs.declared.Polyline.the-variants.{OffPage}
-use Rattle.page.specs.Page.{columns, rows, columnPitch, rowPitch, perPoint, toPoints, pointOf, At, AllAt, offPage, anyOff, accepted, refused, answerOf, Answers}
+use Rattle.specification.specs.declared.Cell.{Cell}
+use Rattle.specification.specs.declared.Polyline.{Polyline}
+use Rattle.specification.specs.declared.Polyline.the-variants.{OffPage}
+use Rattle.specification.specs.Page.{columns, rows, columnPitch, rowPitch, perPoint, toPoints, pointOf, At, AllAt, offPage, anyOff, accepted, refused, answerOf, Answers}
 use Rattle.page.proofs.Exact.{exact}
 
 -- the test in numbers

@@ -8,7 +8,7 @@ use lib.Ieee.Exact.{HasValue, round-exact}
 use lib.Ieee.Scale.{round-same}
 use lib.Ieee.Back.{round-whole}
 use lib.Ieee.Fits.{down-pos}
-use Rattle.page.specs.Page.{perPoint, toPoints}
+use Rattle.specification.specs.Page.{perPoint, toPoints}
 
 -- 2 ^ 147 of the smallest f32 are a quarter
 pub exact : (n : ℕ) → n < 2 ^ 24 → HasValue (toPoints n) false n perPoint

@@ -1,10 +1,10 @@
 -- The points tell the case: no two polylines have the same answer.
 use mathlib.Core.Path.{_≡_, refl, sym, ap, _∙_}
 use mathlib.Core.List.{List, [], _∷_}
-use Rattle.page.specs.declared.Point.{Point}
-use Rattle.page.specs.declared.Polyline.{Polyline}
-use Rattle.page.specs.declared.Polyline.the-variants.{Straight, Bent, Side, OffPage}
-use Rattle.page.specs.Page.{Answer, answerOf}
+use Rattle.specification.specs.declared.Point.{Point}
+use Rattle.specification.specs.declared.Polyline.{Polyline}
+use Rattle.specification.specs.declared.Polyline.the-variants.{Straight, Bent, Side, OffPage}
+use Rattle.specification.specs.Page.{Answer, answerOf}
 
 -- the polyline through some points
 abbrev pub through : List Point → Polyline

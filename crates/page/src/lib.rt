@@ -3,7 +3,10 @@ ghost use mathlib.Core.Path.{_≡_};
 ghost use mathlib.Core.Bool.{false};
 ghost use mathlib.Core.List.{[], _∷_};
 ghost use Prim.Native.Nat.{_<_, _^_};
-ghost use Rattle.page.specs.Page.{toPoints, pointOf, offPage, Answers};
+ghost use Rattle.specification.specs.Page.{toPoints, pointOf, offPage, Answers};
+use specification::Cell;
+use specification::Point;
+use specification::Polyline;
 
 // How many columns and rows the page has, and how far apart they are in quarter points.
 const COLUMNS: u32 = 640;
@@ -16,26 +19,6 @@ const ROW_PITCH: u32 = 113;
 
 // A quarter point, in points.
 const QUARTER: f32 = 0.25;
-
-// A whole column and row, on the page or not.
-pub struct Cell {
-    pub column: u32,
-    pub row: u32,
-}
-
-// Points across and points up (document 01: page place).
-pub struct Point {
-    pub x: f32,
-    pub y: f32,
-}
-
-// A line through two, three or four points, or that one of them would be off the page (document 01: page stroke).
-pub enum Polyline {
-    Straight(Point, Point),
-    Bent(Point, Point, Point),
-    Side(Point, Point, Point, Point),
-    OffPage,
-}
 
 // n quarter points, in points: below 2 ^ 24 the cast loses nothing, and the product is exact.
 fn quarters(n: u32) -> f32

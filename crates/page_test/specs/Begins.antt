@@ -2,7 +2,7 @@
 use mathlib.Core.Bool.{Bool, false, _&&_}
 use mathlib.Core.List.{List, [], _∷_}
 use lib.Ieee.{Float, eq}
-use Rattle.page.specs.declared.Point.{Point}
+use Rattle.specification.specs.declared.Point.{Point}
 
 abbrev pub beginsAt : List Point → Float → Float → Bool
 beginsAt [] x y = false

@@ -1,10 +1,10 @@
 // Draws a few polylines and checks what comes back, from what `page` promises.
 ghost use mathlib.Core.Path.{_≡_};
-ghost use Rattle.page.specs.Page.{answerOf};
+ghost use Rattle.specification.specs.Page.{answerOf};
 ghost use Rattle.page_test.specs.Begins.{beginsAt};
-use page::Cell;
-use page::Point;
-use page::Polyline;
+use specification::Cell;
+use specification::Point;
+use specification::Polyline;
 
 // The number that document 01 gives to a polyline: 10 off the page, else 0.
 fn number(r: Polyline) -> u32

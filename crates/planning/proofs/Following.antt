@@ -3,9 +3,8 @@ use Rattle.counting.proofs.Prelude.{_≡_, refl, sym, ap, _∙_, subst, _≢_, 
 use native.Mathlib.Decide.{ℕ-discrete}
 use native.Mathlib.Numerals.{add-one}
 use lib.Seq.{getD-set-same, getD-set-other}
-use Rattle.matching.specs.Search.{nobody, matching}
-use Rattle.matching.specs.Lists.{times}
-use Rattle.matching.specs.Chains.{successorFrom, successor, chain, begun, planned}
+use Rattle.specification.specs.Planning.{nobody, matching, successorFrom, successor, chain, begun, planned}
+use Rattle.specification.specs.Channels.{times}
 use Rattle.matching.proofs.Lists.{flatten-snoc, times-append, times-here, length-bound}
 use Rattle.matching.proofs.Chains.{chain-end, chain-more, begun-yes, begun-none, begun-no, successor-here, successor-on, successor-end, successor-fact, begun-once, begun-within, begun-room}
 use Rattle.search.specs.Table.{leadsIn}

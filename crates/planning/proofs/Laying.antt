@@ -3,7 +3,7 @@ use Rattle.counting.proofs.Prelude.{_≡_, refl, sym, ap, _∙_, _≢_, List, [
 use native.Mathlib.Decide.{ℕ-discrete}
 use Rattle.counting.specs.Quads.{quad}
 use Rattle.counting.proofs.Quads.{quad-same, quad-other}
-use Rattle.matching.specs.Lists.{times, channelFrom, channelOf, positionOf}
+use Rattle.specification.specs.Channels.{times, channelFrom, channelOf, positionOf}
 use Rattle.matching.proofs.Lists.{channel-kept, position-kept, channel-new, position-new, channel-opened, position-opened}
 use Rattle.planning.specs.Arranged.{Arranged, Kept}
 use Rattle.planning.specs.Laid.{placed}

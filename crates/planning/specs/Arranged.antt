@@ -4,7 +4,7 @@ use mathlib.Core.List.{List}
 use Prim.Native.Nat.{ℕ, _≤_, _<_}
 use lib.ListN.{length}
 use Rattle.counting.specs.Quads.{quad}
-use Rattle.matching.specs.Lists.{channelOf, positionOf}
+use Rattle.specification.specs.Channels.{channelOf, positionOf}
 
 -- p has the channels ls, so many, of n vertices: each vertex's channel and position. Of a vertex in no channel both numbers are 0
 pub record Arranged (n : ℕ) (ls : List (List ℕ)) (count : ℕ) (p : List ℕ) : Type 0 where

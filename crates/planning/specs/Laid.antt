@@ -4,9 +4,9 @@ use mathlib.Core.List.{List, [], _∷_, _++_, flatten}
 use Prim.Native.Nat.{ℕ, zero, suc, _+_, _*_, _≤_, _<_}
 use lib.Dec.{ltb}
 use lib.ListN.{length, getD, set}
-use Rattle.counting.specs.Count.{choose}
-use Rattle.matching.specs.Lists.{times}
-use Rattle.matching.specs.Chains.{successor}
+use Rattle.specification.specs.Count.{choose}
+use Rattle.specification.specs.Channels.{times}
+use Rattle.specification.specs.Planning.{successor}
 use Rattle.planning.specs.Arranged.{Arranged, Kept}
 
 -- v gets channel c and position q

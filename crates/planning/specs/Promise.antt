@@ -4,7 +4,7 @@ use mathlib.Core.Logic.{_≢_}
 use mathlib.Core.List.{List}
 use Prim.Native.Nat.{ℕ, _*_, _≤_, _<_, min}
 use lib.ListN.{length}
-use Rattle.matching.specs.Chains.{planned}
+use Rattle.specification.specs.Planning.{planned}
 use Rattle.search.specs.Table.{leadsIn}
 use Rattle.planning.specs.Arranged.{Arranged, Kept}
 use Rattle.planning.specs.declared.Channels.{Channels}

@@ -3,7 +3,7 @@ ghost use mathlib.Core.Path.{_≡_};
 ghost use mathlib.Core.List.{[]};
 ghost use Prim.Native.Nat.{suc, _*_, _≤_, _<_, min, _/_};
 ghost use lib.ListN.{length};
-ghost use Rattle.matching.specs.Chains.{begun};
+ghost use Rattle.specification.specs.Planning.{begun};
 ghost use Rattle.planning.specs.Arranged.{Arranged, Kept};
 ghost use Rattle.planning.specs.Laid.{Successors, followed, Ready, Behind};
 ghost use Rattle.planning.specs.Promise.{Chained};

@@ -5,7 +5,7 @@ use native.Mathlib.Decide.{ℕ-discrete}
 use lib.Bits.{bitOr}
 use lib.Seq.{set-out}
 use Rattle.counting.proofs.Truth.{lt-or-le}
-use Rattle.masks.specs.Sets.{at, inserted, United}
+use Rattle.specification.specs.Sets.{at, inserted, United}
 use Rattle.masks.proofs.Sets.{united-none, united-more, inserted-length}
 use Rattle.masks.proofs.Tables.{at-lt, at-zeros, put-law, Absorbed, absorbed-law, Row, pair-row, row-member}
 use Rattle.prefixes.specs.Prefixes.{Prefixes, Stage}

@@ -4,7 +4,7 @@ use mathlib.Core.Logic.{_↔_}
 use mathlib.Core.List.{List}
 use Prim.Native.Nat.{ℕ, _+_, _-_, _*_, _/_, _≤_, _<_, min}
 use lib.ListN.{length}
-use Rattle.masks.specs.Sets.{at}
+use Rattle.specification.specs.Sets.{at}
 
 -- the last set that is filled: number `top`, at most 128, or the last for which so many masks, two a set, have room; 0 where none is
 abbrev pub lastSet : ℕ → ℕ → ℕ

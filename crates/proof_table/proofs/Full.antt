@@ -1,21 +1,16 @@
 -- A record of 128 vertices and 4,096 edges passes every check. Assumes nothing.
 use Rattle.counting.proofs.Prelude.{_≡_, refl, ap, _∙_, true, false, _&&_, List, _∷_, ℕ, zero, suc, _+_, _*_, _/_, _%_, _≤_, _<_, arith, eqb, leb, length, getD, take, drop, eqb-true, lt-leb}
 use lib.Seq.{take-length}
-use Rattle.counting.specs.Count.{some}
+use Rattle.specification.specs.Count.{some}
+use Rattle.specification.specs.Graph.{Reaches, one, more, edgeCount, Edge, outsized?, strange?, reachable?, alternate, tailsOf, headsOf, alike?, duplicate?}
+use Rattle.specification.specs.declared.Fields.{Fields}
+use Rattle.specification.specs.declared.Layout.the-variants.{Good}
+use Rattle.specification.specs.Layout.{sizeAt, fieldAt, afterEdges, withEdges, withVertices, layoutOf}
+use Rattle.specification.specs.Checks.{edgesOf, size?, stranger?, double?, ring?, repeated?, lacking?, unled?, looseChecks, laterChecks, firstOf, refusalOf, contentOf, recordRefusal, said}
 use Rattle.counting.proofs.Somes.{some-none}
 use Rattle.counting.proofs.Truth.{and-elim}
 use Rattle.counting.proofs.Falsity.{not-true, neither}
-use Rattle.reach.specs.Graph.{Reaches, one, more, edgeCount, Edge}
-use Rattle.reach.specs.Refusal.{outsized?, strange?}
-use Rattle.reach.specs.Closure.{reachable?}
 use Rattle.reach.proofs.Decide.{reachable-decided}
-use Rattle.fields.specs.declared.Fields.{Fields}
-use Rattle.fields.specs.declared.Layout.the-variants.{Good}
-use Rattle.fields.specs.Layout.{sizeAt, fieldAt, afterEdges, withEdges, withVertices, layoutOf}
-use Rattle.reach.specs.Ends.{alternate, tailsOf, headsOf}
-use Rattle.reach.specs.Ends.{alike?, duplicate?}
-use Rattle.record.specs.Checks.{edgesOf, size?, stranger?, double?, ring?, repeated?, lacking?, unled?, looseChecks, laterChecks, firstOf, refusalOf}
-use Rattle.record.specs.Reading.{contentOf, recordRefusal, said}
 use Rattle.proof_table.specs.Table.{values, pairs, fullTail, fullHead, full, fullRecord}
 
 -- ---- its lists

@@ -1,14 +1,13 @@
 -- What the bits of a graph's table say: the tests and the counts by them. Assumes nothing.
 use Rattle.counting.proofs.Prelude.{_≡_, ap, _∙_, ⊎-elim, _↔_, List, ℕ, _<_, eqb, eq-eqb, eqb-true}
 use native.Mathlib.Nat.{lt-of-lt-of-le}
-use Rattle.counting.specs.Count.{indicator, sum, count}
+use Rattle.specification.specs.Count.{indicator, sum, count}
+use Rattle.specification.specs.Sets.{at}
+use Rattle.specification.specs.Graph.{Reaches, Longer, Edge, refusal, Reachable, reachable?}
 use Rattle.counting.proofs.Truth.{same-truth, two-cases}
 use Rattle.counting.proofs.Sums.{sum-ext}
-use Rattle.masks.specs.Sets.{at}
 use Rattle.masks.proofs.Tables.{at-lt}
-use Rattle.reach.specs.Graph.{Reaches, Longer, Edge}
-use Rattle.reach.specs.Refusal.{refusal}
-use Rattle.reach.specs.Closure.{Reachable, reachable?, Composed}
+use Rattle.reach.specs.Closure.{Composed}
 use Rattle.reach.proofs.Routes.{longer-between, ends-below}
 use Rattle.reach.proofs.Marking.{head-below}
 use Rattle.reach.proofs.Decide.{reachable-decided}

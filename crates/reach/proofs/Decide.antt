@@ -3,10 +3,8 @@ use Rattle.counting.proofs.Prelude.{_≡_, subst, inl, inr, ⊎-elim, _↔_, Bo
 use native.Mathlib.Nat.{not-suc-le-zero}
 use native.Mathlib.Numerals.{add-one}
 use Rattle.counting.proofs.Truth.{and-intro, and-elim, or-left, or-right, or-elim}
-use Rattle.reach.specs.Graph.{Reaches, edgeCount, Edge, edge?, reaches?}
-use Rattle.reach.specs.Graph.Reaches.{one}
-use Rattle.reach.specs.Refusal.{refusal}
-use Rattle.reach.specs.Closure.{Reachable, reachable?}
+use Rattle.specification.specs.Graph.{Reaches, edgeCount, Edge, edge?, reaches?, refusal, Reachable, reachable?}
+use Rattle.specification.specs.Graph.Reaches.{one}
 use Rattle.reach.proofs.Warshall.{Stage, stage-step, complete}
 use Rattle.reach.proofs.Marking.{tail-below}
 use Rattle.reach.proofs.Refusing.{accepted-within}

@@ -1,8 +1,7 @@
 -- The edges of bytes, two an edge. Assumes nothing.
 use Rattle.counting.proofs.Prelude.{_≡_, refl, ap, _∙_, List, [], _∷_, ℕ, zero, suc, _+_, _*_, _/_, arith, length, getD, drop, length-drop}
 use lib.Seq.{getD-drop}
-use Rattle.reach.specs.Graph.{edgeCount}
-use Rattle.reach.specs.Ends.{alternate, tailsOf, headsOf}
+use Rattle.specification.specs.Graph.{edgeCount, alternate, tailsOf, headsOf}
 
 pub alternate-at : (s : List ℕ) (i : ℕ) → getD (alternate s) i 0 ≡ getD s (2 * i) 0
 unfolding alternate

@@ -1,7 +1,7 @@
 -- One edge more: what is reached then, and that no cycle is made where the head does not reach the tail. Assumes nothing.
 use Rattle.counting.proofs.Prelude.{_≡_, sym, _∙_, subst, _⊎_, inl, inr, ⊎-elim, _↔_, ℕ}
-use Rattle.reach.specs.Graph.{Reaches}
-use Rattle.reach.specs.Graph.Reaches.{one, more}
+use Rattle.specification.specs.Graph.{Reaches}
+use Rattle.specification.specs.Graph.Reaches.{one, more}
 use Rattle.reach.proofs.Routes.{reaches-trans}
 
 -- more edges reach more

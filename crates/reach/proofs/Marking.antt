@@ -2,9 +2,9 @@
 use Rattle.counting.proofs.Prelude.{_≡_, sym, ap₂, _∙_, subst, _≢_, List, ℕ, _+_, _*_, _<_, arith, getD}
 use native.Mathlib.Decide.{ℕ-discrete}
 use borrow.Author.Count.{below-more}
-use Rattle.masks.specs.Sets.{at}
+use Rattle.specification.specs.Sets.{at}
 use Rattle.masks.proofs.Tables.{Put}
-use Rattle.reach.specs.Graph.{edgeCount, Edge}
+use Rattle.specification.specs.Graph.{edgeCount, Edge}
 use Rattle.reach.specs.Steps.{Marked, Within}
 
 module _ (w : ℕ) (tails heads : List ℕ) where

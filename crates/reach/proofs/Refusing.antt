@@ -1,10 +1,9 @@
 -- What it means that a graph is not refused. Assumes nothing.
 use Rattle.counting.proofs.Prelude.{_≡_, refl, sym, _∙_, ⊎-elim, Bool, true, false, true≢false, _||_, List, ℕ, _≤_, _<_, arith, eqb, leb, ltb, getD, leb-false, ltb-false}
-use Rattle.counting.specs.Count.{some}
+use Rattle.specification.specs.Count.{some}
+use Rattle.specification.specs.Graph.{edgeCount, outsized?, strange?, verdict, refusal}
 use Rattle.counting.proofs.Truth.{true-or-false, or-neither}
 use Rattle.counting.proofs.Somes.{some-found}
-use Rattle.reach.specs.Graph.{edgeCount}
-use Rattle.reach.specs.Refusal.{outsized?, strange?, verdict, refusal}
 use Rattle.reach.specs.Steps.{Within}
 
 verdict-none : (a b : Bool) → verdict a b ≡ 0 → (a ≡ false) × (b ≡ false)

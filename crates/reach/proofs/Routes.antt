@@ -1,7 +1,7 @@
 -- Laws of routes: joined routes, routes of two edges or more, and where they begin and end. Assumes nothing.
 use Rattle.counting.proofs.Prelude.{_↔_, ℕ, _<_}
-use Rattle.reach.specs.Graph.{Reaches, Longer}
-use Rattle.reach.specs.Graph.Reaches.{one, more}
+use Rattle.specification.specs.Graph.{Reaches, Longer}
+use Rattle.specification.specs.Graph.Reaches.{one, more}
 
 -- one route after another
 pub reaches-trans : {E : ℕ → ℕ → Type 0} {u v w : ℕ} → Reaches E u v → Reaches E v w → Reaches E u w

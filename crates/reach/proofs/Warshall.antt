@@ -1,8 +1,8 @@
 -- Warshall's closure over relations: a step through each vertex in turn closes the edges. Assumes nothing.
 use Rattle.counting.proofs.Prelude.{_⊎_, ⊎-elim, ℕ, _+_, _<_}
 use borrow.Author.Count.{below-more}
-use Rattle.reach.specs.Graph.{Reaches}
-use Rattle.reach.specs.Graph.Reaches.{one, more}
+use Rattle.specification.specs.Graph.{Reaches}
+use Rattle.specification.specs.Graph.Reaches.{one, more}
 use Rattle.reach.proofs.Routes.{reaches-trans, begins-below}
 
 -- R is closed through j

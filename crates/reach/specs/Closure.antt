@@ -1,26 +1,11 @@
 -- The tables of a graph: its edges, what reaches what, and longer routes. Assumes nothing.
 use mathlib.Core.Path.{_≡_}
 use mathlib.Core.Logic.{_↔_}
-use mathlib.Core.Bool.{Bool, _&&_}
 use mathlib.Core.List.{List}
 use Prim.Native.Nat.{ℕ, _<_}
-use lib.Dec.{eqb}
-use Rattle.counting.specs.Count.{count}
-use Rattle.masks.specs.Sets.{at}
-use Rattle.reach.specs.Graph.{Reaches, Edge, edge?, reaches?}
-use Rattle.reach.specs.Refusal.{refusal}
-
--- u reaches v in a graph that is not refused; in one that is, nothing reaches anything
-abbrev pub Reachable : ℕ → List ℕ → List ℕ → ℕ → ℕ → Type 0
-Reachable n tails heads u v = (refusal n tails heads ≡ 0) × Reaches (Edge tails heads) u v
-
--- there is an edge from u to v in a graph that is not refused
-abbrev pub Adjacent : ℕ → List ℕ → List ℕ → ℕ → ℕ → Type 0
-Adjacent n tails heads u v = (refusal n tails heads ≡ 0) × Edge tails heads u v
-
--- reachability, computed
-unfoldable pub reachable? : ℕ → List ℕ → List ℕ → ℕ → ℕ → Bool
-reachable? n tails heads u v = eqb (refusal n tails heads) 0 && reaches? (edge? tails heads) n u v
+use Rattle.specification.specs.Count.{count}
+use Rattle.specification.specs.Sets.{at}
+use Rattle.specification.specs.Graph.{Reachable, Adjacent, reachable?}
 
 -- two tables and a number a vertex
 pub record Reachability : Type 0 where

@@ -3,7 +3,7 @@ use mathlib.Core.Path.{_≡_}
 use mathlib.Core.List.{List}
 use Prim.Native.Nat.{ℕ, _*_, _<_}
 use lib.ListN.{getD}
-use Rattle.masks.specs.Sets.{at}
+use Rattle.specification.specs.Sets.{at}
 
 -- t has the bits of the first i edges, and no other
 pub record Marked (w : ℕ) (tails heads : List ℕ) (i : ℕ) (t : List ℕ) : Type 0 where

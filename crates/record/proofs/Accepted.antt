@@ -1,7 +1,6 @@
 -- What an accepted record says passes the checks. Assumes nothing.
 use Rattle.counting.proofs.Prelude.{_≡_, sym, subst, List, ℕ}
-use Rattle.record.specs.Checks.{Content, refusalOf}
-use Rattle.record.specs.Reading.{contentOf, recordRefusal, said}
+use Rattle.specification.specs.Checks.{Content, refusalOf, contentOf, recordRefusal, said}
 use Rattle.record.proofs.Readings.{accepted-says}
 use Rattle.record.proofs.Soundness.{record-sound, sound-accepted}
 

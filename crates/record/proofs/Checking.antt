@@ -1,23 +1,21 @@
 -- What the checks of a graph hand over, by what the layers below promise. Assumes nothing.
 use Rattle.counting.proofs.Prelude.{_≡_, refl, sym, ap, _∙_, subst, _≢_, Bool, true, false, _&&_, List, ℕ, zero, suc, _*_, _≤_, _<_, min, arith, leb, length}
-use Rattle.counting.specs.Count.{choose}
+use Rattle.specification.specs.Count.{choose}
+use Rattle.specification.specs.Graph.{outsized?, verdict, reachable?, tailsOf, headsOf}
+use Rattle.specification.specs.Channels.{verticesOf, unknown?}
+use Rattle.specification.specs.Checks.{content, refusalOf}
+use Rattle.specification.specs.Graph as edges
 use Rattle.counting.specs.Quads.{quad}
-use Rattle.reach.specs.Refusal as edges
-use Rattle.reach.specs.Refusal.{outsized?, verdict}
-use Rattle.reach.specs.Closure.{reachable?}
-use Rattle.reach.specs.Ends.{tailsOf, headsOf}
 use Rattle.reach.proofs.Refusing.{accepted-within}
 use Rattle.reach.proofs.Closures.{same-test}
 use Rattle.descent.specs.Promise.{Sized, edgesRefusal, Descended, Descends}
 use Rattle.descent.specs.declared.Descent.{Descent}
 use Rattle.search.specs.Table.{leadsIn}
-use Rattle.channels.specs.Given.{verticesOf, unknown?}
 use Rattle.channels.specs.Promise as planner
 use Rattle.channels.specs.Promise.{Answers}
 use Rattle.planning.specs.declared.Channels.{Channels}
 use Rattle.channels.proofs.Answers.{sized, plan-taken}
 use Rattle.record.specs.declared.checks.Checked.{Checked}
-use Rattle.record.specs.Checks.{content, refusalOf}
 use Rattle.record.specs.Checked.{uncheckedBy, channelsRefusal, channelsBy, Checks}
 use Rattle.record.proofs.Judging.{refused-edges, edges-accepted, bare-refusal, given-refusal, first-high}
 

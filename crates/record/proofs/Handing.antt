@@ -1,17 +1,16 @@
 -- What reading hands over, by what the checks of the record's parts say. Assumes nothing.
 use Rattle.counting.proofs.Prelude.{_≡_, refl, sym, ap, _∙_, subst, _≢_, _↔_, List, ℕ, _+_, _-_, _*_, _<_, arith, replicate, take, drop}
-use Rattle.masks.specs.Sets.{at}
-use Rattle.reach.specs.Closure.{Reachable}
-use Rattle.reach.specs.Ends.{tailsOf, headsOf}
+use Rattle.specification.specs.Sets.{at}
+use Rattle.specification.specs.Graph.{Reachable, tailsOf, headsOf}
+use Rattle.specification.specs.declared.Fields.{Fields}
+use Rattle.specification.specs.declared.Layout.the-variants.{Good}
+use Rattle.specification.specs.Layout.{layoutOf}
+use Rattle.specification.specs.Checks.{Content, refusalOf, contentOf}
 use Rattle.descent.specs.Promise.{Sized}
-use Rattle.fields.specs.declared.Fields.{Fields}
-use Rattle.fields.specs.declared.Layout.the-variants.{Good}
 use Rattle.record.specs.declared.checks.Checked.{Checked}
 use Rattle.record.specs.declared.reading.Reading.{Reading}
-use Rattle.fields.specs.Layout.{layoutOf}
-use Rattle.record.specs.Checks.{Content, refusalOf}
 use Rattle.record.specs.Checked.{Checks}
-use Rattle.record.specs.Reading.{contentOf, unreadBy, Reads}
+use Rattle.record.specs.Reading.{unreadBy, Reads}
 use Rattle.record.proofs.Readings.{good-refusal, parts-content, unread-reads, read-reads}
 
 -- arrays of the largest size have room for every graph

@@ -1,17 +1,14 @@
 -- The checks one after the other: by the refusal of the edges alone, and then by the given channels. Assumes nothing.
 use Rattle.counting.proofs.Prelude.{_≡_, refl, sym, ap, _∙_, _≢_, Bool, true, false, _&&_, _||_, List, ℕ, _≤_, _<_, arith, eqb, leb, le-leb, lt-leb}
-use Rattle.counting.specs.Count.{choose, some}
-use Rattle.reach.specs.Graph.{edgeCount}
-use Rattle.reach.specs.Refusal as edges
-use Rattle.reach.specs.Refusal.{outsized?, strange?, verdict}
-use Rattle.reach.specs.Closure.{reachable?}
-use Rattle.reach.specs.Ends.{duplicate?}
+use Rattle.specification.specs.Count.{choose, some}
+use Rattle.specification.specs.Graph.{edgeCount, outsized?, strange?, verdict, reachable?, duplicate?}
+use Rattle.specification.specs.Channels.{linesOf, verticesOf, unknown?, repeats?, lacks?, broken?}
+use Rattle.specification.specs.Checks.{Content, content, size?, stranger?, double?, ring?, repeated?, lacking?, unled?, looseChecks, laterChecks, firstOf, refusalOf}
+use Rattle.specification.specs.Graph as edges
 use Rattle.descent.specs.Promise.{edgesRefusal}
-use Rattle.channels.specs.Given.{linesOf, verticesOf, unknown?, repeats?, lacks?, broken?}
 use Rattle.channels.specs.Promise as planner
 use Rattle.channels.specs.Promise.{givenRefusal}
 use Rattle.channels.proofs.Agreeing.{given-same}
-use Rattle.record.specs.Checks.{Content, content, size?, stranger?, double?, ring?, repeated?, lacking?, unled?, looseChecks, laterChecks, firstOf, refusalOf}
 
 -- ---- the list of checks, by what each finds
 

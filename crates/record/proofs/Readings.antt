@@ -1,17 +1,15 @@
 -- What a record says, by whether it is accepted. Assumes nothing.
 use Rattle.counting.proofs.Prelude.{_≡_, refl, sym, ap, ap₂, _∙_, subst, _≢_, _↔_, Bool, List, [], ℕ, _+_, _-_, _*_, _<_, arith, length, take, drop, eq-eqb, ne-eqb}
-use Rattle.counting.specs.Count.{choose}
-use Rattle.masks.specs.Sets.{at}
+use Rattle.specification.specs.Count.{choose}
+use Rattle.specification.specs.Sets.{at}
+use Rattle.specification.specs.Graph.{tailsOf, headsOf, refusal, verdict, outsized?, Reachable}
+use Rattle.specification.specs.declared.Fields.{Fields}
+use Rattle.specification.specs.declared.Layout.the-variants.{Good, Bad}
+use Rattle.specification.specs.Layout.{layoutOf}
+use Rattle.specification.specs.Checks.{Content, content, refusalOf, contentOf, nothing, refusalIn, recordRefusal, contentIn, said}
 use Rattle.masks.proofs.Tables.{at-zeros}
-use Rattle.reach.specs.Ends.{tailsOf, headsOf}
-use Rattle.reach.specs.Refusal.{refusal, verdict, outsized?}
-use Rattle.reach.specs.Closure.{Reachable}
-use Rattle.fields.specs.declared.Fields.{Fields}
-use Rattle.fields.specs.declared.Layout.the-variants.{Good, Bad}
 use Rattle.record.specs.declared.reading.Reading.{Reading}
-use Rattle.fields.specs.Layout.{layoutOf}
-use Rattle.record.specs.Checks.{Content, content, refusalOf}
-use Rattle.record.specs.Reading.{contentOf, nothing, refusalIn, recordRefusal, contentIn, said, unreadBy, Reads}
+use Rattle.record.specs.Reading.{unreadBy, Reads}
 
 pub refused-says : (b : List ℕ) → (recordRefusal b ≡ 0 → ⊥) → said b ≡ nothing
 unfolding said

@@ -1,26 +1,21 @@
 -- A record is accepted exactly when it is sound. Assumes nothing.
 use Rattle.counting.proofs.Prelude.{_≡_, refl, sym, ap, _∙_, subst, _↔_, _⊎_, ⊎-elim, _≢_, Bool, true, false, true≢false, not, _&&_, _||_, List, [], _∷_, ℕ, zero, suc, _≤_, _<_, arith, eqb, leb, ltb, length, getD, eq-eqb, ne-eqb, eqb-true, eqb-false, le-ltb, lt-leb, leb-false, ltb-false}
-use Rattle.counting.specs.Count.{choose, some}
+use Rattle.specification.specs.Count.{choose, some}
+use Rattle.specification.specs.Channels.{times, linked, every, allLinked, linesOf, verticesOf, unknown?, broken?}
+use Rattle.specification.specs.Graph.{Edge, outsized?, strange?, verdict, refusal, reachable?, alike?, duplicate?}
+use Rattle.specification.specs.Checks.{Content, edgesOf, size?, stranger?, double?, ring?, repeated?, lacking?, unled?, looseChecks, laterChecks, firstOf, refusalOf, contentOf, refusalIn, recordRefusal, Sound, SoundRecord}
+use Rattle.specification.specs.declared.Layout.{Layout}
+use Rattle.specification.specs.declared.Layout.the-variants.{Good, Bad}
+use Rattle.specification.specs.Layout.{layoutOf}
 use Rattle.counting.proofs.Falsity.{not-true, neither}
 use Rattle.counting.proofs.Truth.{lt-or-le, and-intro, and-elim, or-neither}
 use Rattle.counting.proofs.Somes.{some-found, some-none}
-use Rattle.matching.specs.Lists.{times, linked, every, allLinked}
 use Rattle.matching.proofs.Lists.{within-head, within-tail, times-has}
-use Rattle.reach.specs.Graph.{Edge}
-use Rattle.reach.specs.Refusal.{outsized?, strange?, verdict, refusal}
-use Rattle.reach.specs.Closure.{reachable?}
 use Rattle.reach.proofs.Decide.{reachable-decided}
 use Rattle.reach.proofs.Routes.{begins-below}
-use Rattle.channels.specs.Given.{linesOf, verticesOf, unknown?, broken?}
 use Rattle.channels.proofs.Checks.{unknown-within, repeats-once, once-repeats, lacks-has, has-lacks, broken-linked}
-use Rattle.reach.specs.Ends.{alike?, duplicate?}
-use Rattle.record.specs.Checks.{Content, edgesOf, size?, stranger?, double?, ring?, repeated?, lacking?, unled?, looseChecks, laterChecks, firstOf, refusalOf}
-use Rattle.fields.specs.declared.Layout.{Layout}
-use Rattle.fields.specs.declared.Layout.the-variants.{Good, Bad}
 use Rattle.record.specs.declared.reading.Reading.{Reading}
-use Rattle.fields.specs.Layout.{layoutOf}
-use Rattle.record.specs.Reading.{contentOf, refusalIn, recordRefusal, Reads}
-use Rattle.record.specs.Sound.{Sound, SoundRecord}
+use Rattle.record.specs.Reading.{Reads}
 
 -- ---- none of a list of tests fails
 

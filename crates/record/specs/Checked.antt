@@ -5,17 +5,17 @@ use mathlib.Core.Bool.{Bool}
 use mathlib.Core.List.{List}
 use Prim.Native.Nat.{ℕ, _≤_, _<_}
 use lib.ListN.{length}
-use Rattle.counting.specs.Count.{choose}
+use Rattle.specification.specs.Count.{choose}
 use Rattle.counting.specs.Quads.{quad}
-use Rattle.reach.specs.Ends.{tailsOf, headsOf}
+use Rattle.specification.specs.Graph.{tailsOf, headsOf}
 use Rattle.descent.specs.Promise.{Sized, Descended}
-use Rattle.matching.specs.Chains.{planned}
+use Rattle.specification.specs.Planning.{planned}
 use Rattle.search.specs.Table.{leadsIn}
-use Rattle.channels.specs.Given.{linesOf}
+use Rattle.specification.specs.Channels.{linesOf}
 use Rattle.channels.specs.Promise.{planRefusal, givenRefusal}
 use Rattle.planning.specs.Arranged.{Arranged}
 use Rattle.record.specs.declared.checks.Checked.{Checked}
-use Rattle.record.specs.Checks.{content, refusalOf}
+use Rattle.specification.specs.Checks.{content, refusalOf}
 
 -- a refusal with no count
 abbrev pub uncheckedBy : ℕ → Checked

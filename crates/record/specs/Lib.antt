@@ -1,4 +1,3 @@
 pub mod Checks
 pub mod Checked
 pub mod Reading
-pub mod Sound

@@ -2,8 +2,8 @@
 ghost use mathlib.Core.Path.{_≡_};
 ghost use mathlib.Core.Bool.{_&&_};
 ghost use lib.Dec.{leb};
-ghost use Rattle.counting.specs.Count.{choose};
-ghost use Rattle.channels.specs.Given.{verticesOf, unknown?};
+ghost use Rattle.specification.specs.Count.{choose};
+ghost use Rattle.specification.specs.Channels.{verticesOf, unknown?};
 ghost use Rattle.channels.specs.Promise.{Answers};
 ghost use Rattle.record.specs.Checked.{uncheckedBy, channelsRefusal, channelsBy, Checks};
 use descent::descend;

@@ -2,8 +2,8 @@
 ghost use mathlib.Core.Path.{_≡_};
 ghost use Rattle.record.specs.Reading.{Reads, unreadBy};
 use crate::checks::check;
-use fields::Layout;
 use fields::layout_of;
+use specification::Layout;
 
 // Why a record is refused, or 0, how many vertices it has, and the table of what reaches what (document 01: the descent table), two
 // masks a vertex. On a refusal every count and mask is 0.

@@ -1,8 +1,6 @@
 -- A graph that is not refused, with no cycle and no two edges alike, is what the laws of reduction ask for. Assumes nothing.
 use Rattle.counting.proofs.Prelude.{_≡_, List, ℕ, _<_, getD}
-use Rattle.reach.specs.Graph.{Reaches, edgeCount, Edge}
-use Rattle.reach.specs.Refusal.{refusal}
-use Rattle.reach.specs.Closure.{reachable?}
+use Rattle.specification.specs.Graph.{Reaches, edgeCount, Edge, refusal, reachable?}
 use Rattle.reach.proofs.Refusing.{accepted-within}
 use Rattle.reach.proofs.Decide.{reachable-decided}
 use Rattle.reduction.specs.Reduction.{Dag}

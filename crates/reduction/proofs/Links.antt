@@ -1,10 +1,11 @@
 -- The reduced edges are the fewest links with the graph's reachability. Assumes nothing.
 use Rattle.counting.proofs.Prelude.{_≡_, refl, sym, ap, ap₂, _∙_, _↔_, Bool, true, false, true≢false, not, List, ℕ, _≤_, _<_, arith, getD}
 use Rattle.counting.proofs.Truth.{and-intro, and-elim}
-use Rattle.reach.specs.Graph.{Reaches, edgeCount, Edge}
-use Rattle.reach.specs.Graph.Reaches.{one, more}
+use Rattle.specification.specs.Graph.{Reaches, edgeCount, Edge}
+use Rattle.specification.specs.Graph.Reaches.{one, more}
 use Rattle.reach.proofs.Decide.{edge-decided}
-use Rattle.reduction.specs.Reduction.{transitive?, reducedCount, Reduced, Linked, linkCount, SameClosure, reducedLink, Fewest, Dag}
+use Rattle.specification.specs.Marks.{transitive?, reducedCount, Linked, linkCount, reducedLink}
+use Rattle.reduction.specs.Reduction.{Reduced, SameClosure, Fewest, Dag}
 use Rattle.reduction.proofs.Pairs.{pairs-le, pairs-eq}
 use Rattle.reduction.proofs.Transitive.{reaches-map, route-begins, route-ends, transitive-between, reduced-reaches}
 

@@ -1,7 +1,7 @@
 -- Numbers that stand for different pairs are as many as the pairs that they stand for. Assumes nothing.
 use Rattle.counting.proofs.Prelude.{_≡_, refl, sym, ap, ap₂, _∙_, Bool, true, false, _&&_, ℕ, _≤_, _<_, arith, eqb, eq-eqb, eqb-true}
 use native.Mathlib.Decide.{decLt}
-use Rattle.counting.specs.Count.{indicator, sum, count}
+use Rattle.specification.specs.Count.{indicator, sum, count}
 use Rattle.counting.proofs.Truth.{and-intro, and-elim}
 use Rattle.counting.proofs.Sums.{sum-ext, sum-mono}
 use Rattle.counting.proofs.Classes.{sum-term, count-positive, at-most-one, count-classes}

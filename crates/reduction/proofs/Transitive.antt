@@ -1,16 +1,17 @@
 -- Transitive edges are those with a route of two edges or more, and without them every vertex reaches what it reached. Assumes nothing.
 use Rattle.counting.proofs.Prelude.{_≡_, refl, sym, ap, _∙_, subst, _↔_, Bool, true, false, true≢false, _&&_, List, ℕ, zero, suc, _<_, arith}
 use native.Mathlib.Nat.{not-suc-le-zero}
-use Rattle.counting.specs.Count.{indicator, count}
+use Rattle.specification.specs.Count.{indicator, count}
 use Rattle.counting.proofs.Truth.{and-intro, and-elim}
 use Rattle.counting.proofs.Falsity.{not-true}
 use Rattle.counting.proofs.Sums.{sum-smaller}
 use Rattle.counting.proofs.Somes.{some-found, some-which}
 use Rattle.counting.proofs.Classes.{indicator-mono}
-use Rattle.reach.specs.Graph.{Reaches, Longer, Edge}
-use Rattle.reach.specs.Graph.Reaches.{one, more}
+use Rattle.specification.specs.Graph.{Reaches, Longer, Edge}
+use Rattle.specification.specs.Graph.Reaches.{one, more}
 use Rattle.reach.proofs.Routes.{reaches-trans, longer-between, begins-below, ends-below}
-use Rattle.reduction.specs.Reduction.{transitive?, Reduced, Dag}
+use Rattle.specification.specs.Marks.{transitive?}
+use Rattle.reduction.specs.Reduction.{Reduced, Dag}
 
 -- what is reached by the edges of E is reached by those of F, if F has all of E
 pub reaches-map : {E F : ℕ → ℕ → Type 0} {u v : ℕ} → ((u v : ℕ) → E u v → F u v) → Reaches E u v → Reaches F u v

@@ -1,2 +1,1 @@
 pub mod Reduction
-pub mod Examples

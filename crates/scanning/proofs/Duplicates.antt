@@ -1,11 +1,11 @@
 -- A table of the edges seen so far tells whether the next stands among them. Assumes nothing.
 use Rattle.counting.proofs.Prelude.{_≡_, sym, ap₂, _∙_, ⊎-elim, true, false, List, ℕ, _*_, _<_, eqb, getD, eq-eqb, eqb-true}
-use Rattle.counting.specs.Count.{some}
+use Rattle.specification.specs.Count.{some}
 use Rattle.counting.proofs.Truth.{and-intro, and-elim, true-or-false}
 use Rattle.counting.proofs.Somes.{some-found, some-which}
-use Rattle.masks.specs.Sets.{at}
+use Rattle.specification.specs.Sets.{at}
 use Rattle.reach.specs.Steps.{Marked}
-use Rattle.reach.specs.Ends.{alike?}
+use Rattle.specification.specs.Graph.{alike?}
 
 module _ (w : ℕ) (tails heads : List ℕ) (i : ℕ) (t : List ℕ) (seen : Marked w tails heads i t) where
   -- its bit is there: an edge before it is alike

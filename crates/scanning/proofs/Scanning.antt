@@ -4,18 +4,15 @@ use native.Mathlib.Nat.{not-suc-le-zero, lt-of-lt-of-le}
 use native.Mathlib.Numerals.{add-one}
 use borrow.Author.Count.{below-more}
 use lib.Seq.{getD-set-other}
-use Rattle.counting.specs.Count.{choose, some}
+use Rattle.specification.specs.Count.{choose, some}
+use Rattle.specification.specs.Sets.{bit, at, member, member?, inserted}
+use Rattle.specification.specs.Graph.{edgeCount, Edge, outsized?, strange?, tailsOf, headsOf, alike?, duplicate?}
 use Rattle.counting.proofs.Truth.{or-left, or-right, or-neither}
 use Rattle.counting.proofs.Choosing.{choose-yes, choose-no}
 use Rattle.counting.proofs.Somes.{some-found, some-none}
-use Rattle.masks.specs.Bits.{bit}
-use Rattle.masks.specs.Sets.{at, member, member?, inserted}
 use Rattle.masks.proofs.Bits.{bit-of-zero}
 use Rattle.masks.proofs.Tables.{Put, put-law}
-use Rattle.reach.specs.Graph.{edgeCount, Edge}
-use Rattle.reach.specs.Refusal.{outsized?, strange?}
 use Rattle.reach.specs.Steps.{Marked, Within}
-use Rattle.reach.specs.Ends.{tailsOf, headsOf, alike?, duplicate?}
 use Rattle.reach.proofs.Marking.{marked-more}
 use Rattle.reach.proofs.Ends.{tail-at, head-at, ends-counted}
 use Rattle.scanning.specs.Scanned.{Blank, endsRefusal, Scanned, Scans}

@@ -5,11 +5,9 @@ use mathlib.Core.Bool.{true, false}
 use mathlib.Core.List.{List}
 use Prim.Native.Nat.{ℕ, _*_, _≤_, _<_, min}
 use lib.ListN.{length, getD}
-use Rattle.counting.specs.Count.{choose, some}
-use Rattle.masks.specs.Sets.{at}
-use Rattle.reach.specs.Graph.{edgeCount, Edge}
-use Rattle.reach.specs.Refusal.{outsized?, strange?}
-use Rattle.reach.specs.Ends.{tailsOf, headsOf, duplicate?}
+use Rattle.specification.specs.Count.{choose, some}
+use Rattle.specification.specs.Sets.{at}
+use Rattle.specification.specs.Graph.{edgeCount, Edge, outsized?, strange?, tailsOf, headsOf, duplicate?}
 
 -- masks with no bit set
 pub record Blank (t : List ℕ) : Type 0 where

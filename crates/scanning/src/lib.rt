@@ -3,9 +3,9 @@
 ghost use mathlib.Core.Path.{_≡_};
 ghost use Prim.Native.Nat.{_+_, _*_, _≤_, _<_, min};
 ghost use lib.ListN.{length};
-ghost use Rattle.counting.specs.Count.{choose};
-ghost use Rattle.masks.specs.Sets.{member?, inserted};
-ghost use Rattle.reach.specs.Refusal.{outsized?};
+ghost use Rattle.specification.specs.Count.{choose};
+ghost use Rattle.specification.specs.Sets.{member?, inserted};
+ghost use Rattle.specification.specs.Graph.{outsized?};
 ghost use Rattle.scanning.specs.Scanned.{Blank, Scanned, Scans};
 
 // The most vertices and edges of a graph.

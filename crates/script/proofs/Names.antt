@@ -3,7 +3,7 @@ use Rattle.counting.proofs.Prelude.{_≡_, refl, _∙_, Bool, true, false, _&&_
 use native.Mathlib.Decide.{decLt}
 use native.Mathlib.Numerals.{add-one}
 use lib.Seq.{drop-cons}
-use Rattle.counting.specs.Count.{choose}
+use Rattle.specification.specs.Count.{choose}
 use Rattle.script.specs.Orders.{same}
 use Rattle.script.specs.Scanning.{advanced}
 

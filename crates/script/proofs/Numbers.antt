@@ -1,6 +1,6 @@
 -- A number read digit by digit: its value, cut to the largest. Assumes nothing.
 use Rattle.counting.proofs.Prelude.{_≡_, refl, ap, _∙_, Bool, true, false, List, [], _∷_, ℕ, _+_, _-_, _*_, min, arith}
-use Rattle.counting.specs.Count.{choose}
+use Rattle.specification.specs.Count.{choose}
 use Rattle.script.specs.declared.Numeral.{Numeral}
 use Rattle.script.specs.declared.Command.{Command}
 use Rattle.script.specs.Orders.{Number, digit?, decimal, numberOf}

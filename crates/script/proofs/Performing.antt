@@ -3,7 +3,7 @@ use Rattle.counting.proofs.Prelude.{_≡_, refl, sym, ap, ap₂, _∙_, subst, 
 use Rattle.counting.proofs.Truth.{lt-or-le}
 use Rattle.editing.specs.declared.Session.{Session}
 use Rattle.editing.specs.declared.Changed.{Changed}
-use Rattle.editing.specs.Machine.{Graph, Call, Turn, step, fresh, Lawful}
+use Rattle.specification.specs.Machine.{Graph, Call, Turn, step, fresh, Lawful}
 use Rattle.editing.specs.Promise.{Represents, changeAnswer, StartPromise}
 use Rattle.editing.proofs.Machines.{leads-kept, refusedThree, unknown-add, unknown-leads, start-fails}
 use Rattle.script.specs.declared.Command.{Command}

@@ -6,7 +6,7 @@ use Prim.Native.Nat.{ℕ}
 use Rattle.editing.specs.declared.Session.{Session}
 use Rattle.editing.specs.declared.Changed.{Changed}
 use Rattle.editing.specs.declared.Reply.{Reply}
-use Rattle.editing.specs.Machine.{Graph, Call, Answer, Turn, step, startRefusal, fresh}
+use Rattle.specification.specs.Machine.{Graph, Call, Answer, Turn, step, startRefusal, fresh}
 use Rattle.editing.specs.Promise.{Represents, changeAnswer, replyAnswer, StartPromise, AddPromise, LeadsPromise}
 use Rattle.script.specs.declared.Command.{Command}
 use Rattle.script.specs.declared.Outcome.{Outcome}

@@ -1,7 +1,7 @@
 -- The loop over vertices: who asked. Assumes nothing.
 use Rattle.counting.proofs.Prelude.{_≡_, sym, ap, _∙_, Bool, List, ℕ, suc, _+_, _-_, _≤_, _<_, arith, replicate}
 use native.Mathlib.Numerals.{add-one}
-use Rattle.matching.specs.Search.{nobody, fresh, asks, matching}
+use Rattle.specification.specs.Planning.{nobody, fresh, asks, matching}
 use Rattle.matching.proofs.Asked.{unvisited-le}
 use Rattle.search.specs.Search.{state, Augments}
 

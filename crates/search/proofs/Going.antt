@@ -3,9 +3,9 @@ use Rattle.counting.proofs.Prelude.{_≡_, refl, sym, ap, _∙_, _≢_, ⊎-eli
 use native.Mathlib.Nat.{not-suc-le-zero, add-suc, add-zero}
 use native.Mathlib.Decide.{decLt, ℕ-discrete}
 use Rattle.counting.proofs.Truth.{lt-or-le}
-use Rattle.masks.specs.Sets.{member?, inserted}
+use Rattle.specification.specs.Sets.{member?, inserted}
 use Rattle.masks.proofs.Members.{length-inserted}
-use Rattle.matching.specs.Search.{State, nobody, seen, unvisited, scan, augment, candidate, predecessorOf, marked, taken, missed}
+use Rattle.specification.specs.Planning.{State, nobody, seen, unvisited, scan, augment, candidate, predecessorOf, marked, taken, missed}
 use Rattle.matching.proofs.Scan.{scan-end, scan-pass, scan-free, scan-moved, scan-stuck, candidate-fact}
 use Rattle.matching.proofs.Kept.{Sized, marked-fewer, marked-seen, marked-mono, kept-augment}
 use Rattle.search.specs.Table.{leadsIn}

@@ -4,8 +4,8 @@ use native.Mathlib.Nat.{lt-of-le-of-lt}
 use lib.Bits.{bitOr, and-le-l}
 use lib.Count.{trailingZeros}
 use Rattle.counting.proofs.Truth.{lt-or-le}
-use Rattle.masks.specs.Bits.{bit}
-use Rattle.masks.specs.Sets.{member, member?, inserted, at, Next}
+use Rattle.specification.specs.Sets.{bit, member, member?, inserted, at}
+use Rattle.masks.specs.Sets.{Next}
 use Rattle.masks.specs.Pairs.{inPair}
 use Rattle.masks.proofs.Bits.{without, one-shl, bit-of-zero, trailing-below, trailing-at, trailing-lt}
 use Rattle.masks.proofs.Sets.{without-member}

@@ -3,8 +3,8 @@ use mathlib.Core.Path.{_≡_}
 use mathlib.Core.Bool.{Bool, true, false, not, _&&_}
 use mathlib.Core.List.{List}
 use Prim.Native.Nat.{ℕ, _≤_, _<_}
-use Rattle.masks.specs.Sets.{member?}
-use Rattle.matching.specs.Search.{State, unvisited, augment, fresh}
+use Rattle.specification.specs.Sets.{member?}
+use Rattle.specification.specs.Planning.{State, unvisited, augment, fresh}
 use Rattle.search.specs.Table.{leadsIn}
 
 abbrev pub state : List ℕ → List ℕ → Bool → State

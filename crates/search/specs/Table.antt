@@ -3,7 +3,7 @@ use mathlib.Core.Bool.{Bool}
 use mathlib.Core.List.{List}
 use Prim.Native.Nat.{ℕ}
 use lib.Dec.{eqb}
-use Rattle.masks.specs.Sets.{at}
+use Rattle.specification.specs.Sets.{at}
 
 -- u leads to v by the table: bit v of the two masks of u
 unfoldable pub leadsIn : List ℕ → ℕ → ℕ → Bool

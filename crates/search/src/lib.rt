@@ -5,8 +5,8 @@ ghost use mathlib.Core.Bool.{Bool};
 ghost use mathlib.Core.List.{[], _∷_};
 ghost use Prim.Native.Nat.{_≤_, _<_, min};
 ghost use lib.ListN.{length, getD};
-ghost use Rattle.masks.specs.Sets.{inserted};
-ghost use Rattle.matching.specs.Search.{matching};
+ghost use Rattle.specification.specs.Sets.{inserted};
+ghost use Rattle.specification.specs.Planning.{matching};
 ghost use Rattle.search.specs.Table.{leadsIn};
 ghost use Rattle.search.specs.Search.{state, NextOpen, Augments, Asks};
 

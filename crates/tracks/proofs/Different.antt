@@ -3,12 +3,12 @@ use Rattle.counting.proofs.Prelude.{_≡_, refl, sym, ap, ap₂, _∙_, _⊎_, 
 use native.Mathlib.Nat.{not-suc-le-zero}
 use native.Mathlib.Decide.{ℕ-discrete, decLt}
 use native.Mathlib.Numerals.{add-one}
-use Rattle.counting.specs.Count.{indicator, choose, sum, count, some}
+use Rattle.specification.specs.Count.{indicator, choose, sum, count, some}
 use Rattle.counting.proofs.Truth.{and-intro, and-elim}
 use Rattle.counting.proofs.Somes.{some-found, some-which, some-ext}
 use Rattle.counting.proofs.Sums.{sum-mono, count-ext}
 use Rattle.counting.proofs.Classes.{indicator-mono, sum-one, sum-change, at-most-one, count-classes}
-use Rattle.tracks.specs.Tracks.{topIn, differentIn}
+use Rattle.specification.specs.Tracks.{topIn, differentIn}
 
 -- ---- different values
 

@@ -1,8 +1,8 @@
 -- The tracks hang on the first n bundles only. Assumes nothing.
 use Rattle.counting.proofs.Prelude.{_≡_, refl, ap, ap₂, _∙_, Bool, _&&_, _||_, List, ℕ, zero, suc, _+_, _≤_, _<_, arith, eqb, leb, ltb, getD, set}
-use Rattle.counting.specs.Count.{choose}
+use Rattle.specification.specs.Count.{choose}
 use Rattle.counting.proofs.Somes.{some-ext}
-use Rattle.tracks.specs.Tracks.{mostRows, earlier, meet, blocks, busy, placed, inRow, inRows, tracks}
+use Rattle.specification.specs.Tracks.{mostRows, earlier, meet, blocks, busy, placed, inRow, inRows, tracks}
 use Rattle.tracks.proofs.FirstFit.{lowest-ext}
 
 module _ (n : ℕ) (channel first last channel′ first′ last′ : ℕ → ℕ) (c : (b : ℕ) → b < n → channel b ≡ channel′ b)

@@ -2,11 +2,11 @@
 use Rattle.counting.proofs.Prelude.{_≡_, refl, sym, ap, ap₂, _∙_, _⊎_, inl, inr, ⊎-elim, Bool, true, false, _&&_, List, ℕ, zero, suc, _+_, _*_, _≤_, _<_, max, arith, eqb, leb, ltb, getD, eq-eqb, eqb-true, leb-true, le-leb, lt-ltb, le-ltb, ltb-true}
 use native.Mathlib.Nat.{not-suc-le-zero}
 use native.Mathlib.Decide.{ℕ-discrete}
-use Rattle.counting.specs.Count.{choose}
+use Rattle.specification.specs.Count.{choose}
 use Rattle.counting.proofs.Truth.{and-intro, and-elim, or-left, or-elim}
 use Rattle.counting.proofs.Falsity.{not-true}
 use Rattle.counting.proofs.Somes.{some-found, some-which}
-use Rattle.tracks.specs.Tracks.{lowestFree, earlier, meet, blocks, busy}
+use Rattle.specification.specs.Tracks.{lowestFree, earlier, meet, blocks, busy}
 
 -- ---- the lowest that is free
 

@@ -2,9 +2,9 @@
 use Rattle.counting.proofs.Prelude.{_≡_, refl, sym, ap, _∙_, _≢_, Bool, true, _&&_, ℕ, suc, _*_, _≤_, _<_, arith, eqb, leb, getD, le-leb, leb-true, eq-eqb, eqb-true}
 use native.Mathlib.Nat.{le-antisymm}
 use native.Mathlib.Decide.{ℕ-discrete, decLt}
-use Rattle.counting.specs.Count.{count}
+use Rattle.specification.specs.Count.{count}
 use Rattle.counting.proofs.Truth.{and-elim}
-use Rattle.tracks.specs.Tracks.{mostBundles, meet, tracks, differentIn, topIn}
+use Rattle.specification.specs.Tracks.{mostBundles, meet, tracks, differentIn, topIn}
 use Rattle.tracks.specs.Order.{Apart, Among, Intervals, Packed}
 use Rattle.counting.proofs.Mapping.{into-count, onto-count}
 use Rattle.tracks.proofs.Different.{different-least, different-below, top-each, top-least}

@@ -4,7 +4,7 @@ use native.Mathlib.Nat.{not-suc-le-zero}
 use native.Mathlib.Decide.{ℕ-discrete, decLt}
 use lib.Seq.{getD-set-same, getD-set-other}
 use Rattle.counting.proofs.Zeros.{zeros}
-use Rattle.tracks.specs.Tracks.{mostRows, lowestFree, blocks, busy, placed, inRow, inRows, tracks}
+use Rattle.specification.specs.Tracks.{mostRows, lowestFree, blocks, busy, placed, inRow, inRows, tracks}
 use Rattle.tracks.specs.Steps.{nth}
 use Rattle.counting.proofs.Mapping.{one-fails, onto-count}
 use Rattle.tracks.proofs.FirstFit.{IsLowest, lowest-is, turn, earlier-turn, blocks-fact, blocks-self, busy-fact, busy-yes}

@@ -1,7 +1,7 @@
 -- What a caller knows of the tracks. Assumes nothing.
 use Rattle.counting.proofs.Prelude.{_≡_, refl, ap, _∙_, List, ℕ, _≤_, arith}
 use Rattle.counting.specs.Quads.{quad}
-use Rattle.tracks.specs.Tracks.{mostBundles, tracks}
+use Rattle.specification.specs.Tracks.{mostBundles, tracks}
 use Rattle.tracks.specs.Order.{Rising}
 use Rattle.tracks.specs.Steps.{nth}
 use Rattle.tracks.specs.Promise.{Assigned, tracksOf, Tracked}

@@ -1,6 +1,4 @@
-pub mod Tracks
 pub mod Order
 pub mod Sorted
 pub mod Steps
 pub mod Promise
-pub mod Examples

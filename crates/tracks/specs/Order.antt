@@ -4,7 +4,7 @@ use mathlib.Core.Logic.{_≢_}
 use mathlib.Core.Bool.{true}
 use Prim.Native.Nat.{ℕ, _≤_, _<_}
 use lib.Dec.{eqb}
-use Rattle.tracks.specs.Tracks.{meet, differentIn, topIn}
+use Rattle.specification.specs.Tracks.{meet, differentIn, topIn}
 
 -- bundles of one channel that share a row have different tracks
 pub record Apart (n : ℕ) (channel first last track : ℕ → ℕ) : Type 0 where

@@ -5,7 +5,7 @@ use Prim.Native.Nat.{ℕ, _/_, _≤_, _<_, min, max}
 use lib.Dec.{eqb}
 use lib.ListN.{length, getD}
 use Rattle.counting.specs.Quads.{quad}
-use Rattle.tracks.specs.Tracks.{mostBundles, tracks, topIn}
+use Rattle.specification.specs.Tracks.{mostBundles, tracks, topIn}
 
 -- of each of n bundles its track, and s how many tracks each channel has: 1 + its highest, or 0
 pub record Assigned (n : ℕ) (channel first last t : ℕ → ℕ) (s : List ℕ) : Type 0 where

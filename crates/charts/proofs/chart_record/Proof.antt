@@ -35,12 +35,12 @@ use denote.Triple.Table.{entered, cited}
 use denote.Triple.Clauses.{ensured, lasts}
 use denote.Triple.Walked.{says, Stays, stay-dropped, walkOf, AllGo, Walks, ends-at, walked, walk-meets}
 use denote.Exit.{yes}
-use Rattle.outline.specs.declared.VertexEntry.{VertexEntry}
-use Rattle.outline.specs.declared.EdgeEntry.{EdgeEntry}
-use Rattle.outline.specs.declared.BundleEntry.{BundleEntry}
-use Rattle.outline.proofs.VertexEntry as Vt
-use Rattle.outline.proofs.EdgeEntry as Et
-use Rattle.outline.proofs.BundleEntry as Bt
+use Rattle.specification.specs.declared.VertexEntry.{VertexEntry}
+use Rattle.specification.specs.declared.EdgeEntry.{EdgeEntry}
+use Rattle.specification.specs.declared.BundleEntry.{BundleEntry}
+use Rattle.specification.proofs.VertexEntry as Vt
+use Rattle.specification.proofs.EdgeEntry as Et
+use Rattle.specification.proofs.BundleEntry as Bt
 use Rattle.charts.specs.Steps.{Leaves, RecordSheet, endsOf}
 use Rattle.charts.specs.declared.Sheet.{Sheet}
 use Rattle.charts.specs.declared.Chart.{Chart}

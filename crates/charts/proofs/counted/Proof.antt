@@ -1,6 +1,6 @@
 -- `charts::counted` meets its contract. Assumes nothing.
 use Rattle.counting.proofs.Prelude.{_≡_, refl, Bool, true, false, not, ℕ, _+_, arith, needs}
-use Rattle.counting.specs.Count.{indicator}
+use Rattle.specification.specs.Count.{indicator}
 use Rattle.charts.proofs.counted.Statement.{statement}
 use Rattle.charts.proofs.counted.Tie as tie
 

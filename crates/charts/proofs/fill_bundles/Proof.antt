@@ -9,8 +9,8 @@ use Rattle.lists.proofs.Fill.{Entry, fill-meets}
 use Rattle.charts.specs.Entries.{bundleAt}
 use Rattle.charts.proofs.Sheet as S
 use Rattle.charts.proofs.Sheet.Laws as S′
-use Rattle.outline.proofs.BundleEntry as T
-use Rattle.outline.proofs.BundleEntry.Laws as T′
+use Rattle.specification.proofs.BundleEntry as T
+use Rattle.specification.proofs.BundleEntry.Laws as T′
 use Rattle.charts.proofs.Source.{sheet}
 use Rattle.charts.proofs.bundle_at.Symbol as entry-def
 use Rattle.charts.proofs.bundle_at.Symbol.{name as #entry}

@@ -7,8 +7,8 @@ use denote.Struct.Laws as LL
 use denote.Triple.Spec.{tripleOf}
 use denote.Triple.Table.{entered, cited}
 use Rattle.lists.proofs.Tally.{Entry, Count, tally-meets}
-use Rattle.outline.proofs.EdgeEntry as T
-use Rattle.outline.proofs.EdgeEntry.Laws as T′
+use Rattle.specification.proofs.EdgeEntry as T
+use Rattle.specification.proofs.EdgeEntry.Laws as T′
 use Rattle.charts.specs.Entries.{edgeAt, reduced?}
 use Rattle.charts.proofs.Sheet as S
 use Rattle.charts.proofs.Sheet.Laws as S′

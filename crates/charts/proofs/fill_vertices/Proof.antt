@@ -9,8 +9,8 @@ use Rattle.lists.proofs.Fill.{Entry, fill-meets}
 use Rattle.charts.specs.Entries.{vertexAt}
 use Rattle.charts.proofs.Sheet as S
 use Rattle.charts.proofs.Sheet.Laws as S′
-use Rattle.outline.proofs.VertexEntry as T
-use Rattle.outline.proofs.VertexEntry.Laws as T′
+use Rattle.specification.proofs.VertexEntry as T
+use Rattle.specification.proofs.VertexEntry.Laws as T′
 use Rattle.charts.proofs.Source.{sheet}
 use Rattle.charts.proofs.vertex_at.Symbol as entry-def
 use Rattle.charts.proofs.vertex_at.Symbol.{name as #entry}

@@ -36,12 +36,12 @@ use denote.Triple.Walked.{says, needs, Stays, stay-dropped, walkOf, AllGo, Walks
 use denote.Exit.{yes}
 use Rattle.lists.proofs.Fill.{Fill, fills}
 use Rattle.lists.proofs.Tally.{Tally, tally, tallies}
-use Rattle.outline.specs.declared.VertexEntry.{VertexEntry}
-use Rattle.outline.specs.declared.EdgeEntry.{EdgeEntry}
-use Rattle.outline.specs.declared.BundleEntry.{BundleEntry}
-use Rattle.outline.proofs.VertexEntry as Vt
-use Rattle.outline.proofs.EdgeEntry as Et
-use Rattle.outline.proofs.BundleEntry as Bt
+use Rattle.specification.specs.declared.VertexEntry.{VertexEntry}
+use Rattle.specification.specs.declared.EdgeEntry.{EdgeEntry}
+use Rattle.specification.specs.declared.BundleEntry.{BundleEntry}
+use Rattle.specification.proofs.VertexEntry as Vt
+use Rattle.specification.proofs.EdgeEntry as Et
+use Rattle.specification.proofs.BundleEntry as Bt
 use Rattle.charts.specs.Entries.{vertexAt, edgeAt, bundleAt, reduced?}
 use Rattle.charts.specs.Steps.{Room, Leaves, summaryOf}
 use Rattle.charts.specs.declared.Sheet.{Sheet}

@@ -1,6 +1,6 @@
 use Rattle.counting.proofs.Prelude.{sym, eq-eqb, ne-eqb, needs}
 use Rattle.counting.proofs.Truth.{or-left}
-use Rattle.masks.specs.Sets.{at}
+use Rattle.specification.specs.Sets.{at}
 use Rattle.editing.proofs.comes.Statement.{statement}
 use Rattle.editing.proofs.comes.Tie as tie
 

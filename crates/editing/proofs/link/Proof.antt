@@ -1,5 +1,5 @@
 use Rattle.counting.proofs.Prelude.{_≡_, refl, sym, ap, _∙_, subst, ⊎-elim, List, [], _∷_, ℕ, _+_, _-_, _*_, _≤_, zero-le, arith, length, getD, le-leb, needs}
-use Rattle.masks.specs.Sets.{United}
+use Rattle.specification.specs.Sets.{United}
 use Rattle.masks.proofs.Tables.{pair-row, absorbed-law}
 use Rattle.editing.specs.Promise.{Linked}
 use Rattle.editing.proofs.Linking.{Target, target-law, linked-none, linked-set, linked-clear}

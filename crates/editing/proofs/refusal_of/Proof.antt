@@ -1,5 +1,5 @@
 use Rattle.counting.proofs.Prelude.{_≡_, sym, _∙_, false, _<_, arith, eqb, le-leb, lt-leb, needs}
-use Rattle.masks.specs.Sets.{at}
+use Rattle.specification.specs.Sets.{at}
 use Rattle.editing.specs.Promise.{outside?, refusalOf}
 use Rattle.editing.proofs.Machines.{verdict-unknown, verdict-duplicate, verdict-cycle, verdict-full, verdict-none}
 use Rattle.editing.proofs.Sessions.{outside-tail, outside-head, inside}

@@ -1,5 +1,5 @@
 use Rattle.counting.proofs.Prelude.{eq-eqb, ne-eqb, needs}
-use Rattle.fields.specs.Layout.{afterEdges}
+use Rattle.specification.specs.Layout.{afterEdges}
 use Rattle.fields.proofs.after_edges.Statement.{statement}
 use Rattle.fields.proofs.after_edges.Tie as tie
 

@@ -1,6 +1,6 @@
 use Rattle.counting.proofs.Prelude.{_≡_, ap, ap₂, true, false, ℕ, _+_, _*_, arith, leb, length, le-leb, lt-leb, eq-eqb, ne-eqb, needs}
-use Rattle.fields.specs.declared.Field.the-variants.{Found}
-use Rattle.fields.specs.Layout.{sizeAt, fieldAt}
+use Rattle.specification.specs.declared.Field.the-variants.{Found}
+use Rattle.specification.specs.Layout.{sizeAt, fieldAt}
 use Rattle.fields.proofs.field_at.Statement.{statement}
 use Rattle.fields.proofs.field_at.Tie as tie
 

@@ -1,5 +1,5 @@
 use Rattle.counting.proofs.Prelude.{_≡_, refl, sym, ap, _∙_, ℕ, _+_, _-_, _≤_, _<_, zero-le, arith, length, drop, needs}
-use Rattle.fields.specs.Layout.{lined}
+use Rattle.specification.specs.Layout.{lined}
 use Rattle.fields.proofs.Lining.{lined-empty, lined-begins, lined-goes, lined-ends}
 use Rattle.fields.proofs.is_lined.Statement.{statement}
 use Rattle.fields.proofs.is_lined.Tie as tie

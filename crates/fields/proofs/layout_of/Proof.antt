@@ -1,7 +1,7 @@
 use Rattle.counting.proofs.Prelude.{_≡_, sym, ap, _∙_, ℕ, _+_, arith, getD, eq-eqb, ne-eqb, le-leb, lt-leb, needs}
-use Rattle.fields.specs.declared.Field.the-variants.{Found}
-use Rattle.fields.specs.declared.Layout.the-variants.{Bad}
-use Rattle.fields.specs.Layout.{fieldAt, withEdges, withVertices, layoutOf}
+use Rattle.specification.specs.declared.Field.the-variants.{Found}
+use Rattle.specification.specs.declared.Layout.the-variants.{Bad}
+use Rattle.specification.specs.Layout.{fieldAt, withEdges, withVertices, layoutOf}
 use Rattle.fields.proofs.Placing.{Inside, found-inside}
 use Rattle.fields.proofs.layout_of.Statement.{statement}
 use Rattle.fields.proofs.layout_of.Tie as tie

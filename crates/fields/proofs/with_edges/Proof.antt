@@ -1,7 +1,7 @@
 use Rattle.counting.proofs.Prelude.{_≡_, sym, ap, _∙_, arith, eq-eqb, ne-eqb, needs}
-use Rattle.fields.specs.declared.Field.the-variants.{Found}
-use Rattle.fields.specs.declared.Layout.the-variants.{Bad}
-use Rattle.fields.specs.Layout.{fieldAt, withEdges}
+use Rattle.specification.specs.declared.Field.the-variants.{Found}
+use Rattle.specification.specs.declared.Layout.the-variants.{Bad}
+use Rattle.specification.specs.Layout.{fieldAt, withEdges}
 use Rattle.fields.proofs.Placing.{Inside, found-inside}
 use Rattle.fields.proofs.with_edges.Statement.{statement}
 use Rattle.fields.proofs.with_edges.Tie as tie

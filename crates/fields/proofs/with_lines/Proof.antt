@@ -1,7 +1,7 @@
 use Rattle.counting.proofs.Prelude.{_≡_, sym, ap, _∙_, true, false, ℕ, _+_, _-_, arith, take, drop, eq-eqb, ne-eqb, needs}
-use Rattle.fields.specs.declared.Field.the-variants.{Found}
-use Rattle.fields.specs.declared.Layout.the-variants.{Good, Bad}
-use Rattle.fields.specs.Layout.{fieldAt, lined, withLines}
+use Rattle.specification.specs.declared.Field.the-variants.{Found}
+use Rattle.specification.specs.declared.Layout.the-variants.{Good, Bad}
+use Rattle.specification.specs.Layout.{fieldAt, lined, withLines}
 use Rattle.fields.proofs.Placing.{Inside, found-inside}
 use Rattle.fields.proofs.with_lines.Statement.{statement}
 use Rattle.fields.proofs.with_lines.Tie as tie

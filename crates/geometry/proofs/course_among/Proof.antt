@@ -1,7 +1,8 @@
 -- `geometry::course_among` meets its contract. Assumes nothing.
 use Rattle.counting.proofs.Prelude.{sym, _∙_, arith, eqb, needs}
 use Rattle.masks.specs.Pairs.{inPair}
-use Rattle.geometry.specs.Segment.{pointOf, vertexCount, BlockedAmong}
+use Rattle.specification.specs.Geometry.{BlockedAmong}
+use Rattle.geometry.specs.Segment.{pointOf, vertexCount}
 use Rattle.geometry.proofs.Segments.{hit-rise}
 use Rattle.geometry.proofs.Among.{among-blocked, among-free}
 use Rattle.geometry.proofs.course_among.Statement.{statement}

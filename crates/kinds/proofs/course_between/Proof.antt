@@ -2,7 +2,7 @@
 use Rattle.counting.proofs.Prelude.{sym, ap₂, _∙_, _+_, _≤_, min, max, arith, leb-true, needs}
 use Rattle.counting.specs.Quads.{quad}
 use Rattle.geometry.specs.Segment.{pointOf, vertexCount}
-use Rattle.geometry.specs.Courses.{courseAmong}
+use Rattle.specification.specs.Geometry.{courseAmong}
 use Rattle.geometry.proofs.Among.{among-low}
 use Rattle.kinds.specs.Kinds.{candidate?}
 use Rattle.kinds.proofs.Betweens.{course-masked}

@@ -1,7 +1,7 @@
 use Rattle.counting.proofs.Prelude.{sym, ap, ℕ, _+_, _/_, _%_, _≤_, arith, length, getD, set, lt-ltb, le-ltb, needs}
 use lib.Bits.{bitOr}
 use lib.Seq.{set-out}
-use Rattle.masks.specs.Sets.{inserted}
+use Rattle.specification.specs.Sets.{inserted}
 use Rattle.masks.proofs.Bits.{one-shl}
 use Rattle.masks.proofs.insert.Statement.{statement}
 use Rattle.masks.proofs.insert.Tie as tie

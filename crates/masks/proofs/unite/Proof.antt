@@ -1,5 +1,5 @@
 use Rattle.counting.proofs.Prelude.{_≡_, refl, sym, subst, true≢false, ℕ, _+_, _-_, _≤_, _<_, zero-le, arith, length, le-leb, lt-leb, needs}
-use Rattle.masks.specs.Sets.{United}
+use Rattle.specification.specs.Sets.{United}
 use Rattle.masks.proofs.Sets.{united-none, united-more}
 use Rattle.masks.proofs.unite.Statement.{statement}
 use Rattle.masks.proofs.unite.Tie as tie

@@ -1,7 +1,7 @@
 -- `page::point_at` meets its contract: on the page each product is small, and `quarters` gives each coordinate. Assumes nothing.
 use Rattle.counting.proofs.Prelude.{ap₂, needs}
 use lib.Ieee.{Float}
-use Rattle.page.specs.declared.Point.{Point}
+use Rattle.specification.specs.declared.Point.{Point}
 use Rattle.page.proofs.Drawing.{OnPage, on}
 use Rattle.page.proofs.point_at.Statement.{statement}
 use Rattle.page.proofs.point_at.Tie as tie

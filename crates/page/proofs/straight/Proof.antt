@@ -1,7 +1,7 @@
 -- `page::straight` meets its contract: the test fails where every cell is on the page, and then `point_at` gives its points. Assumes nothing.
 use Rattle.counting.proofs.Prelude.{_≡_, refl, sym, ap, ap₂, _∙_, _||_, List, [], _∷_, needs}
-use Rattle.page.specs.declared.Cell.{Cell}
-use Rattle.page.specs.Page.{accepted}
+use Rattle.specification.specs.declared.Cell.{Cell}
+use Rattle.specification.specs.Page.{accepted}
 use Rattle.page.proofs.Drawing.{AllOn, test, refuse, clear, draw}
 use Rattle.page.proofs.straight.Statement.{statement}
 use Rattle.page.proofs.straight.Tie as tie

@@ -2,8 +2,8 @@
 use mathlib.Core.Path.{_≡_, sym, ap}
 use borrow.Author.Needs.{needs}
 use lib.Ieee.{Float}
-use Rattle.page.specs.declared.Polyline.{Polyline}
-use Rattle.page.specs.Page.{answerOf}
+use Rattle.specification.specs.declared.Polyline.{Polyline}
+use Rattle.specification.specs.Page.{answerOf}
 use Rattle.page_test.specs.Begins.{beginsAt}
 use Rattle.page_test.proofs.begins_at.Statement.{statement}
 use Rattle.page_test.proofs.begins_at.Tie as tie

@@ -4,9 +4,9 @@ use mathlib.Core.List.{List}
 use borrow.Author.Needs.{needs}
 use borrow.Author.Tests.{eq-eqb}
 use lib.Ieee.{Float, eq, ofBits, round}
-use Rattle.page.specs.declared.Cell.{Cell}
-use Rattle.page.specs.declared.Polyline.{Polyline}
-use Rattle.page.specs.Page.{toPoints, Answer, Answers, answerOf, answerFor}
+use Rattle.specification.specs.declared.Cell.{Cell}
+use Rattle.specification.specs.declared.Polyline.{Polyline}
+use Rattle.specification.specs.Page.{toPoints, Answer, Answers, answerOf, answerFor}
 use Rattle.page_test.specs.Begins.{beginsAt}
 use Rattle.page_test.proofs.main.Statement.{statement}
 use Rattle.page_test.proofs.main.Tie as tie

@@ -1,5 +1,5 @@
 use borrow.Author.Tests.{eq-eqb, ne-eqb, lt-ltb, le-ltb}
-use Rattle.reach.specs.Refusal.{outsized?}
+use Rattle.specification.specs.Graph.{outsized?}
 use Rattle.scanning.proofs.is_outsized.Statement.{statement}
 use Rattle.scanning.proofs.is_outsized.Tie as tie
 

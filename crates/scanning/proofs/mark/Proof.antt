@@ -1,7 +1,7 @@
 use Rattle.counting.proofs.Prelude.{sym, ap, _∙_, ℕ, _+_, _*_, _/_, _%_, arith, getD, set, eq-eqb, ne-eqb, needs}
 use lib.Bits.{bitOr}
 use Rattle.counting.proofs.Choosing.{choose-yes, choose-no}
-use Rattle.masks.specs.Sets.{member?, inserted}
+use Rattle.specification.specs.Sets.{member?, inserted}
 use Rattle.masks.proofs.Bits.{one-shl}
 use Rattle.masks.proofs.Sets.{member-test}
 use Rattle.scanning.proofs.mark.Statement.{statement}

@@ -1,5 +1,5 @@
 use Rattle.counting.proofs.Prelude.{_≡_, sym, _∙_, false, _*_, _/_, _≤_, min, arith, length, needs}
-use Rattle.reach.specs.Refusal.{outsized?}
+use Rattle.specification.specs.Graph.{outsized?}
 use Rattle.scanning.proofs.Scanning.{outsized-positive, scans-short, scans-outsized, scans-checked}
 use Rattle.scanning.proofs.scanned.Statement.{statement}
 use Rattle.scanning.proofs.scanned.Tie as tie

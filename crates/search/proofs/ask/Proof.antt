@@ -1,5 +1,5 @@
 -- `search::ask` meets its contract: where the first vertex has no predecessor, that is what the search finds. Assumes nothing.
-use Rattle.counting.proofs.Prelude.{refl, sym, true, false, arith, length-set, needs}
+use Rattle.counting.proofs.Prelude.{refl, true, false, needs}
 use Rattle.search.proofs.Going.{going-start, gives-free, shut}
 use Rattle.search.proofs.ask.Statement.{statement}
 use Rattle.search.proofs.ask.Tie as tie

@@ -1,6 +1,6 @@
 -- `search::matched` meets its contract: what is still to be asked gives what the whole rule gives. Assumes nothing.
 use Rattle.counting.proofs.Prelude.{_≡_, refl, sym, ap, _∙_, _-_, _≤_, arith, length, needs}
-use Rattle.matching.specs.Search.{asks, matching}
+use Rattle.specification.specs.Planning.{asks, matching}
 use Rattle.search.specs.Table.{leadsIn}
 use Rattle.search.proofs.Asking.{ask-none, ask-more, ask-all}
 use Rattle.search.proofs.matched.Statement.{statement}

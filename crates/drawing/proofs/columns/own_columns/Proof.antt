@@ -1,6 +1,6 @@
 use Rattle.counting.proofs.Prelude.{_≡_, sym, subst, List, ℕ, _+_, _-_, _≤_, zero-le, arith, getD, needs}
-use Rattle.page.specs.Page as page
-use Rattle.geometry.specs.Placement.{evenGaps}
+use Rattle.specification.specs.Page as page
+use Rattle.specification.specs.Geometry.{evenGaps}
 use Rattle.drawing.specs.Parts.{Owns}
 use Rattle.drawing.proofs.Owning.{owns-none, owns-more, block-within}
 use Rattle.drawing.proofs.columns.own_columns.Statement.{statement}

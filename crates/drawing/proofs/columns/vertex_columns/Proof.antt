@@ -1,4 +1,4 @@
-use Rattle.counting.proofs.Prelude.{_≡_, sym, ap, subst, List, ℕ, _-_, _≤_, _<_, zero-le, arith, length, getD, needs}
+use Rattle.counting.proofs.Prelude.{_≡_, ap, subst, ℕ, _-_, _≤_, _<_, zero-le, arith, getD, needs}
 use Rattle.counting.specs.Quads.{quad}
 use Rattle.drawing.specs.Parts.{Tabled}
 use Rattle.drawing.proofs.Tabling.{tabled-none, tabled-more}

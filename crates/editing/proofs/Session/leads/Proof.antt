@@ -1,5 +1,5 @@
 use Rattle.counting.proofs.Prelude.{arith, needs}
-use Rattle.masks.specs.Sets.{at}
+use Rattle.specification.specs.Sets.{at}
 use Rattle.editing.proofs.Sessions.{outside-tail, outside-head, inside, leads-outside, leads-inside}
 use Rattle.editing.proofs.Session.leads.Statement.{statement}
 use Rattle.editing.proofs.Session.leads.Tie as tie

@@ -1,6 +1,6 @@
 -- `flat::entries::put_arrows` meets its contract. The invariant: the first e entries stand, the reduced ones are counted. Assumes nothing.
 use Rattle.counting.proofs.Prelude.{_≡_, not, _-_, _≤_, arith, needs}
-use Rattle.counting.specs.Count.{count}
+use Rattle.specification.specs.Count.{count}
 use Rattle.flat.specs.Numbers.{given, implied?}
 use Rattle.flat.specs.Pass.{arrowAt}
 use Rattle.flat.proofs.Blocks.{entered, entered-none, entered-more, entered-long, entered-all}

@@ -1,7 +1,7 @@
 -- `flat::hand::hand_over` meets its contract: refused, or the entries are the chart's (`Leaving.antt`, `Charted.antt`). Assumes nothing.
 use Rattle.counting.proofs.Prelude.{_≡_, refl, sym, ap, subst, _∙_, List, ℕ, _*_, _/_, _≤_, arith, length, replicate}
 use lib.Seq.{length-take-le}
-use Rattle.drawing.specs.Drawn.{graphContent}
+use Rattle.specification.specs.Drawn.{graphContent}
 use Rattle.drawing.specs.Laid.{Lists, lists, Laid}
 use Rattle.flat.specs.Hand.{LeftFor}
 use Rattle.flat.proofs.Charted.{words-fit, bundles-fit, arrows-few, ready, charted}

@@ -1,5 +1,5 @@
 use Rattle.counting.proofs.Prelude.{sym, _∙_, needs}
-use Rattle.channels.specs.Given.{verticesOf, unknown?}
+use Rattle.specification.specs.Channels.{verticesOf, unknown?}
 use Rattle.record.proofs.Judging.{first-low, first-high, first-bare, first-known, first-unknown}
 use Rattle.record.proofs.checks.first_of.Statement.{statement}
 use Rattle.record.proofs.checks.first_of.Tie as tie

@@ -1,6 +1,6 @@
 use Rattle.counting.proofs.Prelude.{_≡_, refl, sym, _∙_, arith, needs}
-use Rattle.fields.specs.declared.Layout.the-variants.{Good}
-use Rattle.fields.specs.Layout.{layoutOf}
+use Rattle.specification.specs.declared.Layout.the-variants.{Good}
+use Rattle.specification.specs.Layout.{layoutOf}
 use Rattle.fields.proofs.Standing.{LaidOut, layout-good}
 use Rattle.record.proofs.Readings.{bad-refusal, unread-reads}
 use Rattle.record.proofs.Handing.{read-refused, read-passed}

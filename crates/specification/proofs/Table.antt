@@ -1,0 +1,85 @@
+-- Document 01's proof table, by computation. Assumes nothing.
+use mathlib.Core.Path.{_≡_, refl}
+use mathlib.Core.Bool.{Bool, true, false, _||_}
+use lib.Dec.{eqb, ltb}
+use mathlib.Core.List.{flatten}
+use Rattle.specification.specs.Count.{sum, count, some}
+use Rattle.specification.specs.Sets.{bit, member, inserted}
+use Rattle.specification.specs.Graph.{edge?, reaches?, outsized?, strange?, verdict, refusal, reachable?, alternate, tailsOf, headsOf, alike?, duplicate?}
+use Rattle.specification.specs.Planning.{seen, candidate, predecessorOf, marked, taken, missed, scan, augment, asks, matching, successorFrom, successor, chain, begins, begun, planned}
+use Rattle.specification.specs.Channels.{has, placeFrom, linked, every, channelFrom, channelOf, positionOf, front, lines, filled, linesOf, unknown?, repeats?, lacks?, broken?}
+use Rattle.specification.specs.Layout.{sizeAt, fieldAt, lined, withLines, afterEdges, withEdges, withVertices, layoutOf}
+use Rattle.specification.specs.Checks.{Content, edgesOf, size?, stranger?, double?, ring?, repeated?, lacking?, unled?, looseChecks, laterChecks, firstOf, refusalOf, contentOf, recordRefusal, said}
+use Rattle.specification.specs.Rows.{above, rowWithin}
+use Rattle.specification.specs.Marks.{transitive?, reducedCount}
+use Rattle.specification.specs.Bundles.{alike, gathers, takes, bundleOf, joined, waits, waitsAt, load, before, best, made, rounds, bundles, adjacent?, apart?, side?, bundlesOf}
+use Rattle.specification.specs.Tracks.{lowestFree, earlier, meet, blocks, busy, placed, inRow, inRows, tracks, topIn}
+use Rattle.specification.specs.Geometry.{isHit, isBlocked, blockStart, ownColumn, bendBeside, courseOf}
+use Rattle.specification.specs.Chart.{leads?, descendantsOf, rowOf, rowCount, transitiveEdge?, reducedEdges, channelsOf, tracked, bundled, planOf, tracksIn, columnIn, widthOf, kindBetween, vertexEntry, edgeEntry, bundleEntry, polylineOf}
+use Rattle.specification.specs.Table.{graph1, graph5, housed, graph6, graph7, graph8, moving, meeting, touching, detour, record1, record5, record6, record7, record8, record9, record10, Table}
+use Rattle.specification.specs.Bundles as bundling
+
+-- ---- too many
+
+or-right : (a b : Bool) → b ≡ true → (a || b) ≡ true
+or-right true b e = refl
+or-right false b e = e
+
+outsized-refused : (c : Content) → size? c ≡ true → refusalOf c ≡ 2
+unfolding refusalOf firstOf looseChecks
+outsized-refused c h = rw h
+
+more-words : (c : Content) → c .vertices ≡ 129 → refusalOf c ≡ 2
+unfolding size? outsized?
+more-words c n = outsized-refused c (rw n)
+
+more-arrows : (c : Content) → edgesOf c ≡ 4097 → refusalOf c ≡ 2
+unfolding size? outsized?
+more-arrows c m = outsized-refused c (or-right (eqb (c .vertices) 0 || ltb 128 (c .vertices)) (ltb 4096 (edgesOf c)) (rw m))
+
+-- ---- the table
+
+pub table : Table
+unfolding leads? descendantsOf rowOf rowCount transitiveEdge? reducedEdges channelsOf tracked bundled planOf tracksIn columnIn widthOf kindBetween vertexEntry edgeEntry bundleEntry polylineOf graph1 graph5 housed graph6 graph7 graph8 moving meeting touching detour record1 record5 record6 record7 record8 record9 record10 sum count some bit member inserted edge? reaches? outsized? strange? verdict refusal reachable? seen candidate predecessorOf marked taken missed scan augment asks matching successorFrom successor chain begins begun planned has placeFrom linked every channelFrom channelOf positionOf front lines filled linesOf unknown? repeats? lacks? broken? flatten sizeAt fieldAt lined withLines afterEdges withEdges withVertices layoutOf alternate tailsOf headsOf alike? duplicate? size? stranger? double? ring? repeated? lacking? unled? looseChecks laterChecks firstOf refusalOf contentOf recordRefusal said above rowWithin transitive? reducedCount alike gathers takes bundling.taken bundleOf joined waits waitsAt load before best made rounds bundles adjacent? apart? side? bundlesOf lowestFree earlier meet blocks busy placed inRow inRows tracks topIn isHit isBlocked blockStart ownColumn bendBeside courseOf
+table = record {
+  p1 = (refl, refl, refl, refl);
+  p1-only = refl;
+  p1-record = (refl, refl);
+  p2 = refl;
+  p3 = (refl, refl, refl, refl, refl);
+  p3-used = refl;
+  p4 = (refl, refl, refl, refl, refl, refl);
+  p4-firm = refl;
+  p5-record = (refl, refl);
+  p5-line = refl;
+  p5-bundles = refl;
+  p5-tracks = (refl, refl);
+  p5-own = (refl, refl, refl, refl);
+  p5-counts = (refl, refl);
+  p5-arrows = ((refl, refl, refl), (refl, refl, refl), (refl, refl, refl), (refl, refl, refl), (refl, refl, refl), (refl, refl, refl));
+  p5-drawn = (refl, refl);
+  p6-record = (refl, refl);
+  p6-lines = refl;
+  p6 = (refl, refl, refl);
+  p6-drawn = refl;
+  p7-record = (refl, refl);
+  p7-lines = refl;
+  p7 = (refl, refl, refl);
+  p7-drawn = refl;
+  p8-record = (refl, refl);
+  p8 = (refl, refl);
+  p9 = (refl, refl);
+  p10 = (refl, refl);
+  double-first = refl;
+  header = (refl, refl, refl, refl, refl, refl, refl);
+  words = (refl, refl, refl, refl, refl);
+  arrows = ((refl, refl, refl), (refl, refl, refl), (refl, refl, refl), (refl, refl, refl), (refl, refl, refl), (refl, refl, refl));
+  no-arrows-field = (refl, refl);
+  empty-lines-field = (refl, refl);
+  more-words = more-words;
+  more-arrows = more-arrows;
+  moved = refl;
+  by-routes = refl;
+  shared = (refl, refl, refl);
+  longer = (refl, refl, refl);
+}

@@ -1,0 +1,154 @@
+-- The chart: what is planned of a graph, its entries and its lines (SPECIFICATION.md, 8 and 9). Assumes nothing.
+use mathlib.Core.Bool.{Bool}
+use mathlib.Core.List.{List, [], _∷_}
+use Prim.Native.Nat.{ℕ, _<_}
+use lib.Dec.{eqb}
+use lib.ListN.{length, getD}
+use Rattle.specification.specs.Count.{choose, count}
+use Rattle.specification.specs.Graph.{edge?, reachable?}
+use Rattle.specification.specs.Channels.{channelOf, positionOf, linesOf}
+use Rattle.specification.specs.Planning.{planned}
+use Rattle.specification.specs.Checks.{Content, edgesOf}
+use Rattle.specification.specs.Rows.{row, rowsUsed}
+use Rattle.specification.specs.Marks.{transitive?, reducedCount}
+use Rattle.specification.specs.Bundles.{Bundle, bundleOf, adjacent?, bundlesOf, empty}
+use Rattle.specification.specs.Tracks.{tracks, topIn}
+use Rattle.specification.specs.Geometry.{Point, point, Widths, evenGaps, blockStart, ownColumn, courseOf, gapWidth, trackAt, straight, byTrack}
+use Rattle.specification.specs.declared.Course.{Course}
+use Rattle.specification.specs.declared.Kind.{Kind}
+use Rattle.specification.specs.declared.Kind.the-variants.{Path, PathTransitive, Straight, Bent}
+use Rattle.specification.specs.declared.VertexEntry.{VertexEntry}
+use Rattle.specification.specs.declared.EdgeEntry.{EdgeEntry}
+use Rattle.specification.specs.declared.BundleEntry.{BundleEntry}
+use Rattle.specification.specs.declared.Course.the-variants as course
+use Rattle.specification.specs.Page as page
+
+module _ (c : Content) where
+  -- 'Descent': u leads to v
+  unfoldable pub leads? : ℕ → ℕ → Bool
+  leads? = reachable? (c .vertices) (c .tails) (c .heads)
+
+  unfoldable pub descendantsOf : ℕ → ℕ
+  descendantsOf v = count 128 (leads? v)
+
+  abbrev pub tailOf : ℕ → ℕ
+  tailOf e = getD (c .tails) e 0
+
+  abbrev pub headOf : ℕ → ℕ
+  headOf e = getD (c .heads) e 0
+
+  -- 'Rows'
+  unfoldable pub rowOf : ℕ → ℕ
+  rowOf v = row (edge? (c .tails) (c .heads)) (c .vertices) v
+
+  unfoldable pub rowCount : ℕ
+  rowCount = rowsUsed (edge? (c .tails) (c .heads)) (c .vertices)
+
+  -- 'Implied and firm'
+  unfoldable pub transitiveEdge? : ℕ → Bool
+  transitiveEdge? e = transitive? leads? (c .vertices) (tailOf e) (headOf e)
+
+  unfoldable pub reducedEdges : ℕ
+  reducedEdges = reducedCount leads? (c .vertices) (edgesOf c) (c .tails) (c .heads)
+
+-- ---- what is planned: channels (document 01: lines), bundles, and the track of each bundle
+
+pub record Plan : Type 0 where
+  pub channels : List (List ℕ)
+  pub bundles : List Bundle
+  pub tracks : List ℕ
+
+-- 'Lines': the given ones, in their order, or the planned ones
+unfoldable pub channelsOf : Content → List (List ℕ)
+channelsOf c = choose (c .given) (λ _. linesOf (c .field)) (λ _. planned (leads? c) (c .vertices))
+
+-- 'Bundles': the bundles, and then their tracks
+unfoldable pub tracked : List (List ℕ) → List Bundle → Plan
+tracked ls bs = record {
+  channels = ls;
+  bundles = bs;
+  tracks = tracks (length bs) (λ b. getD bs b empty .channel) (λ b. getD bs b empty .first) (λ b. getD bs b empty .last);
+}
+
+unfoldable pub bundled : Content → List (List ℕ) → Plan
+bundled c ls = tracked ls (bundlesOf (c .vertices) (c .tails) (c .heads) (length ls) (channelOf ls) (positionOf ls) (rowOf c))
+
+unfoldable pub planOf : Content → Plan
+planOf c = bundled c (channelsOf c)
+
+-- ---- places
+
+abbrev pub bundleIn : Plan → ℕ → Bundle
+bundleIn p b = getD (p .bundles) b empty
+
+abbrev pub trackIn : Plan → ℕ → ℕ
+trackIn p b = getD (p .tracks) b 0
+
+-- the number of tracks of a channel: 1 + the highest
+unfoldable pub tracksIn : Plan → ℕ → ℕ
+tracksIn p l = topIn (length (p .bundles)) (λ b. eqb (bundleIn p b .channel) l) (trackIn p)
+
+-- 'Columns and bends': blocks of s + 3 columns
+abbrev pub widths : Plan → Widths
+widths p = evenGaps (tracksIn p)
+
+unfoldable pub columnIn : Plan → ℕ → ℕ
+columnIn p v = ownColumn (widths p) (channelOf (p .channels) v)
+
+unfoldable pub widthOf : Plan → ℕ
+widthOf p = blockStart (widths p) (length (p .channels))
+
+abbrev pub placeOf : Content → Plan → ℕ → Point
+placeOf c p v = point (columnIn p v) (rowOf c v)
+
+-- ---- kinds
+
+abbrev pub crossing : Course → Kind
+crossing course.Straight = Straight
+crossing (course.Bent x y) = Bent (record { column = x; row = y })
+
+-- an edge within a channel is a path edge (document 01: spine arrow) between neighbours, else path-transitive (side arrow), with its
+-- bundle; one that joins two channels (cross arrow) is straight or bent
+unfoldable pub kindBetween : Content → Plan → ℕ → ℕ → Kind
+kindBetween c p u v =
+    choose (eqb (channelOf (p .channels) u) (channelOf (p .channels) v))
+    (λ _. choose (adjacent? (positionOf (p .channels) u) (positionOf (p .channels) v)) (λ _. Path) (λ _. PathTransitive (bundleOf (p .bundles) u v)))
+    (λ _. crossing (courseOf (placeOf c p) (c .vertices) u v))
+
+-- ---- the entries that are handed over
+
+unfoldable pub vertexEntry : Content → Plan → ℕ → VertexEntry
+vertexEntry c p v = record {
+  channel = channelOf (p .channels) v;
+  position = positionOf (p .channels) v;
+  column = columnIn p v;
+  row = rowOf c v;
+  descendants = descendantsOf c v;
+}
+
+unfoldable pub edgeEntry : Content → Plan → ℕ → EdgeEntry
+edgeEntry c p e = record { number = e; kind = kindBetween c p (tailOf c e) (headOf c e); transitive = transitiveEdge? c e }
+
+unfoldable pub bundleEntry : Plan → ℕ → BundleEntry
+bundleEntry p b = record {
+  channel = bundleIn p b .channel;
+  «first_row» = bundleIn p b .first;
+  «last_row» = bundleIn p b .last;
+  track = trackIn p b;
+}
+
+abbrev pub pointAt : VertexEntry → Point
+pointAt v = point (v .column) (v .row)
+
+-- document 01's 'Columns and bends', for the edge u → v: a side arrow runs level to its side column, up, and level; a bent one has one
+-- bend; the others are straight
+unfoldable pub polylineOf : VertexEntry → VertexEntry → Kind → (ℕ → BundleEntry) → List Point
+polylineOf u v Path bundle = straight (pointAt u) (pointAt v)
+polylineOf u v (PathTransitive b) bundle = byTrack (pointAt u) (pointAt v) (trackAt (u .column) gapWidth (bundle b .track))
+polylineOf u v Straight bundle = straight (pointAt u) (pointAt v)
+polylineOf u v (Bent bend) bundle = pointAt u ∷ point (bend .column) (bend .row) ∷ pointAt v ∷ []
+
+-- every point of a polyline stands on document 01's page
+pub data OnPage : List Point → Type 0 where
+  none : OnPage []
+  more : {q : Point} {l : List Point} → q .column < page.columns → q .row < page.rows → OnPage l → OnPage (q ∷ l)

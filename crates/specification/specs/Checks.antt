@@ -1,0 +1,129 @@
+-- The checks of a graph and of a record in their order, and what is sound (SPECIFICATION.md, 1 and 13). Assumes nothing.
+use mathlib.Core.Bool.{Bool, _&&_, _||_, false, true}
+use mathlib.Core.List.{List, [], _∷_}
+use Prim.Native.Nat.{ℕ, _*_, _<_, suc, _≤_}
+use Rattle.specification.specs.Count.{choose, some}
+use Rattle.specification.specs.Graph.{edgeCount, outsized?, strange?, duplicate?, reachable?, tailsOf, headsOf, Reaches, Edge}
+use Rattle.specification.specs.Channels.{linesOf, verticesOf, unknown?, repeats?, lacks?, broken?, times}
+use mathlib.Core.Path.{_≡_}
+use lib.Dec.{eqb}
+use lib.ListN.{length, take, drop, getD}
+use Rattle.specification.specs.declared.Fields.{Fields}
+use Rattle.specification.specs.declared.Layout.{Layout}
+use Rattle.specification.specs.declared.Layout.the-variants.{Good, Bad}
+use Rattle.specification.specs.Layout.{layoutOf}
+
+-- what is checked: vertices, edges, and the bytes of the given channels, if any are given
+pub record Content : Type 0 where
+  pub vertices : ℕ
+  pub tails : List ℕ
+  pub heads : List ℕ
+  pub given : Bool
+  pub field : List ℕ
+
+abbrev pub content : ℕ → List ℕ → List ℕ → Bool → List ℕ → Content
+content n tails heads given field = record { vertices = n; tails = tails; heads = heads; given = given; field = field }
+
+abbrev pub edgesOf : Content → ℕ
+edgesOf c = edgeCount (c .tails) (c .heads)
+
+-- 2 'size': n is 0 or over 128, or m over 4,096
+unfoldable pub size? : Content → Bool
+size? c = outsized? (c .vertices) (edgesOf c)
+
+-- 3 'stranger': an edge or a given channel names a vertex of n or more
+unfoldable pub stranger? : Content → Bool
+stranger? c = some (edgesOf c) (strange? (c .vertices) (c .tails) (c .heads)) || (c .given && unknown? (c .vertices) (verticesOf (c .field)))
+
+-- 4 'double': an edge stands twice
+unfoldable pub double? : Content → Bool
+double? c = duplicate? (edgesOf c) (c .tails) (c .heads)
+
+-- 5 'ring': a vertex reaches itself
+unfoldable pub ring? : Content → Bool
+ring? c = some 128 (λ u. reachable? (c .vertices) (c .tails) (c .heads) u u)
+
+-- 6 'cover': given channels repeat or lack a vertex; two checks with one number, since a later request drops the second
+unfoldable pub repeated? : Content → Bool
+repeated? c = c .given && repeats? (verticesOf (c .field))
+
+unfoldable pub lacking? : Content → Bool
+lacking? c = c .given && lacks? (c .vertices) (verticesOf (c .field))
+
+-- 7 'broken': a vertex of a given channel is not reached from the one before
+unfoldable pub unled? : Content → Bool
+unled? c = c .given && broken? (reachable? (c .vertices) (c .tails) (c .heads)) (linesOf (c .field))
+
+pub record Check : Type 0 where
+  pub number : ℕ
+  pub fails : Content → Bool
+
+abbrev pub check : ℕ → (Content → Bool) → Check
+check k f = record { number = k; fails = f }
+
+-- those of edges alone, and then the others
+unfoldable pub looseChecks : List Check
+looseChecks = check 2 size? ∷ check 3 stranger? ∷ check 4 double? ∷ []
+
+unfoldable pub laterChecks : List Check
+laterChecks = check 5 ring? ∷ check 6 repeated? ∷ check 6 lacking? ∷ check 7 unled? ∷ []
+
+-- the number of the first check that fails, else what follows
+unfoldable pub firstOf : List Check → Content → ℕ → ℕ
+firstOf [] c rest = rest
+firstOf (k ∷ ks) c rest = choose (k .fails c) (λ _. k .number) (λ _. firstOf ks c rest)
+
+unfoldable pub refusalOf : Content → ℕ
+refusalOf c = firstOf looseChecks c (firstOf laterChecks c 0)
+
+-- the vertices, edges and given channels of a record whose fields stand as they must
+unfoldable pub contentOf : List ℕ → Fields → Content
+contentOf b f =
+    content (f .vertices) (tailsOf (take (2 * f .count) (drop (f .edges) b))) (headsOf (take (2 * f .count) (drop (f .edges) b))) (f .given)
+    (take (f .size) (drop (f .lines) b))
+
+abbrev pub nothing : Content
+nothing = content 0 [] [] false []
+
+-- the number that a record gets by some of the checks: 1 'layout' before everything, then the first of them that its content fails
+abbrev pub refusalIn : (Content → ℕ) → List ℕ → Layout → ℕ
+refusalIn refuse b Bad = 1
+refusalIn refuse b (Good f) = refuse (contentOf b f)
+
+unfoldable pub recordRefusal : List ℕ → ℕ
+recordRefusal b = refusalIn refusalOf b (layoutOf b)
+
+abbrev pub contentIn : List ℕ → Layout → Content
+contentIn b Bad = nothing
+contentIn b (Good f) = contentOf b f
+
+-- what a record says where it is accepted; a refused one says nothing
+unfoldable pub said : List ℕ → Content
+said b = choose (eqb (recordRefusal b) 0) (λ _. contentIn b (layoutOf b)) (λ _. nothing)
+
+-- u reaches v by one or more edges of the content
+abbrev pub Leads : Content → ℕ → ℕ → Type 0
+Leads c = Reaches (Edge (c .tails) (c .heads))
+
+-- given channel k, as a list of vertices
+abbrev pub givenLine : Content → ℕ → List ℕ
+givenLine c k = getD (linesOf (c .field)) k []
+
+pub record Sound (c : Content) : Type 0 where
+  -- not 2: 1 to 128 vertices, at most 4,096 edges
+  pub size : (0 < c .vertices) × (c .vertices ≤ 128) × (edgesOf c ≤ 4096)
+  -- not 3: edges and given channels name vertices alone
+  pub ends : (i : ℕ) → i < edgesOf c → (getD (c .tails) i 0 < c .vertices) × (getD (c .heads) i 0 < c .vertices)
+  pub named : c .given ≡ true → (v : ℕ) → c .vertices ≤ v → times v (verticesOf (c .field)) ≡ 0
+  -- not 4: two edge numbers with the same ends are one number
+  pub distinct : (i j : ℕ) → i < edgesOf c → j < edgesOf c → getD (c .tails) i 0 ≡ getD (c .tails) j 0 → getD (c .heads) i 0 ≡ getD (c .heads) j 0 → i ≡ j
+  -- not 5: no vertex reaches itself
+  pub acyclic : (u : ℕ) → Leads c u u → ⊥
+  -- not 6: each vertex stands in the given channels once
+  pub once : c .given ≡ true → (v : ℕ) → v < c .vertices → times v (verticesOf (c .field)) ≡ 1
+  -- not 7: each vertex of a given channel is reached from the one before
+  pub led : c .given ≡ true → (k j : ℕ) → suc j < length (givenLine c k) → Leads c (getD (givenLine c k) j 0) (getD (givenLine c k) (suc j) 0)
+
+-- a record is sound: its fields stand as they must, and what they say is sound
+abbrev pub SoundRecord : List ℕ → Type 0
+SoundRecord b = (f : Fields) × (layoutOf b ≡ Good f) × Sound (contentOf b f)

@@ -1,0 +1,41 @@
+-- What a call draws into lists of given lengths (SPECIFICATION.md, 9 and 13). Assumes nothing.
+use mathlib.Core.Bool.{Bool, _||_}
+use mathlib.Core.List.{List}
+use Prim.Native.Nat.{ℕ}
+use lib.Dec.{eqb, ltb}
+use lib.ListN.{length}
+use Rattle.specification.specs.Count.{choose}
+use Rattle.specification.specs.Graph.{tailsOf, headsOf}
+use Rattle.specification.specs.Checks.{Content, content, edgesOf, refusalOf, nothing, recordRefusal, said}
+use Rattle.specification.specs.Chart.{planOf}
+
+pub record Drawn : Type 0 where
+  pub refusal : ℕ
+  pub graph : Content
+
+-- the number of the first check that fails, and the graph if none does
+unfoldable pub judged : ℕ → Content → Drawn
+judged k c = record { refusal = k; graph = choose (eqb k 0) (λ _. c) (λ _. nothing) }
+
+unfoldable pub recordDrawn : List ℕ → Drawn
+recordDrawn b = record { refusal = recordRefusal b; graph = said b }
+
+-- a neutral graph: so many vertices, the bytes of its edges' ends, two an edge, and the bytes of its given channels, if any are given
+unfoldable pub graphContent : ℕ → List ℕ → Bool → List ℕ → Content
+graphContent n ends given field = content n (tailsOf ends) (headsOf ends) given field
+
+unfoldable pub graphDrawn : ℕ → List ℕ → Bool → List ℕ → Drawn
+graphDrawn n ends given field = judged (refusalOf (graphContent n ends given field)) (graphContent n ends given field)
+
+-- ---- 8 'short'
+
+-- a list of v, e or b entries has fewer than there are vertices, edges or bundles
+unfoldable pub short? : ℕ → ℕ → ℕ → Drawn → Bool
+short? v e b d = ltb v (d .graph .vertices) || (ltb e (edgesOf (d .graph)) || ltb b (length (planOf (d .graph) .bundles)))
+
+abbrev pub refusedBy : ℕ → Drawn
+refusedBy k = record { refusal = k; graph = nothing }
+
+-- what is drawn into lists of these lengths; what is refused already has no entry, and so is never short
+unfoldable pub lent : ℕ → ℕ → ℕ → Drawn → Drawn
+lent v e b d = choose (short? v e b d) (λ _. refusedBy 8) (λ _. d)

@@ -1,0 +1,9 @@
+mod Bundles
+mod Machine
+mod Geometry
+mod Rows
+mod Planning
+mod Page
+mod Graph
+mod Marks
+mod Tracks

@@ -1,0 +1,87 @@
+// What is handed over, and the definitions of what is right (specs/): all that a promise rests on.
+
+// A tagged field: its bytes begin at `start`, and there are `size` of them.
+pub enum Field {
+    Found { start: usize, size: usize },
+    Missing,
+}
+
+// Where the fields of a record stand. Edge i has its tail at edges + 2 i and its head after it, and there are `count` of them. The given
+// channels (document 01: house lines) are the `size` bytes from `lines` on, where `given` says so.
+pub struct Fields {
+    pub vertices: usize,
+    pub edges: usize,
+    pub count: usize,
+    pub given: bool,
+    pub lines: usize,
+    pub size: usize,
+}
+
+pub enum Layout {
+    Good(Fields),
+    Bad,
+}
+
+// How a cross edge runs: straight, or with one bend at a column and a row.
+pub enum Course {
+    Straight,
+    Bent(u16, u8),
+}
+
+// A vertex as it is handed over (document 01: per word its line, position, column, row and number of descendants).
+pub struct VertexEntry {
+    pub channel: u8,
+    pub position: u8,
+    pub column: u16,
+    pub row: u8,
+    pub descendants: u8,
+}
+
+// Where an edge bends.
+pub struct Bend {
+    pub column: u16,
+    pub row: u8,
+}
+
+// Document 01's kinds: spine, side with its bundle, straight, bent with its bend.
+pub enum Kind {
+    Path,
+    PathTransitive(u16),
+    Straight,
+    Bent(Bend),
+}
+
+// An edge as it is handed over, with its mark: transitive (document 01: implied) or reduced (firm).
+pub struct EdgeEntry {
+    pub number: u16,
+    pub kind: Kind,
+    pub transitive: bool,
+}
+
+// A bundle as it is handed over: its channel, its rows, both included, and its track (document 01: side column).
+pub struct BundleEntry {
+    pub channel: u8,
+    pub first_row: u8,
+    pub last_row: u8,
+    pub track: u8,
+}
+
+// A whole column and row, on the page or not.
+pub struct Cell {
+    pub column: u32,
+    pub row: u32,
+}
+
+// Points across and points up (document 01: page place).
+pub struct Point {
+    pub x: f32,
+    pub y: f32,
+}
+
+// A line through two, three or four points, or that one of them would be off the page (document 01: page stroke).
+pub enum Polyline {
+    Straight(Point, Point),
+    Bent(Point, Point, Point),
+    Side(Point, Point, Point, Point),
+    OffPage,
+}
