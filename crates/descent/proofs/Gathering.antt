@@ -10,7 +10,8 @@ use Rattle.masks.proofs.Tables.{at-lt}
 use Rattle.masks.proofs.Clearing.{clear}
 use Rattle.masks.proofs.Visiting.{Visited, visited-none, visited-all, visited-more, lowest-lt, lowest-in}
 use Rattle.masks.proofs.Pairing.{pair-lt, pair-low, pair-high, pair-zero, pair-or, pair-at, max-split, max-make}
-use Rattle.descent.specs.Members.{Long, Gathered, Pictured}
+use Rattle.descent.specs.Members.{Long, Gathered, FirstGathered, Pictured}
+use Rattle.descent.specs.Closed.{Inside}
 
 -- a list that has numbers for the members of a set has them for those of its two masks
 pub long-both : (w : ℕ) (t : List ℕ) (low high : ℕ) → ((v : ℕ) → v < 128 → inPair low high v ≡ 1 → w * v + w ≤ length t)
@@ -93,3 +94,35 @@ pictured-both t low high c d a b f g = record { here = λ v h. ((λ e. out v h (
         let k : w - 64 < 64 = omega arith in
         g .here v h .1 (inr (w - 64, k, sym (pair-high low high (w - 64) k) ∙ subst (λ (x : ℕ). inPair low high x ≡ 1) q m, subst (λ (x : ℕ). at 2 t x v ≡ 1) q e)))
         (lt-or-le w 64)
+
+-- the first masks alone, where no vertex is above 63
+pub pictured-first : (t : List ℕ) (n low high a : ℕ) → n ≤ 64 → Inside t n → ((v : ℕ) → v < 128 → inPair low high v ≡ 1 → v < n)
+    → FirstGathered t low a → Pictured t low high a 0
+pictured-first t n low high a few inside members f = record { here = λ v h. (out v h, λ p. into v h (p .0) (p .1) (p .2) (p .3)) }
+  where
+    b : ℕ
+    b = f .second
+
+    same : (v : ℕ) → v < 64 → inPair a 0 v ≡ inPair a b v
+    same v l = pair-low a 0 v l ∙ sym (pair-low a b v l)
+
+    out : (v : ℕ) → v < 128 → inPair a 0 v ≡ 1 → (w : ℕ) × (w < 128) × (inPair low high w ≡ 1) × (at 2 t w v ≡ 1)
+    out v h e =
+        ⊎-elim
+        (λ l. ⊎-elim
+        (λ z. absurd (let n = pair-zero v h in omega arith))
+        (λ p. (p .0, (let l = p .1 in omega arith), pair-low low high (p .0) (p .1) ∙ p .2, subst (λ (x : ℕ). at 2 t x v ≡ 1) (let q : 0 + p .0 ≡ p .0 = omega arith in q) (p .3)))
+        (f .gathered .here v h .0 (sym (same v l) ∙ e)))
+        (λ l.
+        let q : 64 + (v - 64) ≡ v = omega arith in
+        let k : v - 64 < 64 = omega arith in
+        let z = pair-zero v h in
+        absurd (let y : inPair a 0 v ≡ inPair 0 0 v = ap (inPair a 0) (sym q) ∙ pair-high a 0 (v - 64) k ∙ sym (pair-high 0 0 (v - 64) k) ∙ ap (inPair 0 0) q in omega arith))
+        (lt-or-le v 64)
+
+    into : (v : ℕ) → v < 128 → (w : ℕ) → w < 128 → inPair low high w ≡ 1 → at 2 t w v ≡ 1 → inPair a 0 v ≡ 1
+    into v h w hw m e =
+        let lw : w < 64 = (let k = members w hw m in omega arith) in
+        let lv : v < 64 = (let k = inside .head w v (hw, h, e) in omega arith) in
+        same v lv
+        ∙ f .gathered .here v h .1 (inr (w, lw, sym (pair-low low high w lw) ∙ m, subst (λ (x : ℕ). at 2 t x v ≡ 1) (let q : w ≡ 0 + w = omega arith in q) e))

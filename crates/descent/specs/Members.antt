@@ -23,6 +23,11 @@ pub record Gathered (t : List ℕ) (mask base c d a b : ℕ) : Type 0 where
   pub here : (v : ℕ) → v < 128
       → inPair a b v ≡ 1 ↔ ((inPair c d v ≡ 1) ⊎ ((j : ℕ) × (j < 64) × (bit mask j ≡ 1) × (at 2 t (base + j) v ≡ 1)))
 
+-- of sets so gathered, into an empty one, a is the first mask
+pub record FirstGathered (t : List ℕ) (mask a : ℕ) : Type 0 where
+  pub second : ℕ
+  pub gathered : Gathered t mask 0 0 0 a second
+
 -- the set a, b is the union of the sets that the table has for the members of the set low, high
 pub record Pictured (t : List ℕ) (low high a b : ℕ) : Type 0 where
   pub here : (v : ℕ) → v < 128 → inPair a b v ≡ 1 ↔ ((w : ℕ) × (w < 128) × (inPair low high w ≡ 1) × (at 2 t w v ≡ 1))

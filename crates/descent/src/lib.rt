@@ -7,8 +7,9 @@ ghost use Prim.Native.Nat.{ℕ, _+_, _*_, _≤_, _<_, min};
 ghost use lib.Count.{ones};
 ghost use lib.ListN.{length};
 ghost use Rattle.specification.specs.Sets.{bit};
+ghost use Rattle.masks.specs.Pairs.{inPair};
 ghost use Rattle.scanning.specs.Scanned.{Blank};
-ghost use Rattle.descent.specs.Members.{Below, Long, Gathered, Pictured, Nested, Covered, Written};
+ghost use Rattle.descent.specs.Members.{Below, Long, Gathered, FirstGathered, Pictured, Nested, Covered, Written};
 ghost use Rattle.descent.specs.Closed.{Arc, Ample, Reached, Finished, Vertex, Row, Inside, Prefixes, Laid, Closed, Layered};
 ghost use Rattle.descent.specs.Promise.{noDescent, fits?, Descends};
 
@@ -66,11 +67,31 @@ fn gather(table: &[u64], mask: u64, base: usize, low: u64, high: u64) -> Pair
     Pair { low: a, high: b }
 }
 
-// The union of the sets of the members of a set of two masks.
-fn image(table: &[u64], low: u64, high: u64) -> Pair
-    requires { ⌜ Long 2 (now table) low 0 × Long 2 (now table) high 64 ⌝ }
+// The first masks of the sets of a mask's members, put together.
+fn gather_first(table: &[u64], mask: u64) -> u64
+    requires { ⌜ Long 2 (now table) mask 0 ⌝ }
+    ensures { λ r. ⌜ FirstGathered (now (table .entry)) mask r ⌝ }
+{
+    let mut a: u64 = 0;
+    let mut x = mask;
+    while x != 0 {
+        let w = u64::trailing_zeros(x) as usize;
+        a = a | table[2 * w];
+        x = x & (x - 1);
+    }
+    a
+}
+
+// The union of the sets of the members of a set of two masks, all of them among n vertices. Of at most 64 the second masks are empty, and
+// are not read.
+fn image(table: &[u64], n: usize, low: u64, high: u64) -> Pair
+    requires { ⌜ Long 2 (now table) low 0 × Long 2 (now table) high 64 × Inside (now table) n × ((v : ℕ) → v < 128 → inPair low high v ≡ 1 → v < n) ⌝ }
     ensures { λ r. ⌜ Pictured (now (table .entry)) low high (r .low) (r .high) ⌝ }
 {
+    if n <= 64 {
+        let a = gather_first(table, low);
+        return Pair { low: a, high: 0 };
+    }
     let p = gather(table, low, 0, 0, 0);
     gather(table, high, 64, p.low, p.high)
 }
@@ -139,7 +160,7 @@ fn grown(edges: &[u64], n: usize, places: &mut [u8], below: &mut [u64]) -> usize
     let mut high = second;
     let mut r: usize = 0;
     while r < n {
-        let p = image(edges, low, high);
+        let p = image(edges, n, low, high);
         let a = low & p.low;
         let b = high & p.high;
         set_rows(low & !a, 0, r as u8, places);

@@ -112,7 +112,8 @@ fn capped(n: usize) -> usize
     n
 }
 
-// Has h ask for a successor. Mostly the first vertex that it leads to has no predecessor, and there is nothing to search.
+// Has h ask for a successor. Mostly the first vertex that it leads to has no predecessor, or one whose next vertex has none, and there is
+// nothing to search.
 fn ask(table: &[u64], n: usize, h: u8, predecessor: &mut [u8])
     requires { ⌜ (n ≤ 128) × (length (now predecessor) ≡ 128) ⌝ }
     ensures { λ _. ⌜ Asks (leadsIn (now (table .entry))) n h (now (predecessor .entry)) (now (predecessor .exit)) ⌝ }
@@ -120,11 +121,22 @@ fn ask(table: &[u64], n: usize, h: u8, predecessor: &mut [u8])
     let mut visited = [0u64; 2];
     let v = next_open(table, h, &visited);
     if v < n {
-        if predecessor[v] == NOBODY {
+        let k = predecessor[v];
+        if k == NOBODY {
             predecessor[v] = h;
             return;
         }
-        augment(table, n, h, predecessor, &mut visited);
+        visit(&mut visited, v);
+        let w = next_open(table, k, &visited);
+        if w < n {
+            if predecessor[w] == NOBODY {
+                predecessor[w] = k;
+                predecessor[v] = h;
+                return;
+            }
+        }
+        let mut anew = [0u64; 2];
+        augment(table, n, h, predecessor, &mut anew);
     }
 }
 

@@ -39,7 +39,10 @@ loop-holds c =
     )
 
 image-requires : tie.Need-image-requires Inv-loop μ-loop
-image-requires c κs = let l = c .before .loop in round-long _ _ (l .r) (l .low) (l .high) _ _ _ (l .inv .7) (l .inv .2)
+image-requires c κs =
+    let l = c .before .loop in
+    let room = round-long _ _ (l .r) (l .low) (l .high) _ _ _ (l .inv .7) (l .inv .2) in
+    (room .0, room .1, c .before .before .before .before .before .before .pre .4, λ v h i. l .inv .7 .growing v h .0 i .0)
 
 set-rows-requires : tie.Need-set-rows-requires Inv-loop μ-loop
 set-rows-requires c κs =

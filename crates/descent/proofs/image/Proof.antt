@@ -1,12 +1,17 @@
 use borrow.Author.Needs.{needs}
-use Rattle.descent.proofs.Gathering.{pictured-both}
+use Rattle.descent.proofs.Gathering.{pictured-both, pictured-first}
 use Rattle.descent.proofs.image.Statement.{statement}
 use Rattle.descent.proofs.image.Tie as tie
 
 returns : tie.Need-returns
 returns c =
-    let a = c .before .before .before .args in
+    let st = c .before .before .before in
+    pictured-first (st .args .table .now) (st .args .n) (st .args .low) (st .args .high) _ (c .before .if1 .taken) (st .pre .2) (st .pre .3) (c .gather-first .ensures)
+
+returns-2 : tie.Need-returns-2
+returns-2 c =
+    let a = c .before .before .before .before .args in
     pictured-both (a .table .now) (a .low) (a .high) _ _ _ _ (c .before .gather .ensures) (c .gather2 .ensures)
 
 pub image-spec : {M : Type 1} → statement M
-image-spec = tie.close (tie.spec (λ c κs. search needs) (λ c κs. search needs) returns)
+image-spec = tie.close (tie.spec (λ c κs. search needs) returns (λ c κs. search needs) (λ c κs. search needs) returns-2)
