@@ -1,4 +1,4 @@
-/* Ceviloneth: descent charts by lines and rows, for C and whatever calls C.
+/* Ceviloneth, a layout engine for descent charts, for C and whatever calls C. docs/SPECIFICATION.md has the rules, by number.
  *
  * Link with libceviloneth.a (x86-64 Linux). The library keeps nothing between calls, allocates nothing and uses memcpy and memset alone, so
  * calls may run at the same time on lists of their own. A call takes up to 48 KB of stack.
@@ -7,17 +7,17 @@
  * aligned for its type. The lists of one call do not overlap. Beyond this every call takes any values: a damaged record, a short list,
  * any numbers in a session. It then refuses, or answers as said below.
  *
- * Refusals. Each call tells 0, or why it refuses:
- *    1 layout    the record's fields, lengths or order are not as they must be
+ * Refusals. Each call tells 0, or why it refuses (13):
+ *    1 layout    the bytes are not laid out as a record's (1)
  *    2 size      no word or more than 128, or more than 4,096 arrows
  *    3 stranger  a word that is not there is named
- *    4 double    an arrow stands twice
- *    5 ring      a word leads to itself
- *    6 cover     house lines lack or repeat a word
- *    7 broken    a house line's word isn't led to by the one before
+ *    4 double    two arrows have the same ends
+ *    5 ring      some word leads back to itself
+ *    6 cover     a word is in no house line, or more than once in them
+ *    7 broken    a word of a house line does not lead to the next
  *    8 short     a lent list is too short
  *    9 full      the session has 4,096 arrows
- *   10 off page  a column of 640 or more, or a row of 128 or more
+ *   10 off page  a column that is not below 640, or a row that is not below 128
  * A call that refuses changes nothing in any list, and every other number that it returns is 0.
  */
 #ifndef CEVILONETH_H
@@ -53,7 +53,7 @@ typedef struct {
  *   words    word i has the numbers 5i to 5i+4: line, position in the line, column, row, number of descendants
  *   arrows   arrow i has 5i to 5i+4: its number i; its kind, 0 spine, 1 side, 2 straight, 3 bent; the bundle's number if it is a side
  *            arrow or the bend's column if it is bent, else 0; the bend's row if it is bent, else 0; 1 if it is implied, else 0
- *   bundles  bundle i has 4i to 4i+3: line, first row, last row, side column
+ *   bundles  bundle i has 4i to 4i+3: line, the first and the last row, side column
  * Refusals 1 to 7 of the record, then 8 where a list has no room for all its entries. Numbers past the last entry stay as they were. */
 ceviloneth_counts ceviloneth_chart(const uint8_t *record, size_t record_len,
                                    uint16_t *words, size_t words_len,
@@ -72,8 +72,8 @@ ceviloneth_answer ceviloneth_leads(const uint8_t *record, size_t record_len, siz
 
 /* ---- sessions: a graph that grows arrow by arrow, in a list that the caller keeps */
 
-/* The numbers of a session: words, arrows, 256 masks of arrows, 256 masks of descent. A mask has bit v mod 64, lowest first, of mask
- * 2u + v/64 for an arrow (or a descent) from word u to word v. */
+/* The numbers of a session: words, arrows, 256 masks of arrows, 256 masks of descent. An arrow (or
+ * a descent) from word u to word v is bit v mod 64, the lowest being 0, of mask 2u + v/64 (2.2). */
 #define CEVILONETH_STATE 514
 
 /* Every call refuses with 8 first where the list is shorter than that. Numbers past 514 stay as they were. A list that was not made by
@@ -85,10 +85,10 @@ uint8_t ceviloneth_session_start(uint64_t *state, size_t state_len, size_t words
 /* Adds an arrow. Refusals 3, 4, 5 and 9, in this order. */
 uint8_t ceviloneth_session_add(uint64_t *state, size_t state_len, size_t from, size_t to);
 
-/* Whether one word leads to another by the arrows added. Refusal 3. */
+/* Whether the arrows added lead from one word to the other. Refusal 3. */
 ceviloneth_answer ceviloneth_session_leads(const uint64_t *state, size_t state_len, size_t from, size_t to);
 
-/* ---- page strokes: places by column and row, as points across (x) and up (y), each exactly a quarter of a whole number */
+/* ---- page strokes: places by column and row, as points across (x) and up (y), in exact quarters (12.1) */
 
 typedef struct {
     uint8_t refusal;

@@ -11,7 +11,7 @@ sys.dont_write_bytecode = True
 sys.path.insert(0, str(HERE.parent / 'tests' / 'compare'))
 from records import build, graph, listing, vectors
 
-# of the paper's proof table, with listings read off the paper
+# of the worked examples (docs/SPECIFICATION.md, 16.1), with listings read off the rules
 PAPER = ['P1', 'P5', 'P6', 'P7']
 
 
@@ -25,7 +25,7 @@ def house():
 
 
 def wide():
-    """Layers of 31 words, arrows from all of a layer to all of the next, then to all of the one after it, as many as a record may have."""
+    """Rows of 31 words, arrows from all of a row to all of the next, then to all of the one after it, as many as a record may have."""
     layers = [range(first, min(first + 31, 128)) for first in range(0, 128, 31)]
     pairs = [(u, v) for rise in (1, 2) for low, high in zip(layers, layers[rise:]) for u in low for v in high]
     return graph(128, pairs[:4096])

@@ -1,5 +1,5 @@
 #!/usr/bin/env python3
-"""Compares the proved program `chart` with listings, byte for byte: the samples, the paper's vectors, the edges, and random records.
+"""Compares the proved program `chart` with listings, byte for byte: the samples, the vectors, the limits, and random records.
 
     charts.py [SEED [COUNT]]
 

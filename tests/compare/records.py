@@ -31,7 +31,7 @@ def dense(count):
     return [(u, v) for v in range(128) for u in range(v)][:count]
 
 
-# document 01's edges, and what it says of them
+# the limits of what is accepted, and near them (docs/SPECIFICATION.md, 16.2)
 EDGES = [
     ('128 words, 4,096 arrows', graph(128, dense(4096)), 'accepted'),
     ('129 words', graph(129, []), 'refused 2'),

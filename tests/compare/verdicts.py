@@ -1,5 +1,5 @@
 #!/usr/bin/env python3
-"""Compares the proved program `verdict` with the second implementation: the paper's vectors, the edges, and random records.
+"""Compares the proved program `verdict` with the second implementation: the vectors, the limits, and random records.
 
     verdicts.py [SEED [COUNT]]
 

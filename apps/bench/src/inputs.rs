@@ -232,7 +232,7 @@ fn deepest_search() -> Record {
     path(&order.collect::<Vec<_>>())
 }
 
-/// Layers of four words, each word to all of the next layer.
+/// Rows of four words, each word to all of the next row.
 fn layered(words: usize) -> Record {
     let next = |u: usize| 4 * (u / 4 + 1);
     record(

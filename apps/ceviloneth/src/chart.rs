@@ -34,7 +34,7 @@ pub struct Counts {
     pub firm: usize,
     /// The number of columns.
     pub width: usize,
-    /// The number of side columns of each line, 0 past the last.
+    /// How many side columns each line has, 0 past the last.
     pub side_columns: [u16; MOST_WORDS],
 }
 

@@ -1,7 +1,8 @@
 //! Safe calls to the proved layout engine for descent charts.
 //!
 //! The engine is an archive, `libceviloneth.a`, whose calls are proved for any bytes and any lists.
-//! This crate lends it slices and hands back owned values; a refusal is document 01's.
+//! This crate lends it slices and hands back owned values; refusals are by number
+//! (docs/SPECIFICATION.md, 13).
 //!
 //!     let chart = ceviloneth::chart(&record)?;
 //!     println!("{} rows, {} lines", chart.counts.rows, chart.counts.lines);

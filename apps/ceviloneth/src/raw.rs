@@ -5,7 +5,7 @@ use crate::chart::MOST_WORDS;
 /// What a chart call answers; every number but the first is 0 where it is refused.
 #[repr(C)]
 pub struct ChartCounts {
-    /// Document 01's number, or 0.
+    /// Why it is refused, or 0.
     pub refusal: u8,
     /// The number of words.
     pub words: usize,
@@ -21,7 +21,7 @@ pub struct ChartCounts {
     pub firm: u16,
     /// The number of columns.
     pub width: u16,
-    /// The number of side columns of each line, 0 past the last.
+    /// How many side columns each line has, 0 past the last.
     pub side_columns: [u16; MOST_WORDS],
 }
 
@@ -29,7 +29,7 @@ pub struct ChartCounts {
 #[repr(C)]
 #[derive(Clone, Copy, Debug, PartialEq, Eq)]
 pub struct Answer {
-    /// Document 01's number, or 0.
+    /// Why it is refused, or 0.
     pub refusal: u8,
     /// 1 where the first word leads to the second; 0 where it doesn't or the call is refused.
     pub leads: u8,
@@ -39,7 +39,7 @@ pub struct Answer {
 #[repr(C)]
 #[derive(Clone, Copy, Debug, PartialEq)]
 pub struct Stroke {
-    /// Document 01's number, or 0.
+    /// Why it is refused, or 0.
     pub refusal: u8,
     /// How many points the stroke has.
     pub points: u8,

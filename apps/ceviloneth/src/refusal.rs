@@ -1,4 +1,4 @@
-//! Document 01's ten refusals.
+//! The ten refusals (docs/SPECIFICATION.md, 13).
 
 use std::fmt;
 
@@ -6,19 +6,19 @@ use std::fmt;
 #[derive(Clone, Copy, Debug, PartialEq, Eq, PartialOrd, Ord, Hash)]
 #[repr(u8)]
 pub enum Refusal {
-    /// Fields, lengths or order are not a record's.
+    /// The bytes are not laid out as a record's.
     Layout = 1,
     /// No word, more than 128 words, or more than 4,096 arrows.
     Size,
     /// An arrow or a line names a word that isn't there.
     Stranger,
-    /// An arrow stands twice.
+    /// Two arrows have the same ends.
     Double,
-    /// A word leads to itself.
+    /// Some word leads back to itself.
     Ring,
-    /// House lines lack or repeat a word.
+    /// A word is in no house line, or more than once in them.
     Cover,
-    /// A house line's word isn't led to by the one before.
+    /// A word of a house line does not lead to the next.
     Broken,
     /// A lent list is too short.
     Short,
@@ -28,12 +28,12 @@ pub enum Refusal {
     OffPage,
 }
 
-/// Each refusal with document 01's word for it, and when it is given.
+/// Each refusal with its word, and when it is given.
 const TABLE: [(Refusal, &str, &str); 10] = [
     (
         Refusal::Layout,
         "layout",
-        "fields, lengths or order are not a record's",
+        "the bytes are not laid out as a record's",
     ),
     (
         Refusal::Size,
@@ -45,13 +45,17 @@ const TABLE: [(Refusal, &str, &str); 10] = [
         "stranger",
         "an arrow or a line names a word that isn't there",
     ),
-    (Refusal::Double, "double", "an arrow stands twice"),
-    (Refusal::Ring, "ring", "a word leads to itself"),
-    (Refusal::Cover, "cover", "house lines lack or repeat a word"),
+    (Refusal::Double, "double", "two arrows have the same ends"),
+    (Refusal::Ring, "ring", "some word leads back to itself"),
+    (
+        Refusal::Cover,
+        "cover",
+        "a word is in no house line, or more than once in them",
+    ),
     (
         Refusal::Broken,
         "broken",
-        "a house line's word isn't led to by the one before",
+        "a word of a house line does not lead to the next",
     ),
     (Refusal::Short, "short", "a lent list is too short"),
     (Refusal::Full, "full", "the session has 4,096 arrows"),
@@ -59,12 +63,12 @@ const TABLE: [(Refusal, &str, &str); 10] = [
 ];
 
 impl Refusal {
-    /// Document 01's number.
+    /// Its number.
     pub fn number(self) -> u8 {
         self as u8
     }
 
-    /// Document 01's word.
+    /// Its word.
     pub fn word(self) -> &'static str {
         TABLE[usize::from(self.number()) - 1].1
     }

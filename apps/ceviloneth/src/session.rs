@@ -25,7 +25,7 @@ impl Session {
         Refusal::of_number(raw::session_add(&mut self.state, from, to))
     }
 
-    /// Whether one word leads to another.
+    /// Whether the arrows added lead from one word to the other.
     pub fn leads(&self, from: usize, to: usize) -> Result<bool, Refusal> {
         raw::session_leads(&self.state, from, to).answer()
     }

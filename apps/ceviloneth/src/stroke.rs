@@ -12,7 +12,7 @@ pub struct Place {
     pub row: u32,
 }
 
-/// A point of the page, each number exactly a quarter of a whole one.
+/// A point of the page, in exact quarters.
 #[derive(Clone, Copy, Debug, PartialEq)]
 pub struct Point {
     /// Points across.

@@ -50,7 +50,7 @@ fn kinds_carry_their_numbers() {
 }
 
 #[test]
-fn refusals_have_the_paper_s_numbers_and_words() {
+fn refusals_have_their_numbers_and_words() {
     let words = [
         "layout", "size", "stranger", "double", "ring", "cover", "broken", "short", "full",
         "off page",

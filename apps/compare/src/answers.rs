@@ -32,11 +32,11 @@ impl Room {
 /// All that a chart call hands over: the number, the counts and the lists as they are afterwards.
 #[derive(Debug, PartialEq, Eq)]
 pub struct Answer {
-    /// Document 01's number, or 0.
+    /// Why it is refused, or 0.
     pub refusal: u8,
     /// Words, arrows, bundles, rows, lines, firm, width.
     pub counts: [usize; 7],
-    /// The number of side columns of each line.
+    /// How many side columns each line has.
     pub side_columns: Vec<usize>,
     /// The lists.
     pub lists: [Vec<u16>; 3],

@@ -1,16 +1,16 @@
-//! The edges that the paper names, with what it says of them.
+//! The limits of what is accepted (docs/SPECIFICATION.md, 16.2), and near them.
 
 use crate::answers::Room;
 use crate::tester::{Outcome, Tester};
 use reference::record::{Edge, Record};
 
-/// The edges of document 01, each with its number.
+/// The limits, each with its number.
 pub fn edges(tester: &mut Tester) -> Outcome {
     for (name, bytes, expected) in cases() {
         let before = tester.seen[expected];
         tester.record(&bytes, Room([5, 3, 2]))?;
         if tester.seen[expected] != before + 1 {
-            return Err(format!("{name}: all agree, but the paper says {expected}"));
+            return Err(format!("{name}: all agree, but it must be {expected}"));
         }
     }
     Ok(())

@@ -1,4 +1,4 @@
-//! Demand 3 on all small graphs, by brute force: no lawful chart is smaller.
+//! All small graphs, by brute force: no lawful chart is smaller (docs/SPECIFICATION.md, 10.5).
 
 use crate::answers::Room;
 use crate::tester::{Outcome, Tester};

@@ -16,7 +16,7 @@ use tester::{Outcome, Tester};
 
 const HELP: &str = "usage: compare [--quick] [--seed NUMBER]
 
-Compares the proved library with the second implementation: all small graphs, the paper's edges,
+Compares the proved library with the second implementation: all small graphs, the limits,
 damaged and random records, lists of every length, sessions, strokes; and tries by brute force
 whether a small graph has a smaller lawful chart. Every chart is also drawn by the peer
 (tests/peer), which must agree. --quick does less of what chance makes.
@@ -98,7 +98,7 @@ impl Stages {
 
 /// What is tried whole.
 fn all_small(stages: &mut Stages) -> Outcome {
-    stages.run("the paper's edges", |t, _| edges::edges(t))?;
+    stages.run("the limits", |t, _| edges::edges(t))?;
     stages.run("given records, cut and changed", |t, _| records::given(t))?;
     stages.run("all graphs of up to four words", |t, _| {
         records::all_graphs(t)

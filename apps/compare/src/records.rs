@@ -1,4 +1,4 @@
-//! Stages over records: all small graphs, the paper's edges, damage, chance.
+//! Stages over records: all small graphs, the limits, damage, chance.
 
 use crate::answers::Room;
 use crate::tester::{Outcome, Tester};

@@ -1,5 +1,5 @@
 // The engine for apps: calls for C and Rust, on numbers and lists of numbers alone. No argument is asked to be sound: each call answers
-// for any numbers and any lists, and a refusal, document 01's number, leaves every lent list as it was.
+// for any numbers and any lists, and a refusal, a number of SPECIFICATION.md, 13, leaves every lent list as it was.
 ghost use mathlib.Core.Path.{_≡_};
 ghost use mathlib.Core.List.{[], _∷_};
 ghost use Rattle.flat.specs.Chart.{HandedFlat};
@@ -19,8 +19,9 @@ use state::told;
 use strokes::stroke_of;
 
 // The chart of a record into three lists. A word has five numbers: line, position, column, row, descendants; an arrow five: its number, its
-// kind (0 spine, 1 side, 2 straight, 3 bent), the bundle or the bend's column, the bend's row, 1 if implied; a bundle four: line, first
-// row, last row, side column. Refused with 8 where a list has no room for all its entries. Numbers past the needed ones stay.
+// kind (0 spine, 1 side, 2 straight, 3 bent), the bundle or the bend's column, the bend's row, 1 if implied; a bundle four: line, the
+// first and the last row, side column (SPECIFICATION.md, 9.4). Refused with 8 where a list has no room for all its entries. Numbers past
+// the last entry stay.
 #[no_mangle]
 pub extern "C" fn ceviloneth_chart(
     bytes: &[u8],
@@ -33,7 +34,7 @@ pub extern "C" fn ceviloneth_chart(
     flat::of_record(bytes, words, arrows, bundles)
 }
 
-// Document 01's number, or 0, and 1 where the first word leads to the second; 0 where it does not, and where the call is refused.
+// The refusal, or 0, and 1 where the first word leads to the second; 0 where it does not, and where the call is refused.
 #[repr(C)]
 pub struct Leading {
     pub refusal: u8,
@@ -113,7 +114,7 @@ pub extern "C" fn ceviloneth_session_leads(state: &[u64], from: usize, to: usize
 
 // ---- page strokes
 
-// Document 01's number, or 0, how many points the stroke has, and the points across (x) and up (y); 0.0 where there is none.
+// The refusal, or 0, how many points the stroke has, and the points across (x) and up (y); 0.0 where there is none.
 #[repr(C)]
 pub struct Stroke {
     pub refusal: u8,

@@ -18,7 +18,7 @@ use Rattle.planning.specs.Arranged.{Arranged}
 unfoldable pub outsized? : ℕ → Bool
 outsized? n = eqb n 0 || ltb most n
 
--- document 01's number for the first check that fails, or 0: 2 'size', 3 'stranger', 6 'cover', 7 'broken'
+-- the number of the first check that fails (SPECIFICATION.md, 13), or 0: 2 'size', 3 'stranger', 6 'cover', 7 'broken'
 unfoldable pub planRefusal : ℕ → ℕ
 planRefusal n = choose (outsized? n) (λ _. 2) (λ _. 0)
 

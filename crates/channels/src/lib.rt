@@ -1,4 +1,4 @@
-// Layer 2: channels (document 01: 'Lines'). A channel is a list of vertices in which each leads to the next by the reachability table.
+// Layer 2: channels (SPECIFICATION.md, 3). A channel is a list of vertices of which each reaches the next by the reachability table.
 // Channels are planned, or given by the caller and checked.
 ghost use mathlib.Core.Path.{_≡_};
 ghost use mathlib.Core.Logic.{_≢_};
@@ -203,7 +203,7 @@ fn walk<'a, 'p>(n: usize, table: &'a [u64], field: &'a [u8], places: &'p mut [u8
 }
 
 // The channels of the field, in its order, for n vertices and a table. Refused with 8 (a list without room), 2 (no vertex, or more than
-// 128), 3 (a vertex of n or more), 6 (a vertex repeated or lacking) or 7 (a vertex not led to by the one before it), the first that
+// 128), 3 (a vertex of n or more), 6 (a vertex repeated or lacking) or 7 (a vertex that the one before does not reach), the first that
 // applies; then there is none.
 pub fn given<'a>(n: usize, table: &'a [u64], field: &'a [u8], places: &mut [u8]) -> Channels
     ensures { λ r. ⌜ Gives n (now (table .entry)) (now (field .entry)) (now (places .entry)) r (now (places .exit)) ⌝ }

@@ -1,4 +1,4 @@
-// Reads a record on standard input and prints its chart as document 01's listing, or `refused` and the number.
+// Prints the chart of the record on standard input as a listing (SPECIFICATION.md, 14.1), or `refused` and the number.
 ghost use mathlib.Core.Path.{_≡_};
 ghost use Prim.Native.Nat.{_+_, _*_, _<_, _≤_};
 ghost use lib.ListN.{length};

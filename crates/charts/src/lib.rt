@@ -1,4 +1,4 @@
-// Charts handed over into lists that the caller lends (document 01, 'What the chart hands over').
+// Charts handed over into lists that the caller lends (SPECIFICATION.md, 9).
 ghost use mathlib.Core.Path.{_≡_};
 ghost use mathlib.Core.List.{List};
 ghost use Prim.Native.Nat.{ℕ, _+_, _<_, _≤_, min};
@@ -20,8 +20,8 @@ use specification::Kind;
 use specification::Layout;
 use specification::VertexEntry;
 
-// Document 01's number, or 0; how many entries each list got; the other counts, and the tracks (document 01: side columns) of each
-// channel, 0 past the last. Every number but the first is 0 where the chart is refused.
+// The refusal (13), or 0; how many entries each list got; the other counts, and the tracks (side columns) of each channel, 0 past the last.
+// Every number but the first is 0 where the chart is refused.
 pub struct Chart {
     pub refusal: u8,
     pub vertices: usize,
@@ -156,7 +156,7 @@ fn kind_at(d: Sheet, u: u8, v: u8) -> Kind
     kind_of(k.code, k.value, k.row)
 }
 
-// Whether the edge u -> v is transitive (document 01: implied).
+// Whether the edge u -> v is transitive.
 fn mark_at(d: Sheet, u: u8, v: u8) -> bool
     ensures { λ r. ⌜ r ≡ transitive? d u v ⌝ }
 {
@@ -371,7 +371,7 @@ fn fill_vertices(out: &mut [VertexEntry], d: Sheet, top: usize) -> usize
     i
 }
 
-// One more where the edge is reduced (document 01: firm).
+// One more where the edge is reduced.
 fn counted(before: u16, entry: EdgeEntry, i: usize) -> u16
     requires { ⌜ (before ≤ i) × (i < 4096) ⌝ }
     ensures { λ r. ⌜ r ≡ before + indicator (reduced? entry) ⌝ }

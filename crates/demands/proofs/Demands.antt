@@ -20,11 +20,11 @@ use Rattle.demands.proofs.Accepting.{said-fields, record-call, record-l
 -- ---- the chart of a sound graph
 
 module _ (c : Content) (s : Sound c) where
-  -- demand 3
+  -- no lawful chart is smaller, and the counts are those handed over (SPECIFICATION.md, 10.4 and 10.5)
   pub chart-smallest : Smallest c (oursOf c) × Counted c (oursOf c) (rowCount c) (length (channelsOf c)) (reducedEdges c) (length (planOf c .bundles)) (tracksIn (planOf c))
   chart-smallest = (agreed-smallest c s (oursOf c) (ours-agrees c), agreed-counted c s (oursOf c) (ours-agrees c))
 
-  -- demand 2
+  -- reduced edges reach what all edges do, and lines are clear (15.3)
   pub chart-faithful : Faithful c (entriesOf c)
   chart-faithful = shown-faithful c s (entriesOf c) (defined-shown c)
 
@@ -41,19 +41,19 @@ module _ (vs vs′ : List VertexEntry) (es es′ : List EdgeEntry) (bs bs′ : L
 
   -- of a record b
   module _ (b : List ℕ) (h : HandedOver (recordDrawn b) vs es bs r vs′ es′ bs′) where
-    -- demand 2, 'a record is accepted exactly when it passes document 01's checks'
+    -- accepted are the sound records with room in every list (15.2)
     pub record-accepted-exactly : (r .refusal ≡ 0) ↔ (SoundRecord b × Roomy (said b) vs es bs)
     record-accepted-exactly = record-call vs vs′ es es′ bs bs′ r b h
 
-    -- demand 1, 'nothing in a lent list changes when a call refuses'; every count is 0 then
+    -- a refusal changes no list, and every count is 0 then (9.3)
     pub record-refused : (r .refusal ≡ 0 → ⊥) → Untouched vs es bs r vs′ es′ bs′
     record-refused = refused-untouched (recordDrawn b) (record-sound b) vs vs′ es es′ bs bs′ r h
 
-    -- demand 2, 'in a chart'
+    -- the entries, by 15.3
     pub record-faithful : r .refusal ≡ 0 → Faithful (said b) entries
     record-faithful e = let l = record-left vs vs′ es es′ bs bs′ r b h e in listed-faithful vs vs′ es es′ bs bs′ r (said b) (l .0) (l .1)
 
-    -- demand 3
+    -- the entries, by 10.4 and 10.5
     pub record-smallest : r .refusal ≡ 0 → Smallest (said b) (seen (said b) r entries) × Carried (said b) (seen (said b) r entries) r
     record-smallest e = let l = record-left vs vs′ es es′ bs bs′ r b h e in listed-smallest vs vs′ es es′ bs bs′ r (said b) (l .0) (l .1)
 

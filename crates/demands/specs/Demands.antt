@@ -1,5 +1,5 @@
--- The demands on a chart, as statements: `Faithful` for demand 2, `Smallest` and `Carried` for demand 3. proofs/Demands.antt proves them of
--- the definitions' chart and of what every call leaves. Assumes nothing.
+-- The demands on a chart, as statements (SPECIFICATION.md, 10 and 15): `Faithful` for 15.3, `Smallest` for 10.5, `Carried` for 10.4.
+-- proofs/Demands.antt proves them of the definitions' chart and of what every call leaves. Assumes nothing.
 use mathlib.Core.Path.{_≡_}
 use mathlib.Core.Logic.{_↔_}
 use mathlib.Core.Bool.{Bool, true, false, not, _&&_}
@@ -43,7 +43,7 @@ entriesOf c = record { vertex = vertexEntry c (planOf c); edge = edgeEntry c (pl
 
 -- ---- our chart
 
--- by the definitions; 'with the firm arrows as its links'
+-- by the definitions; its links are its reduced edges (10.4)
 unfoldable pub oursOf : Content → Chart
 oursOf c = record {
   row = rowOf c;
@@ -57,11 +57,11 @@ oursOf c = record {
   side = trackIn (planOf c);
 }
 
--- edge e joins u to v, and its entry is not marked transitive (document 01: implied)
+-- edge e joins u to v, and its entry is not marked transitive
 abbrev pub joins? : Content → Entries → ℕ → ℕ → ℕ → Bool
 joins? c entries u v e = (eqb (tailOf c e) u && eqb (headOf c e) v) && not (entries .edge e .transitive)
 
--- as whoever knows the graph c sees it: how many lines and bundles the answer r says, all else the entries
+-- as whoever knows the graph c sees it: how many channels and bundles the answer r says, all else the entries
 unfoldable pub seen : Content → answer.Chart → Entries → Chart
 seen c r entries = record {
   row = λ v. entries .vertex v .row;
@@ -75,13 +75,13 @@ seen c r entries = record {
   side = λ b. entries .bundle b .track;
 }
 
--- ---- demand 2
+-- ---- reduced edges and clear lines
 
--- there is a firm arrow from u to v, by the marks of the entries
+-- there is a reduced edge from u to v (a firm arrow), by the marks of the entries
 abbrev pub Firm : Content → Entries → ℕ → ℕ → Type 0
 Firm c entries u v = (e : ℕ) × (e < edgesOf c) × (tailOf c e ≡ u) × (headOf c e ≡ v) × (entries .edge e .transitive ≡ false)
 
--- the place of a word, and an arrow's line
+-- the place of a vertex, and an edge's line
 abbrev pub placeIn : Entries → ℕ → Point
 placeIn entries v = pointAt (entries .vertex v)
 
@@ -89,39 +89,38 @@ abbrev pub lineIn : Content → Entries → ℕ → List Point
 lineIn c entries e = polylineOf (entries .vertex (tailOf c e)) (entries .vertex (headOf c e)) (entries .edge e .kind) (entries .bundle)
 
 pub record Faithful (c : Content) (entries : Entries) : Type 0 where
-  -- 'a firm arrow is one that no longer route already implies'; the others are marked
+  -- marked are the edges along which a longer route goes (5.1)
   pub marked : (e : ℕ) → e < edgesOf c → (entries .edge e .transitive ≡ true) ↔ Longer (Edge (c .tails) (c .heads)) (tailOf c e) (headOf c e)
-  -- 'one word leads to another by firm arrows exactly when it does by the record's arrows'
+  -- reduced edges have the reachability of all edges (15.3)
   pub descent : (u v : ℕ) → Reaches (Firm c entries) u v ↔ Leads c u v
-  -- 'no arrow's line meets the place of a word that isn't one of its ends'
+  -- an edge's line passes through no vertex but its two ends (15.3)
   pub clear : (e : ℕ) → e < edgesOf c → Clear (c .vertices) (placeIn entries) (tailOf c e) (headOf c e) (lineIn c entries e)
-  -- and every line stands on the page, so that no stroke refuses a place of it
+  -- and stands on the page (8.2), so that no polyline of it is refused
   pub on-page : (e : ℕ) → e < edgesOf c → OnPage (lineIn c entries e)
 
--- document 01's 8 'short' is not said: no list has fewer entries than there are vertices, edges or bundles
+-- 8 'short' is not said (13.1): every lent list has room
 pub record Roomy (c : Content) (vs : List VertexEntry) (es : List EdgeEntry) (bs : List BundleEntry) : Type 0 where
   pub vertices : c .vertices ≤ length vs
   pub edges : edgesOf c ≤ length es
   pub bundles : length (planOf c .bundles) ≤ length bs
 
--- ---- demand 3
+-- ---- no lawful chart is smaller
 
 pub record Smallest (c : Content) (x : Chart) : Type 0 where
   pub lawful : Lawful c x
-  -- each of its lines has a word, so that `parts` is their number
+  -- each of its parts has a vertex, so that `parts` is their number
   pub filled : (p : ℕ) → p < x .parts → (v : ℕ) × (v < c .vertices) × (x .part v ≡ p)
-  -- 'the other has at least as many rows as ours'
+  -- no lawful chart has fewer rows (10.5)
   pub rows : (y : Chart) → Lawful c y → rowsOf c x ≤ rowsOf c y
-  -- 'at least as many lines'; 'where an editor gave the lines, all this holds but the count of lines'
+  -- or fewer parts, unless channels are given
   pub lines : c .given ≡ false → (y : Chart) → Lawful c y → x .parts ≤ y .parts
-  -- 'at least as many links as ours has firm arrows'
+  -- or fewer links than ours reduced edges
   pub links : (y : Chart) → Lawful c y → linksOf c x ≤ linksOf c y
-  -- 'where the other also has the same lines, rows and bundles as ours, it has at least as many side columns in every line': p and q are
-  -- the same line, for word v is in both
+  -- and one with the same parts, rows and bundles has in no part fewer tracks: p and q are the same part, for vertex v is in both
   pub sides : (y : Chart) → Lawful c y → SameLines c x y → SameRows c x y → SameBundles c x y
       → (p q v : ℕ) → v < c .vertices → x .part v ≡ p → y .part v ≡ q → sideColumns x p ≤ sideColumns y q
 
--- 'every count of ours is the one that the result carries'
+-- the counts of x are these (10.4)
 pub record Counted (c : Content) (x : Chart) (rows lines firm bundles : ℕ) (sides : ℕ → ℕ) : Type 0 where
   pub row-count : rowsOf c x ≡ rows
   pub line-count : x .parts ≡ lines
@@ -129,6 +128,6 @@ pub record Counted (c : Content) (x : Chart) (rows lines firm bundles : ℕ) (si
   pub bundle-count : x .bundles ≡ bundles
   pub side-counts : (p : ℕ) → sideColumns x p ≡ sides p
 
--- .. by the answer r
+-- they are those of the answer r
 abbrev pub Carried : Content → Chart → answer.Chart → Type 0
 Carried c x r = Counted c x (r .rows) (r .channels) (r .reduced) (r .bundles) (λ p. getD (r .tracks) p 0)

@@ -1,5 +1,5 @@
--- A lawful chart of a graph, as document 01 describes one for demand 3, its counts, and when two have the same lines, rows and bundles.
--- Assumes nothing.
+-- Lawful charts of a graph (SPECIFICATION.md, 10.1), their counts (10.2), and when two have the same parts, rows and bundles (10.3). Parts
+-- are called lines here, and tracks side columns, as apps see them. Assumes nothing.
 use mathlib.Core.Path.{_≡_}
 use mathlib.Core.Logic.{_↔_, _⊎_, _≢_}
 use mathlib.Core.Bool.{Bool, true}
@@ -12,9 +12,9 @@ use Rattle.specification.specs.Marks.{Linked, linkCount}
 use Rattle.specification.specs.Tracks.{differentIn}
 use Rattle.specification.specs.Chart.{tailOf, headOf}
 
--- rows, lines, links, bundles and side columns, all free
+-- any rows, parts, links, bundles and tracks
 pub record Chart : Type 0 where
-  -- the row of each vertex (document 01: word)
+  -- the row of each vertex
   pub row : ℕ → ℕ
   -- lines: how many parts, and the part of each vertex
   pub parts : ℕ
@@ -32,45 +32,44 @@ pub record Chart : Type 0 where
 abbrev pub ShareRow : Chart → ℕ → ℕ → Type 0
 ShareRow x a b = (r : ℕ) × (x .first a ≤ r) × (r ≤ x .last a) × (x .first b ≤ r) × (r ≤ x .last b)
 
--- 'has rows, lines, links, bundles and side columns, all free but for this'
+-- the five rules (10.1)
 pub record Lawful (c : Content) (x : Chart) : Type 0 where
-  -- 'every arrow ends higher than it begins'
+  -- the head of every edge is in a higher row than its tail
   pub rises : (e : ℕ) → e < edgesOf c → x .row (tailOf c e) < x .row (headOf c e)
-  -- 'any division of the words in which, of two words of a part, one leads to the other'
+  -- every vertex is in a part, and of two in the same part one reaches the other
   pub divided : (v : ℕ) → v < c .vertices → x .part v < x .parts
   pub related : (u v : ℕ) → u < c .vertices → v < c .vertices → u ≢ v → x .part u ≡ x .part v → Leads c u v ⊎ Leads c v u
-  -- 'any set of ordered pairs of words with the graph's descent'
+  -- links have the reachability of the edges
   pub descent : (u v : ℕ) → Reaches (Linked (c .vertices) (x .link)) u v ↔ Leads c u v
-  -- 'a bundle's line is a part'
+  -- every bundle has a part
   pub lined : (b : ℕ) → b < x .bundles → x .line b < x .parts
-  -- 'bundles of one line that share a row have different ones'
+  -- two bundles of one part with a row in common have different tracks
   pub apart : (a b : ℕ) → a < x .bundles → b < x .bundles → a ≢ b → x .line a ≡ x .line b → ShareRow x a b → x .side a ≢ x .side b
 
--- ---- counts; that of lines is `parts`
+-- ---- counts (10.2); that of lines is `parts`
 
--- 'the count of rows is 1 + the highest'
+-- one more than the highest row
 unfoldable pub rowsOf : Content → Chart → ℕ
 rowsOf c x = above (c .vertices) (λ v. true) (x .row)
 
--- 'their count is the number of pairs'
+-- the links
 unfoldable pub linksOf : Content → Chart → ℕ
 linksOf c x = linkCount (c .vertices) (x .link)
 
--- 'a line's count of side columns is the number of different ones used in it, 0 without a bundle'
+-- the different tracks of a part's bundles
 unfoldable pub sideColumns : Chart → ℕ → ℕ
 sideColumns x p = differentIn (x .bundles) (λ b. eqb (x .line b) p) (x .side)
 
--- ---- the same lines, rows and bundles
+-- ---- the same parts, rows and bundles (10.3)
 
--- 'lines are the same where the parts hold the same words, in whatever order the parts stand'
+-- any two vertices are together in both charts, or in neither
 pub record SameLines (c : Content) (x y : Chart) : Type 0 where
   pub together : (u v : ℕ) → u < c .vertices → v < c .vertices → (x .part u ≡ x .part v) ↔ (y .part u ≡ y .part v)
 
 pub record SameRows (c : Content) (x y : Chart) : Type 0 where
   pub rows : (v : ℕ) → v < c .vertices → x .row v ≡ y .row v
 
--- 'bundles are the same where the two lists can be put in an order in which they agree, bundle by bundle, in part, first row and last row';
--- a part is 'known by its words'
+-- a pairing of the two lists, one to one, by `to` and `from`: paired bundles have parts with the same vertices, and the same rows
 pub record SameBundles (c : Content) (x y : Chart) : Type 0 where
   pub to : ℕ → ℕ
   pub from : ℕ → ℕ

@@ -14,7 +14,7 @@ use Rattle.counting.specs.Quads.{quad}
 use Rattle.reach.specs.Closure.{Closure, Composed}
 use Rattle.descent.specs.declared.Descent.{Descent}
 
--- why edges are refused: document 01's numbers 2 ('size') to 5 ('cycle'), the first that applies, or 0
+-- why edges are refused: 2 'size' to 5 'ring' (SPECIFICATION.md, 13), the first that applies, or 0
 unfoldable pub edgesRefusal : ℕ → List ℕ → List ℕ → ℕ
 edgesRefusal n tails heads =
     choose (eqb (refusal n tails heads) 0)

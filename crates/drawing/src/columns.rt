@@ -1,4 +1,4 @@
-// Columns by blocks (document 01: 'Columns and bends').
+// Columns by blocks (SPECIFICATION.md, 8.1).
 ghost use mathlib.Core.Path.{_≡_};
 ghost use Prim.Native.Nat.{ℕ, _*_, _≤_, _<_};
 ghost use lib.ListN.{length, getD, replicate};

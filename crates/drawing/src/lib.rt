@@ -1,4 +1,4 @@
-// Layer 3: what is planned of a graph, layer by layer (document 01, 'Lines' to 'Columns and bends').
+// Layer 3: what is planned of a graph, layer by layer (SPECIFICATION.md, 3 to 8).
 ghost use mathlib.Core.Path.{_≡_};
 ghost use Prim.Native.Nat.{_≤_, _<_, min};
 ghost use lib.ListN.{length};

@@ -1,4 +1,4 @@
--- What the machine's answers say of its set of edges, in document 01's terms. Assumes nothing.
+-- What the machine's answers say of its set of edges (SPECIFICATION.md, 11). Assumes nothing.
 use mathlib.Core.Path.{_≡_}
 use mathlib.Core.Logic.{_⊎_, _↔_}
 use mathlib.Core.Bool.{true, false}

@@ -1,5 +1,5 @@
-// Sessions (document 01): an acyclic graph that grows edge by edge, with its reachability kept up. A session goes in and comes back by
-// value. A table has two masks of 64 bits a vertex: bit v mod 64, lowest first, of mask 2 u + v / 64 says that v is in the set of u.
+// Sessions (SPECIFICATION.md, 11): an acyclic graph that grows edge by edge, with its reachability kept up. A session is a value: a call
+// takes it and hands one back. A table has two masks of 64 bits a vertex: bit v mod 64 of mask 2 u + v / 64 says that v is in the set of u.
 ghost use mathlib.Core.Path.{_≡_};
 ghost use mathlib.Core.Bool.{_||_};
 ghost use Prim.Native.Nat.{_<_, min};
@@ -20,13 +20,13 @@ pub struct Session {
     pub reach: [u64; 256],
 }
 
-// Document 01's number, or 0, and the session after the call: as it was where the call is refused.
+// The refusal, or 0, and the session after the call: as it was where the call is refused.
 pub struct Changed {
     pub refusal: u8,
     pub session: Session,
 }
 
-// Document 01's number, or 0, and whether one vertex reaches the other: false where the call is refused.
+// The refusal, or 0, and whether one vertex reaches the other: false where the call is refused.
 pub struct Reply {
     pub refusal: u8,
     pub reaches: bool,

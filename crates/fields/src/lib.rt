@@ -1,4 +1,4 @@
-// Where the fields of a record stand (document 01: 'The record').
+// Where the fields of a record stand (SPECIFICATION.md, 1).
 ghost use mathlib.Core.Path.{_≡_};
 ghost use Prim.Native.Nat.{_≤_, _<_};
 ghost use lib.ListN.{length};
@@ -35,7 +35,7 @@ fn field_at(b: &[u8], tag: u8, at: usize) -> Field
     Field::Found { start, size }
 }
 
-// Whether bytes are lines, each a byte k of at least 1 and then k bytes, ending exactly.
+// Whether bytes are channels, each a length above 0 and so many bytes, ending exactly.
 fn is_lined(b: &[u8]) -> bool
     ensures { λ r. ⌜ r ≡ lined 0 (now (b .entry)) ⌝ }
 {

@@ -34,7 +34,7 @@ arrowNumber e f =
     choose (eqb f 2) (λ _. codeOf (e .kind) .value) (λ _.
     choose (eqb f 3) (λ _. codeOf (e .kind) .row) (λ _. indicator (e .transitive)))))
 
--- of a bundle: line, first row, last row, side column
+-- of a bundle: channel, first row, last row, track
 unfoldable pub bundleNumber : BundleEntry → ℕ → ℕ
 bundleNumber e f =
     choose (eqb f 0) (λ _. e .channel) (λ _.

@@ -38,7 +38,7 @@ fn put_five(out: &mut [u16], i: usize, a: u16, b: u16, c: u16, d: u16, e: u16)
 
 // ---- edges
 
-// 1 where the edge from u to v is transitive (document 01: implied), else 0.
+// 1 where the edge from u to v is transitive, else 0.
 fn mark_of(longer: &[u64], u: usize, v: usize) -> u16
     requires { ⌜ (2 * u + 2 ≤ length (now longer)) × (u < 128) × (v < 128) ⌝ }
     ensures { λ r. ⌜ (r ≡ indicator (member? (now (longer .entry)) (2 * u) v)) × (r < 2) ⌝ }
@@ -77,7 +77,7 @@ fn kind_at<'a>(
     )
 }
 
-// Puts edge e at its place; 1 if it is reduced (document 01: firm), else 0.
+// Puts edge e at its place; 1 if it is reduced, else 0.
 fn put_arrow<'e, 'l, 'a>(
     out: &mut [u16],
     ends: &'e [u8],

@@ -1,4 +1,4 @@
-// The chart as three lent lists of numbers, straight from what is planned: no table of edges between.
+// The chart as three lent lists of numbers (SPECIFICATION.md, 9.4), straight from what is planned: no table of edges between.
 ghost use mathlib.Core.Path.{_≡_};
 ghost use Prim.Native.Nat.{_+_, _*_, _/_, _≤_, _<_, min};
 ghost use lib.ListN.{length, replicate};
@@ -16,8 +16,8 @@ use specification::Layout;
 // For so many vertices there are smaller work lists: none is longer than 256 bytes, which the compiler clears without a call.
 const FEW: usize = 15;
 
-// Document 01's number, or 0; how many entries each list got; the other counts, and the side columns of each line, 0 past the last.
-// Every number but the first is 0 where the chart is refused.
+// The refusal (SPECIFICATION.md, 13), or 0; how many entries each list got; the other counts, and the tracks of each channel, 0 past the
+// last. Every number but the first is 0 where the chart is refused.
 #[repr(C)]
 pub struct ChartCounts {
     pub refusal: u8,

@@ -1,4 +1,4 @@
--- The course of a cross edge.
+-- The polyline of a cross edge's course.
 use mathlib.Core.List.{List, [], _∷_}
 use Rattle.specification.specs.declared.Course.{Course}
 use Rattle.specification.specs.declared.Course.the-variants.{Straight, Bent}

@@ -1,4 +1,4 @@
--- Where vertices stand: what the theorem about polylines asks, and the layout by blocks, which gives it.
+-- Where vertices stand: what the theorem about polylines asks. Columns by blocks are so (proofs/Blocks).
 use mathlib.Core.Path.{_≡_}
 use Prim.Native.Nat.{ℕ, _+_, _-_, _≤_, _<_}
 use Rattle.specification.specs.Geometry.{Point, Widths, trackAt}

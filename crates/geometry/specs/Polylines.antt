@@ -1,16 +1,16 @@
--- The polyline of each kind of edge, and that it meets no vertex but its ends.
+-- The polyline of each kind of edge.
 use mathlib.Core.Path.{_≡_}
 use mathlib.Core.Logic.{_≢_}
 use mathlib.Core.List.{List, [], _∷_}
 use Prim.Native.Nat.{ℕ, _+_, _-_, _<_}
 use Rattle.specification.specs.Geometry.{Point, point, Blocked, Widths, trackAt, straight, bendRow, byTrack}
 
--- by one point in column x (document 01: bend)
+-- by one point in column x, the bend (SPECIFICATION.md, 8.4)
 abbrev pub bent : Point → Point → ℕ → List Point
 bent a b x = a ∷ point x (bendRow b) ∷ b ∷ []
 
--- The edge u → v is drawn by this polyline: between neighbours of a channel (document 01: spine arrow), along a track of the
--- channel (side arrow), or across channels, straight or bent in the gap beside the tail's channel.
+-- The edge u → v is drawn by this polyline: between neighbours of a channel (a path edge), along a track of the channel
+-- (a path-transitive one), or across channels, straight or bent in the gap beside the tail's channel.
 pub data Drawn (n : ℕ) (at : ℕ → Point) (channel position own : ℕ → ℕ) (W : Widths) (u v : ℕ) : List Point → Type 0 where
   path : channel u ≡ channel v → position v ≡ position u + 1 → Drawn n at channel position own W u v (straight (at u) (at v))
   track : (j : ℕ) → channel u ≡ channel v → j < W .tracks (channel u) → Drawn n at channel position own W u v (byTrack (at u) (at v) (trackAt (own (channel u)) (W .leftGap (channel u)) j))

@@ -1,4 +1,4 @@
--- Points with whole coordinates, straight segments, polylines.
+-- A vertex of a mask inside a segment, and vertices' points by lists; segments themselves are in specification/specs/Geometry.
 use mathlib.Core.Path.{_≡_}
 use mathlib.Core.List.{List}
 use Prim.Native.Nat.{ℕ, _+_, _/_, _<_, min}

@@ -1,4 +1,4 @@
--- Theorems on rows: in a graph without cycles they obey document 01's sentence and are fewer than the vertices, and no rows that rise
+-- Theorems on rows: in a graph without cycles they obey the rule (SPECIFICATION.md, 4.1) and are fewer than the vertices; no rows that rise
 -- along every edge are lower. Assumes nothing.
 use Rattle.counting.proofs.Prelude.{_≡_, sym, ap, inr, ⊎-elim, Bool, true, ℕ, zero, suc, _≤_, _<_, zero-le, arith}
 use Rattle.specification.specs.Count.{indicator, count}
@@ -55,7 +55,7 @@ module _ (E L : ℕ → ℕ → Bool) (n : ℕ) (o : Order E L n) where
   pub rows-below : n ≤ 128 → (v : ℕ) → v < n → row E n v < n
   rows-below small v h = let a = rows-least E n before fewer v h in let b = before-lt v h in omega arith
 
-  -- THE RULE: 0 where no edge enters, else 1 + the highest row among the vertices with an edge into it
+  -- THE RULE: 0 where no edge enters, else one more than the highest row of the tails
   pub rows-rule : n ≤ 128 → (v : ℕ) → v < n → row E n v ≡ above n (λ u. E u v) (row E n)
   unfolding rowWithin
   rows-rule small v h = sym (settled E n 128 129 v (omega arith) (inr (let b = rows-below small v h in omega arith)))

@@ -25,7 +25,7 @@ module _ (n : ℕ) (tails heads : List ℕ) (accepted : refusal n tails heads �
     irrefl = λ u hu p. let s = small in true≢false (sym (some-found 128 (λ v. reachable? n tails heads v v) u (omega arith) p) ∙ acyclic);
   }
 
-  -- document 01's sentence on rows holds of every vertex, and every row is below the number of vertices
+  -- the rule of rows (SPECIFICATION.md, 4.1) holds of every vertex, and every row is below the number of vertices
   pub graph-rule : (v : ℕ) → v < n → row (edge? tails heads) n v ≡ above n (λ u. edge? tails heads u v) (row (edge? tails heads) n)
   graph-rule = rows-rule (edge? tails heads) (reachable? n tails heads) n acyclic-order small
 

@@ -1,2 +1,2 @@
-// Definitions and laws alone, with no function: rows by compaction (document 01: 'Rows'), each vertex as low as its edges let it, and that no
-// rows that rise along every edge are lower.
+// Laws alone, with no function: rows by compaction (SPECIFICATION.md, 4) put each vertex as low as its edges let it, and no rows that rise
+// along every edge are lower.

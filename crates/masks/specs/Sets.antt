@@ -1,4 +1,4 @@
--- Sets of vertices as masks of 64 bits in a list, any number of masks a set. Assumes nothing.
+-- The next vertex of a set; sets as masks are in specification/specs/Sets. Assumes nothing.
 use mathlib.Core.Path.{_≡_}
 use mathlib.Core.List.{List}
 use Prim.Native.Nat.{ℕ, _≤_, _<_}

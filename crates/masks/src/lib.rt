@@ -1,5 +1,5 @@
 // Sets of vertices as masks of 64 bits, in a list that may hold many sets. A set is known by the number of its first mask:
-// vertex v is in it where bit v mod 64, lowest first, of mask first + v / 64 is set. A mask that the list lacks counts as 0.
+// vertex v is in it where bit v mod 64 of mask first + v / 64 is set, the lowest bit being 0. A mask that the list lacks counts as 0.
 ghost use mathlib.Core.Path.{_≡_};
 ghost use mathlib.Core.Bool.{true, false};
 ghost use Prim.Native.Nat.{_+_, _/_, _<_};

@@ -1,4 +1,4 @@
--- No division of the vertices, in which of two vertices of a part one leads to the other, has fewer parts than vertices are without predecessor. Assumes nothing.
+-- No division of the vertices into parts by `leads` has fewer parts than vertices are without predecessor. Assumes nothing.
 use Rattle.counting.proofs.Prelude.{_≡_, refl, sym, ap, _∙_, subst, ⊎-elim, Bool, true, false, true≢false, not, _&&_, List, ℕ, _+_, _≤_, _<_, arith, eqb, leb, getD, lt-ltb, leb-true, le-leb, lt-leb, eqb-true, eqb-false, not-true}
 use native.Mathlib.Decide.{ℕ-discrete, decLt}
 use Rattle.specification.specs.Count.{indicator, sum, count}

@@ -1,4 +1,4 @@
--- Channels that hold every vertex once, and in which each leads to the next, are a division, if `leads` is a strict order. Assumes nothing.
+-- Channels that hold every vertex once, each leading to the next, are a division, if `leads` is a strict order. Assumes nothing.
 use Rattle.counting.proofs.Prelude.{_≡_, refl, sym, ap, _∙_, _≢_, _⊎_, inl, inr, ⊎-elim, Bool, true, false, false≢true, ℕ, zero, suc, _+_, _≤_, _<_, arith, length, eq-eqb, ne-eqb}
 use mathlib.Core.List.{List, [], _∷_, flatten}
 use native.Mathlib.Nat.{not-suc-le-zero}

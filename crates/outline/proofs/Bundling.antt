@@ -19,7 +19,7 @@ use Rattle.tracks.proofs.Least.{tracks-packed}
 use Rattle.outline.proofs.Rows.{row-counted, rows-few}
 use Rattle.outline.proofs.Channels.{sizeOf, vertices-small, channel-below}
 
--- path-transitive edges (document 01: side arrows), by the chart's channels
+-- path-transitive edges, by the chart's channels
 abbrev pub sideEdge? : Content → ℕ → ℕ → Bool
 sideEdge? c = side? (c .vertices) (c .tails) (c .heads) (channelOf (channelsOf c)) (positionOf (channelsOf c))
 

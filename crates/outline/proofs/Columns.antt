@@ -1,4 +1,4 @@
--- The columns of a sound graph stand on document 01's page. Assumes nothing.
+-- The columns of a sound graph stand on the page (SPECIFICATION.md, 8.2). Assumes nothing.
 use Rattle.counting.proofs.Prelude.{_≡_, refl, List, ℕ, _+_, _≤_, _<_, arith, length}
 use Rattle.specification.specs.Channels.{channelOf}
 use Rattle.specification.specs.Checks.{Content, Sound}

@@ -1,4 +1,4 @@
--- Every polyline of a sound graph's chart stands on document 01's page. Assumes nothing.
+-- Every polyline of a sound graph's chart stands on the page (SPECIFICATION.md, 8.2). Assumes nothing.
 use Rattle.counting.proofs.Prelude.{_≡_, refl, _≢_, ⊎-elim, List, ℕ, _<_, arith, eqb, eqb-true, eqb-false}
 use Rattle.counting.proofs.Truth.{true-or-false}
 use Rattle.specification.specs.Channels.{channelOf, positionOf}

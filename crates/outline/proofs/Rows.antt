@@ -27,7 +27,7 @@ module _ (c : Content) (s : Sound c) where
     irrefl = leads-order c s .irrefl;
   }
 
-  -- document 01's rule: 0 where no edge enters, else 1 + the highest row among the vertices with an edge into it
+  -- the rule (SPECIFICATION.md, 4.1): 0 where no edge enters, else one more than the highest row of the tails
   pub row-rule : (v : ℕ) → v < n → rowOf c v ≡ above n (λ u. E u v) (rowOf c)
   unfolding rowOf
   row-rule v h = rows-rule E (leads? c) n edges-order small v h

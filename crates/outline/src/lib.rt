@@ -1,1 +1,1 @@
-// What a chart is, without the code that draws it: the entries that are handed over, and in specs/ the chart that document 01 defines.
+// Laws alone, with no function: what is true of the chart of every sound graph. The chart is defined in specification/specs/Chart.antt.

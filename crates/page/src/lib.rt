@@ -1,4 +1,4 @@
-// Cells of a chart as points on a page, exactly, and polylines through them.
+// Cells of a chart as points on a page, exactly, and polylines through them (SPECIFICATION.md, 12).
 ghost use mathlib.Core.Path.{_≡_};
 ghost use mathlib.Core.Bool.{false};
 ghost use mathlib.Core.List.{[], _∷_};

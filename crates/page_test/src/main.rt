@@ -6,7 +6,7 @@ use specification::Cell;
 use specification::Point;
 use specification::Polyline;
 
-// The number that document 01 gives to a polyline: 10 off the page, else 0.
+// The number of a polyline (SPECIFICATION.md, 12.2): 10 off the page, else 0.
 fn number(r: Polyline) -> u32
     ensures { λ n. ⌜ n ≡ answerOf r .number ⌝ }
 {

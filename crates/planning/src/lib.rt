@@ -1,4 +1,4 @@
-// Layer 2: channels as data, and planned channels (document 01: 'Lines'), laid by the predecessors that the search finds.
+// Layer 2: channels as data, and planned channels (SPECIFICATION.md, 3.3 and 3.4), laid by the predecessors that the search finds.
 ghost use mathlib.Core.Path.{_≡_};
 ghost use mathlib.Core.List.{[]};
 ghost use Prim.Native.Nat.{suc, _*_, _≤_, _<_, min, _/_};

@@ -11,7 +11,7 @@ unfoldable pub values : (ℕ → ℕ) → ℕ → ℕ → List ℕ
 values f zero i = []
 values f (suc n) i = f i ∷ values f n (suc i)
 
--- 128 words and 4,096 arrows, from each of 0 to 63 to each of 64 to 127
+-- 128 vertices and 4,096 edges, from each of 0 to 63 to each of 64 to 127
 abbrev pub fullTail : ℕ → ℕ
 fullTail i = i / 64
 
@@ -26,7 +26,7 @@ unfoldable pub pairs : (ℕ → ℕ) → (ℕ → ℕ) → ℕ → ℕ → List 
 pairs f g zero i = []
 pairs f g (suc n) i = f i ∷ g i ∷ pairs f g n (suc i)
 
--- 128 words and 4,096 arrows, which are 8,192 bytes
+-- 128 vertices and 4,096 edges, which are 8,192 bytes
 unfoldable pub fullRecord : List ℕ
 fullRecord = 1 ∷ 0 ∷ 1 ∷ 128 ∷ 2 ∷ 32 ∷ 0 ∷ pairs fullTail fullHead 4096 0
 

@@ -1,1 +1,1 @@
-// Laws alone, with no function: document 01's proof table, over the definitions that the promises cite.
+// Laws alone, with no function: the largest record is accepted (SPECIFICATION.md, 16.2), the row of the proof table that does not compute.

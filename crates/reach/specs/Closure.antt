@@ -13,8 +13,8 @@ pub record Reachability : Type 0 where
   pub table : List ℕ
   pub counts : ℕ → ℕ
 
--- r is the graph's reachability: a table of its edges, document 01's 'descent table', each two masks a vertex, and the number of
--- descendants of each vertex. A mask past a table's end counts as 0
+-- r is the graph's reachability: a table of its edges and one of what reaches what (SPECIFICATION.md, 2.2), two masks a vertex each, and
+-- the number of descendants of each vertex. A mask past a table's end counts as 0
 pub record Closure (n : ℕ) (tails heads : List ℕ) (r : Reachability) : Type 0 where
   pub edge-bits : (u v : ℕ) → u < 128 → v < 128 → at 2 (r .edges) u v ≡ 1 ↔ Adjacent n tails heads u v
   pub bits : (u v : ℕ) → u < 128 → v < 128 → at 2 (r .table) u v ≡ 1 ↔ Reachable n tails heads u v

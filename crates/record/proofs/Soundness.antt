@@ -1,4 +1,4 @@
--- A record is accepted exactly when it is sound. Assumes nothing.
+-- The sound records are accepted, and no others. Assumes nothing.
 use Rattle.counting.proofs.Prelude.{_≡_, refl, sym, ap, _∙_, subst, _↔_, _⊎_, ⊎-elim, _≢_, Bool, true, false, true≢false, not, _&&_, _||_, List, [], _∷_, ℕ, zero, suc, _≤_, _<_, arith, eqb, leb, ltb, length, getD, eq-eqb, ne-eqb, eqb-true, eqb-false, le-ltb, lt-leb, leb-false, ltb-false}
 use Rattle.specification.specs.Count.{choose, some}
 use Rattle.specification.specs.Channels.{times, linked, every, allLinked, linesOf, verticesOf, unknown?, broken?}
@@ -35,7 +35,7 @@ passes-given : (g t : Bool) → (g ≡ true → t ≡ false) → (g && t) ≡ fa
 passes-given true t h = h refl
 passes-given false t h = refl
 
--- every test of document 01's list
+-- every test of the list of checks
 pub record Passes (c : Content) : Type 0 where
   pub size : size? c ≡ false
   pub stranger : stranger? c ≡ false
@@ -212,6 +212,6 @@ module _ (b : List ℕ) where
   unfolding recordRefusal
   record-sound = (in-layout (layoutOf b) refl, λ s. ap (refusalIn refusalOf b) (s .1) ∙ sound-accepted (contentOf b (s .0)) (s .2))
 
-  -- READ: a record is accepted exactly when it is sound
+  -- READ: the sound records are accepted, and no others
   pub read-sound : (r : Reading) → Reads b r → (r .refusal ≡ 0) ↔ SoundRecord b
   read-sound r a = ((λ e. record-sound .0 (sym (a .answer) ∙ e)), λ s. a .answer ∙ record-sound .1 s)

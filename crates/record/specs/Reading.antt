@@ -1,4 +1,4 @@
--- What a record says, and what reading it hands over. Assumes nothing.
+-- What reading a record hands over; what a record says is in specification/specs/Checks. Assumes nothing.
 use mathlib.Core.Path.{_≡_}
 use mathlib.Core.Logic.{_≢_, _↔_}
 use mathlib.Core.List.{List}

@@ -1,4 +1,4 @@
-// Reading a record (document 01: 'The record', 'Why a record is sent back').
+// Reading a record (SPECIFICATION.md, 1 and 13).
 
 pub mod checks;
 pub mod reading;

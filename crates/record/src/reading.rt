@@ -5,7 +5,7 @@ use crate::checks::check;
 use fields::layout_of;
 use specification::Layout;
 
-// Why a record is refused, or 0, how many vertices it has, and the table of what reaches what (document 01: the descent table), two
+// Why a record is refused, or 0, how many vertices it has, and the table of what reaches what (SPECIFICATION.md, 2.2), two
 // masks a vertex. On a refusal every count and mask is 0.
 pub struct Reading {
     pub refusal: u8,

@@ -1,4 +1,4 @@
--- The reduced edges are the fewest links with the graph's reachability. Assumes nothing.
+-- No links with the graph's reachability are fewer than the reduced edges. Assumes nothing.
 use Rattle.counting.proofs.Prelude.{_≡_, refl, sym, ap, ap₂, _∙_, _↔_, Bool, true, false, true≢false, not, List, ℕ, _≤_, _<_, arith, getD}
 use Rattle.counting.proofs.Truth.{and-intro, and-elim}
 use Rattle.specification.specs.Graph.{Reaches, edgeCount, Edge}

@@ -1,4 +1,5 @@
--- Transitive edges (document 01: implied arrows), reduced ones (firm arrows), and sets of links with the graph's reachability. Assumes nothing.
+-- Reduced edges as a relation, links with the graph's reachability, and what the theorems ask of a graph. Which edge is transitive is
+-- defined in specification/specs/Marks. Assumes nothing.
 use mathlib.Core.Path.{_≡_}
 use mathlib.Core.Logic.{_↔_}
 use mathlib.Core.Bool.{Bool, true, false}
@@ -8,17 +9,17 @@ use lib.ListN.{getD}
 use Rattle.specification.specs.Graph.{Reaches, edgeCount, Edge}
 use Rattle.specification.specs.Marks.{transitive?, Linked, linkCount}
 
--- there is a firm arrow from u to v
+-- there is a reduced edge from u to v
 abbrev pub Reduced : (leads : ℕ → ℕ → Bool) → (n : ℕ) → (tails heads : List ℕ) → ℕ → ℕ → Type 0
 Reduced leads n tails heads u v = Edge tails heads u v × (transitive? leads n u v ≡ false)
 
--- ---- document 01: links, any set of ordered pairs of words
+-- ---- links (SPECIFICATION.md, 10.1)
 
--- the links have the graph's descent
+-- the links have the graph's reachability
 abbrev pub SameClosure : (n : ℕ) → (tails heads : List ℕ) → (link : ℕ → ℕ → Bool) → Type 0
 SameClosure n tails heads link = (u v : ℕ) → Reaches (Linked n link) u v ↔ Reaches (Edge tails heads) u v
 
--- the links have the graph's descent, and no set that has it is smaller
+-- the links have the graph's reachability, and no set that has it is smaller
 pub record Fewest (n : ℕ) (tails heads : List ℕ) (link : ℕ → ℕ → Bool) : Type 0 where
   pub same : SameClosure n tails heads link
   pub least : (other : ℕ → ℕ → Bool) → SameClosure n tails heads other → linkCount n link ≤ linkCount n other

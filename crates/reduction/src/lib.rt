@@ -1,2 +1,1 @@
-// Definitions and laws alone, with no function: which edges are transitive, and that the others are the fewest links with the
-// graph's reachability.
+// Laws alone, with no function: reduced edges (SPECIFICATION.md, 5.1) have the graph's reachability, and no links that have it are fewer.

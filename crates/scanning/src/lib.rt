@@ -1,5 +1,5 @@
-// Layer 1: the checks of a graph's edges, and their table (document 01: 'size', 'stranger', 'duplicate'). An edge has two bytes, tail and
-// head. The table has two masks of 64 bits a vertex: bit v mod 64, lowest first, of mask 2 u + v / 64 says that an edge goes from u to v.
+// Layer 1: the checks of a graph's edges, and their table (SPECIFICATION.md, 13: 2 to 4). An edge has two bytes, tail and
+// head. The table has two masks of 64 bits a vertex: bit v mod 64 of mask 2 u + v / 64 says that an edge goes from u to v.
 ghost use mathlib.Core.Path.{_≡_};
 ghost use Prim.Native.Nat.{_+_, _*_, _≤_, _<_, min};
 ghost use lib.ListN.{length};

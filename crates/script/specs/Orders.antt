@@ -1,5 +1,5 @@
--- What a line of a script orders: `words N`, `add U V` or `leads U V`, with decimal numbers of any length, parted by one blank each.
--- Assumes nothing.
+-- What a line of a script orders (SPECIFICATION.md, 14.3): `words N`, `add U V` or `leads U V`, with decimal numbers of any length, parted
+-- by one blank each. Assumes nothing.
 use mathlib.Core.Bool.{Bool, true, false, _&&_}
 use mathlib.Core.List.{List, [], _∷_}
 use Prim.Native.Nat.{ℕ, _+_, _-_, _*_}

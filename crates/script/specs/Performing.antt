@@ -14,7 +14,7 @@ use Rattle.script.specs.declared.Performed.{Performed}
 use Rattle.script.specs.Orders.{Order, order}
 use Rattle.script.specs.Scanning.{begun, scan, finished}
 
--- the case of each of the machine's answers, with document 01's number where it is refused
+-- the case of each of the machine's answers, with the number where it is refused
 unfoldable pub outcomeOf : Answer → Outcome
 outcomeOf (Answer.refused k) = Outcome.Refused k
 outcomeOf Answer.added = Outcome.Done

@@ -1,4 +1,4 @@
-// Layer 2: the search for predecessors (document 01: 'Lines'). Each vertex asks once for a successor among those that it leads to by the
+// Layer 2: the search for predecessors (SPECIFICATION.md, 3.3). Each vertex asks once for a successor among those that it leads to by the
 // reachability table; a predecessor that stands in the way is moved.
 ghost use mathlib.Core.Path.{_≡_};
 ghost use mathlib.Core.Bool.{Bool};

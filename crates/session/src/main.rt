@@ -1,5 +1,5 @@
 // Runs a script of a session: a line on standard input is `words N`, `add U V` or `leads U V`, and is answered by a line on standard
-// output, `ok`, `yes`, `no`, `refused` with document 01's number, or `unreadable`.
+// output, `ok`, `yes`, `no`, `refused` with the number, or `unreadable` (SPECIFICATION.md, 14.3).
 ghost use mathlib.Core.Path.{_≡_};
 ghost use Prim.Native.Nat.{_+_, _≤_};
 ghost use lib.ListN.{length};

@@ -1,4 +1,4 @@
--- Document 01's proof table, by computation. Assumes nothing.
+-- The proof table (SPECIFICATION.md, 16), by computation. Assumes nothing.
 use mathlib.Core.Path.{_≡_, refl}
 use mathlib.Core.Bool.{Bool, true, false, _||_}
 use lib.Dec.{eqb, ltb}

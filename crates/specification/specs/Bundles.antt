@@ -14,7 +14,7 @@ adjacent? p q = eqb (p + 1) q || eqb (q + 1) p
 unfoldable pub apart? : ℕ → (ℕ → ℕ) → (ℕ → ℕ) → ℕ → ℕ → Bool
 apart? n channel position u v = (ltb u n && ltb v n) && (eqb (channel u) (channel v) && not (adjacent? (position u) (position v)))
 
--- an edge, by `edge`, between such vertices (document 002: path-transitive; document 01: side arrow)
+-- an edge, by `edge`, between such vertices: path-transitive (6.1)
 abbrev pub sideBy : ℕ → (ℕ → ℕ → Bool) → (ℕ → ℕ) → (ℕ → ℕ) → ℕ → ℕ → Bool
 sideBy n edge channel position u v = edge u v && apart? n channel position u v
 

@@ -76,7 +76,7 @@ verticesOf field = flatten (linesOf field)
 
 -- ---- the checks
 
--- a vertex of n or more (document 01: stranger)
+-- a number that is no vertex, of n or more
 unfoldable pub unknown? : ℕ → List ℕ → Bool
 unknown? n [] = false
 unknown? n (v ∷ l) = leb n v || unknown? n l
@@ -90,6 +90,6 @@ repeats? (v ∷ l) = has v l || repeats? l
 unfoldable pub lacks? : ℕ → List ℕ → Bool
 lacks? n l = some n (λ v. not (has v l))
 
--- a vertex that is not led to by the one before it in its line
+-- a vertex that the one before it in its line does not lead to
 unfoldable pub broken? : (ℕ → ℕ → Bool) → List (List ℕ) → Bool
 broken? leads ls = not (allLinked leads ls)

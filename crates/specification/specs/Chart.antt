@@ -24,7 +24,7 @@ use Rattle.specification.specs.declared.Course.the-variants as course
 use Rattle.specification.specs.Page as page
 
 module _ (c : Content) where
-  -- 'Descent': u leads to v
+  -- u reaches v (2.1)
   unfoldable pub leads? : ℕ → ℕ → Bool
   leads? = reachable? (c .vertices) (c .tails) (c .heads)
 
@@ -37,32 +37,32 @@ module _ (c : Content) where
   abbrev pub headOf : ℕ → ℕ
   headOf e = getD (c .heads) e 0
 
-  -- 'Rows'
+  -- rows (4.1)
   unfoldable pub rowOf : ℕ → ℕ
   rowOf v = row (edge? (c .tails) (c .heads)) (c .vertices) v
 
   unfoldable pub rowCount : ℕ
   rowCount = rowsUsed (edge? (c .tails) (c .heads)) (c .vertices)
 
-  -- 'Implied and firm'
+  -- transitive and reduced edges (5.1)
   unfoldable pub transitiveEdge? : ℕ → Bool
   transitiveEdge? e = transitive? leads? (c .vertices) (tailOf e) (headOf e)
 
   unfoldable pub reducedEdges : ℕ
   reducedEdges = reducedCount leads? (c .vertices) (edgesOf c) (c .tails) (c .heads)
 
--- ---- what is planned: channels (document 01: lines), bundles, and the track of each bundle
+-- ---- what is planned: channels, bundles, and the track of each bundle
 
 pub record Plan : Type 0 where
   pub channels : List (List ℕ)
   pub bundles : List Bundle
   pub tracks : List ℕ
 
--- 'Lines': the given ones, in their order, or the planned ones
+-- the given channels, in their order, or the planned ones (3.2, 3.3)
 unfoldable pub channelsOf : Content → List (List ℕ)
 channelsOf c = choose (c .given) (λ _. linesOf (c .field)) (λ _. planned (leads? c) (c .vertices))
 
--- 'Bundles': the bundles, and then their tracks
+-- the bundles, and then their tracks (6.2, 7.1)
 unfoldable pub tracked : List (List ℕ) → List Bundle → Plan
 tracked ls bs = record {
   channels = ls;
@@ -88,7 +88,7 @@ trackIn p b = getD (p .tracks) b 0
 unfoldable pub tracksIn : Plan → ℕ → ℕ
 tracksIn p l = topIn (length (p .bundles)) (λ b. eqb (bundleIn p b .channel) l) (trackIn p)
 
--- 'Columns and bends': blocks of s + 3 columns
+-- blocks of s + 3 columns (8.1)
 abbrev pub widths : Plan → Widths
 widths p = evenGaps (tracksIn p)
 
@@ -107,8 +107,8 @@ abbrev pub crossing : Course → Kind
 crossing course.Straight = Straight
 crossing (course.Bent x y) = Bent (record { column = x; row = y })
 
--- an edge within a channel is a path edge (document 01: spine arrow) between neighbours, else path-transitive (side arrow), with its
--- bundle; one that joins two channels (cross arrow) is straight or bent
+-- an edge within a channel is a path edge between neighbours, else path-transitive, with its bundle (6.1); one that joins two channels is
+-- straight or bent (8.4)
 unfoldable pub kindBetween : Content → Plan → ℕ → ℕ → Kind
 kindBetween c p u v =
     choose (eqb (channelOf (p .channels) u) (channelOf (p .channels) v))
@@ -140,15 +140,15 @@ bundleEntry p b = record {
 abbrev pub pointAt : VertexEntry → Point
 pointAt v = point (v .column) (v .row)
 
--- document 01's 'Columns and bends', for the edge u → v: a side arrow runs level to its side column, up, and level; a bent one has one
--- bend; the others are straight
+-- the line of the edge u → v (8.3, 8.4): a path-transitive one goes level to its track, up in it, and level; a bent one has one bend; the
+-- others are straight
 unfoldable pub polylineOf : VertexEntry → VertexEntry → Kind → (ℕ → BundleEntry) → List Point
 polylineOf u v Path bundle = straight (pointAt u) (pointAt v)
 polylineOf u v (PathTransitive b) bundle = byTrack (pointAt u) (pointAt v) (trackAt (u .column) gapWidth (bundle b .track))
 polylineOf u v Straight bundle = straight (pointAt u) (pointAt v)
 polylineOf u v (Bent bend) bundle = pointAt u ∷ point (bend .column) (bend .row) ∷ pointAt v ∷ []
 
--- every point of a polyline stands on document 01's page
+-- every point of a polyline stands on the page (8.2)
 pub data OnPage : List Point → Type 0 where
   none : OnPage []
   more : {q : Point} {l : List Point} → q .column < page.columns → q .row < page.rows → OnPage l → OnPage (q ∷ l)

@@ -27,7 +27,7 @@ content n tails heads given field = record { vertices = n; tails = tails; heads 
 abbrev pub edgesOf : Content → ℕ
 edgesOf c = edgeCount (c .tails) (c .heads)
 
--- 2 'size': n is 0 or over 128, or m over 4,096
+-- 2 'size': no vertex, or too many vertices or edges
 unfoldable pub size? : Content → Bool
 size? c = outsized? (c .vertices) (edgesOf c)
 
@@ -43,7 +43,7 @@ double? c = duplicate? (edgesOf c) (c .tails) (c .heads)
 unfoldable pub ring? : Content → Bool
 ring? c = some 128 (λ u. reachable? (c .vertices) (c .tails) (c .heads) u u)
 
--- 6 'cover': given channels repeat or lack a vertex; two checks with one number, since a later request drops the second
+-- 6 'cover': given channels repeat or lack a vertex; two checks with one number, since covering may be dropped later
 unfoldable pub repeated? : Content → Bool
 repeated? c = c .given && repeats? (verticesOf (c .field))
 

@@ -53,14 +53,14 @@ pub record BlockedAmong (candidate : ℕ → Bool) (at : ℕ → Point) (n u v :
   pub blocked : Blocked at n u v
   pub among : candidate (blocked .vertex) ≡ true
 
--- The parts of each channel's block: how many tracks (document 01: side columns), and how many columns on either side of the
--- channel's own column are kept free for bends.
+-- The parts of each channel's block: how many tracks, and how many columns on either side of the channel's own column are
+-- kept free for bends.
 pub record Widths : Type 0 where
   pub tracks : ℕ → ℕ
   pub leftGap : ℕ → ℕ
   pub rightGap : ℕ → ℕ
 
--- Document 01's gaps.
+-- The gaps (8.1).
 abbrev pub gapWidth : ℕ
 gapWidth = 1
 

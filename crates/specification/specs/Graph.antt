@@ -7,7 +7,7 @@ use lib.Dec.{eqb, leb, ltb}
 use lib.ListN.{length, getD, drop}
 use Rattle.specification.specs.Count.{some}
 
--- u reaches v by one or more edges of E, each beginning where the last ended: document 01's 'u leads to v'
+-- u reaches v by one or more edges of E, of which the head of each is the tail of the next (2.1)
 pub data Reaches (E : ℕ → ℕ → Type 0) : ℕ → ℕ → Type 0 where
   one : {u v : ℕ} → E u v → Reaches E u v
   more : {u v w : ℕ} → E u v → Reaches E v w → Reaches E u w
@@ -16,7 +16,7 @@ pub data Reaches (E : ℕ → ℕ → Type 0) : ℕ → ℕ → Type 0 where
 abbrev pub Longer : (ℕ → ℕ → Type 0) → ℕ → ℕ → Type 0
 Longer E u v = (w : ℕ) × E u w × Reaches E w v
 
--- the edges (document 01: arrows) are as many as both lists have
+-- the edges are as many as both lists have
 abbrev pub edgeCount : List ℕ → List ℕ → ℕ
 edgeCount tails heads = min (length tails) (length heads)
 

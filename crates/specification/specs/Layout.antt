@@ -25,7 +25,7 @@ fieldAt tag b at =
     (λ _. Found (at + 3) (sizeAt b at))
     (λ _. Missing)
 
--- whether bytes are lines, each a byte k of at least 1 and then k vertices, of which `left` are to come, ending exactly
+-- whether bytes are channels as in 1.2, each a length above 0 and so many vertices, of which `left` are to come, ending exactly
 unfoldable pub lined : ℕ → List ℕ → Bool
 lined zero [] = true
 lined zero (zero ∷ s) = false

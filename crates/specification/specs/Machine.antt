@@ -8,7 +8,7 @@ use lib.ListN.{length}
 use Rattle.specification.specs.Count.{choose}
 use Rattle.specification.specs.Graph.{Reaches, reaches?, mostVertices, mostEdges}
 
--- an edge (document 01: 'arrow'), from its tail to its head
+-- an edge, from its tail to its head
 pub data Edge : Type 0 where
   edge : ℕ → ℕ → Edge
 
@@ -30,7 +30,7 @@ pub data Call : Type 0 where
   leads : ℕ → ℕ → Call
 
 pub data Answer : Type 0 where
-  -- document 01's number, and nothing changes
+  -- the number, and nothing changes
   refused : ℕ → Answer
   -- the edge is in
   added : Answer
@@ -48,7 +48,7 @@ pub record Turn : Type 0 where
 unfoldable pub unknown? : Graph → ℕ → ℕ → Bool
 unknown? g u v = leb (g .vertices) u || leb (g .vertices) v
 
--- u reaches v (document 01: 'leads to') by the set's edges
+-- u reaches v by the set's edges
 unfoldable pub reached? : Graph → ℕ → ℕ → Bool
 reached? g u v = reaches? (contains (g .edges)) (g .vertices) u v
 

@@ -7,11 +7,11 @@ use lib.ListN.{getD}
 use Rattle.specification.specs.Count.{sum, count, some}
 use Rattle.specification.specs.Graph.{edge?}
 
--- document 01: implied: some word w has u leading to w and w to v
+-- an edge u → v is transitive: u reaches some w that reaches v (5.1)
 unfoldable pub transitive? : (leads : ℕ → ℕ → Bool) → (n u v : ℕ) → Bool
 transitive? leads n u v = some n (λ w. leads u w && leads w v)
 
--- how many of the first m edges are not transitive: the number of firm arrows
+-- how many of the first m edges are not transitive: the number of reduced edges
 unfoldable pub reducedCount : (leads : ℕ → ℕ → Bool) → (n m : ℕ) → (tails heads : List ℕ) → ℕ
 reducedCount leads n m tails heads = count m (λ e. not (transitive? leads n (getD tails e 0) (getD heads e 0)))
 
@@ -23,6 +23,6 @@ Linked n link u v = (u < n) × (v < n) × (link u v ≡ true)
 unfoldable pub linkCount : (n : ℕ) → (link : ℕ → ℕ → Bool) → ℕ
 linkCount n link = sum n (λ u. count n (link u))
 
--- the links of our chart: the ends of the firm arrows
+-- the links of our chart: the ends of the reduced edges (10.4)
 unfoldable pub reducedLink : (leads : ℕ → ℕ → Bool) → (n : ℕ) → (tails heads : List ℕ) → ℕ → ℕ → Bool
 reducedLink leads n tails heads u v = edge? tails heads u v && not (transitive? leads n u v)

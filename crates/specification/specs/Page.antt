@@ -31,7 +31,7 @@ rows = 128
 unfoldable pub toPoints : ℕ → Float
 toPoints n = round binary32 false n perPoint
 
--- the point of a cell (document 01: page place)
+-- the point of a cell (12.1)
 abbrev pub pointOf : Cell → Point
 pointOf c = record { x = toPoints (c .column * columnPitch); y = toPoints (c .row * rowPitch) }
 
@@ -47,7 +47,7 @@ AllAt [] (p ∷ ps) = ⊥
 AllAt (c ∷ cs) [] = ⊥
 AllAt (c ∷ cs) (p ∷ ps) = At c p × AllAt cs ps
 
--- what a polyline says: document 01's number, 0 where nothing is refused, and the points in order
+-- what a polyline says: its number, 0 where nothing is refused, and the points in order
 pub record Answer : Type 0 where
   pub number : ℕ
   pub points : List Point
@@ -55,11 +55,11 @@ pub record Answer : Type 0 where
 abbrev pub accepted : List Point → Answer
 accepted ps = record { number = 0; points = ps }
 
--- document 01: off page
+-- 10 'off page' (12.2)
 abbrev pub refused : Answer
 refused = record { number = 10; points = [] }
 
--- the number and the points of each case (document 01: page stroke)
+-- the number and the points of each case (12.2)
 abbrev pub answerOf : Polyline → Answer
 answerOf (Straight p q) = accepted (p ∷ q ∷ [])
 answerOf (Bent p q r) = accepted (p ∷ q ∷ r ∷ [])

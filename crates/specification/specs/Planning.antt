@@ -17,8 +17,8 @@ width = 2
 abbrev pub nobody : ℕ
 nobody = 255
 
--- each vertex's predecessor (document 01: holder) or `nobody`; the vertices visited in this search (document 01: tried), a set of
--- masks; and whether the last search found a successor (document 01: follower)
+-- each vertex's predecessor or `nobody`; the vertices visited in this search, a set of masks; and whether the last search found a successor
+-- (3.3)
 pub record State : Type 0 where
   pub predecessor : List ℕ
   pub visited : List ℕ

@@ -8,8 +8,8 @@ unfoldable pub above : ℕ → (ℕ → Bool) → (ℕ → ℕ) → ℕ
 above zero test f = 0
 above (suc n) test f = max (above n test f) (choose (test n) (λ _. suc (f n)) (λ _. 0))
 
--- the row of v: 0 where no edge of E enters v, else 1 + the highest row among the vertices with an edge into it; edges are followed back
--- at most k times
+-- the row of v (4.1): 0 where no edge of E enters v, else one more than the highest row of the tails; edges are followed back at most k
+-- times
 unfoldable pub rowWithin : (ℕ → ℕ → Bool) → ℕ → ℕ → ℕ → ℕ
 rowWithin E n zero v = 0
 rowWithin E n (suc k) v = above n (λ u. E u v) (rowWithin E n k)
@@ -21,6 +21,6 @@ mostRows = 128
 abbrev pub row : (ℕ → ℕ → Bool) → ℕ → ℕ → ℕ
 row E n v = rowWithin E n mostRows v
 
--- rows used: 1 + the highest row
+-- the number of rows used (4.1)
 abbrev pub rowsUsed : (ℕ → ℕ → Bool) → ℕ → ℕ
 rowsUsed E n = above n (λ v. true) (row E n)

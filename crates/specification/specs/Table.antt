@@ -1,4 +1,5 @@
--- Document 01's proof table, its edges, its sample listing and its misreadings, over the definitions that the promises cite. Assumes nothing.
+-- The proof table (SPECIFICATION.md, 16): examples, limits, a listing and wrong readings, over the definitions that promises cite.
+-- Assumes nothing.
 use mathlib.Core.Path.{_≡_}
 use mathlib.Core.Bool.{Bool, true, false}
 use mathlib.Core.List.{List, [], _∷_}
@@ -18,7 +19,7 @@ use Rattle.specification.specs.declared.Kind.the-variants.{Path, PathTra
 unfoldable pub graph1 : Content
 graph1 = content 5 (0 ∷ 0 ∷ 1 ∷ 2 ∷ 3 ∷ 0 ∷ []) (1 ∷ 2 ∷ 3 ∷ 3 ∷ 4 ∷ 3 ∷ []) false []
 
--- P5: four words, every arrow from lower to higher
+-- P5: four vertices, an edge from each to every higher one
 unfoldable pub graph5 : Content
 graph5 = content 4 (0 ∷ 0 ∷ 0 ∷ 1 ∷ 1 ∷ 2 ∷ []) (1 ∷ 2 ∷ 3 ∷ 2 ∷ 3 ∷ 3 ∷ []) false []
 
@@ -34,29 +35,29 @@ graph6 = housed (1 ∷ 0 ∷ 2 ∷ 1 ∷ 2 ∷ 3 ∷ 3 ∷ 4 ∷ 5 ∷ [])
 unfoldable pub graph7 : Content
 graph7 = housed (1 ∷ 0 ∷ 1 ∷ 1 ∷ 1 ∷ 2 ∷ 3 ∷ 3 ∷ 4 ∷ 5 ∷ [])
 
--- P8: one word, no arrows
+-- P8: one vertex, no edge
 unfoldable pub graph8 : Content
 graph8 = content 1 [] [] false []
 
--- misreading 1: 0→2, 0→3, 1→2
+-- wrong reading 1: 0→2, 0→3, 1→2
 unfoldable pub moving : Content
 moving = content 4 (0 ∷ 0 ∷ 1 ∷ []) (2 ∷ 3 ∷ 2 ∷ []) false []
 
--- misreading 2: 0→2, 1→2, 2→3, 2→4
+-- wrong reading 2: 0→2, 1→2, 2→3, 2→4
 unfoldable pub meeting : Content
 meeting = content 5 (0 ∷ 1 ∷ 2 ∷ 2 ∷ []) (2 ∷ 2 ∷ 3 ∷ 4 ∷ []) false []
 
--- misreading 3: 0→1, 1→2, 2→3, 3→4, with 0→2 and 2→4 beside them
+-- wrong reading 3: 0→1, 1→2, 2→3, 3→4, with 0→2 and 2→4 beside them
 unfoldable pub touching : Content
 touching = content 5 (0 ∷ 1 ∷ 2 ∷ 3 ∷ 0 ∷ 2 ∷ []) (1 ∷ 2 ∷ 3 ∷ 4 ∷ 2 ∷ 4 ∷ []) false []
 
--- misreading 4: 0→1, 1→2, 2→3, 0→3
+-- wrong reading 4: 0→1, 1→2, 2→3, 0→3
 unfoldable pub detour : Content
 detour = content 4 (0 ∷ 1 ∷ 2 ∷ 0 ∷ []) (1 ∷ 2 ∷ 3 ∷ 3 ∷ []) false []
 
 -- ---- records
 
--- P1's, as document 01 prints it
+-- P1's
 unfoldable pub record1 : List ℕ
 record1 = 1 ∷ 0 ∷ 1 ∷ 5 ∷ 2 ∷ 0 ∷ 12 ∷ 0 ∷ 1 ∷ 0 ∷ 2 ∷ 1 ∷ 3 ∷ 2 ∷ 3 ∷ 3 ∷ 4 ∷ 0 ∷ 3 ∷ []
 
@@ -73,11 +74,11 @@ record7 = 1 ∷ 0 ∷ 1 ∷ 6 ∷ 2 ∷ 0 ∷ 8 ∷ 1 ∷ 2 ∷ 3 ∷ 4 ∷ 4 �
 unfoldable pub record8 : List ℕ
 record8 = 1 ∷ 0 ∷ 1 ∷ 1 ∷ 2 ∷ 0 ∷ 0 ∷ []
 
--- P9: one word, 0→0
+-- P9: one vertex, 0→0
 unfoldable pub record9 : List ℕ
 record9 = 1 ∷ 0 ∷ 1 ∷ 1 ∷ 2 ∷ 0 ∷ 2 ∷ 0 ∷ 0 ∷ []
 
--- P10: two words, 0→1 twice
+-- P10: two vertices, 0→1 two times
 unfoldable pub record10 : List ℕ
 record10 = 1 ∷ 0 ∷ 1 ∷ 2 ∷ 2 ∷ 0 ∷ 4 ∷ 0 ∷ 1 ∷ 0 ∷ 1 ∷ []
 
@@ -91,7 +92,7 @@ Says b c = (recordRefusal b ≡ 0) × (said b ≡ c)
 abbrev pub Refused : List ℕ → ℕ → Type 0
 Refused b k = (recordRefusal b ≡ k) × (said b ≡ nothing)
 
--- channel, position, column, row and number of descendants of a vertex
+-- the entry of a vertex: channel, position, column, row, descendants
 abbrev pub Word : Content → ℕ → ℕ → ℕ → ℕ → ℕ → ℕ → Type 0
 Word c v channel position column row descendants = vertexEntry c (planOf c) v ≡ record { channel = channel; position = position; column = column; row = row; descendants = descendants }
 
@@ -116,19 +117,19 @@ implied = true
 -- ---- the table
 
 pub record Table : Type 0 where
-  -- P1: 0 leads to 1, 2, 3, 4; they are four, so to no other
+  -- P1: 0 reaches the four others, and nothing else
   pub p1 : (leads? graph1 0 1 ≡ true) × (leads? graph1 0 2 ≡ true) × (leads? graph1 0 3 ≡ true) × (leads? graph1 0 4 ≡ true)
   pub p1-only : descendantsOf graph1 0 ≡ 4
   pub p1-record : Says record1 graph1
-  -- P2: lines 0 1 4 and 2 3
+  -- P2: the channels
   pub p2 : channelsOf graph1 ≡ (0 ∷ 1 ∷ 4 ∷ []) ∷ (2 ∷ 3 ∷ []) ∷ []
-  -- P3: rows 0 1 1 2 3, and four are used
+  -- P3: the rows, of which four are used
   pub p3 : (rowOf graph1 0 ≡ 0) × (rowOf graph1 1 ≡ 1) × (rowOf graph1 2 ≡ 1) × (rowOf graph1 3 ≡ 2) × (rowOf graph1 4 ≡ 3)
   pub p3-used : rowCount graph1 ≡ 4
-  -- P4: only arrow 5 is implied
+  -- P4: the last edge is transitive, and no other
   pub p4 : (transitiveEdge? graph1 0 ≡ false) × (transitiveEdge? graph1 1 ≡ false) × (transitiveEdge? graph1 2 ≡ false) × (transitiveEdge? graph1 3 ≡ false) × (transitiveEdge? graph1 4 ≡ false) × (transitiveEdge? graph1 5 ≡ true)
   pub p4-firm : reducedEdges graph1 ≡ 5
-  -- P5: one line; bundles into 3 (rows 0 to 3) and into 2 (rows 0 to 2), columns 0 and 1, X = 3
+  -- P5: one channel, X = 3; the bundle into 3 over rows 0 .. 3 in track 0, the one into 2 over rows 0 .. 2 in track 1
   pub p5-record : Says record5 graph5
   pub p5-line : channelsOf graph5 ≡ (0 ∷ 1 ∷ 2 ∷ 3 ∷ []) ∷ []
   pub p5-bundles : planOf graph5 .bundles ≡ record { channel = 0; into = true; vertex = 3; first = 0; last = 3 } ∷ record { channel = 0; into = true; vertex = 2; first = 0; last = 2 } ∷ []
@@ -136,9 +137,9 @@ pub record Table : Type 0 where
   pub p5-own : (columnIn (planOf graph5) 0 ≡ 3) × (columnIn (planOf graph5) 1 ≡ 3) × (columnIn (planOf graph5) 2 ≡ 3) × (columnIn (planOf graph5) 3 ≡ 3)
   pub p5-counts : (tracksIn (planOf graph5) 0 ≡ 2) × (widthOf (planOf graph5) ≡ 5)
   pub p5-arrows : Arrow graph5 0 0 1 Path firm × Arrow graph5 1 0 2 (PathTransitive 1) implied × Arrow graph5 2 0 3 (PathTransitive 0) implied × Arrow graph5 3 1 2 Path firm × Arrow graph5 4 1 3 (PathTransitive 0) implied × Arrow graph5 5 2 3 Path firm
-  -- side column j stands at X − 2 − j: 1 for the bundle into 3, 0 for that into 2
+  -- the tracks' columns, by 8.1: 1 for the bundle into 3, 0 for that into 2
   pub p5-drawn : (drawn graph5 2 ≡ point 3 0 ∷ point 1 0 ∷ point 1 3 ∷ point 3 3 ∷ []) × (drawn graph5 1 ≡ point 3 0 ∷ point 0 0 ∷ point 0 2 ∷ point 3 2 ∷ [])
-  -- P6: arrow 0→5 bends at (2, 1)
+  -- P6: the edge 0→5 has its bend in column 2, row 1
   pub p6-record : Says record6 graph6
   pub p6-lines : channelsOf graph6 ≡ (0 ∷ []) ∷ (1 ∷ 2 ∷ []) ∷ (3 ∷ 4 ∷ 5 ∷ []) ∷ []
   pub p6 : Arrow graph6 3 0 5 (Bent (record { column = 2; row = 1 })) firm
@@ -151,27 +152,27 @@ pub record Table : Type 0 where
   -- P8: X = 1, width 3
   pub p8-record : Says record8 graph8
   pub p8 : (columnIn (planOf graph8) 0 ≡ 1) × (widthOf (planOf graph8) ≡ 3)
-  -- P9: 0→0 gives 5
+  -- P9: a vertex that reaches itself, 5
   pub p9 : Refused record9 5
-  -- P10: 0→1 twice gives 4
+  -- P10: an edge two times, 4
   pub p10 : Refused record10 4
-  -- twice and in a ring: 4 goes before 5
+  -- both: 4 goes before 5
   pub double-first : refusalOf (content 2 (0 ∷ 1 ∷ 0 ∷ []) (1 ∷ 0 ∷ 1 ∷ []) false []) ≡ 4
   -- the sample listing: its header, words and arrows
   pub header : (graph1 .vertices ≡ 5) × (edgesOf graph1 ≡ 6) × (rowCount graph1 ≡ 4) × (length (channelsOf graph1) ≡ 2) × (reducedEdges graph1 ≡ 5) × (length (planOf graph1 .bundles) ≡ 0) × (widthOf (planOf graph1) ≡ 6)
   pub words : Word graph1 0 0 0 1 0 4 × Word graph1 1 0 1 1 1 2 × Word graph1 2 1 0 4 1 2 × Word graph1 3 1 1 4 2 1 × Word graph1 4 0 2 1 3 0
   pub arrows : Arrow graph1 0 0 1 Path firm × Arrow graph1 1 0 2 Straight firm × Arrow graph1 2 1 3 Straight firm × Arrow graph1 3 2 3 Path firm × Arrow graph1 4 3 4 Straight firm × Arrow graph1 5 0 3 Straight implied
-  -- edges: a missing tag 2 field gives 1, one of length 0 is accepted (P8), a tag 3 field of length 0 gives 6
+  -- limits (16.2): without tag 2 it is 1, with an empty tag 2 accepted (P8), with an empty tag 3 it is 6
   pub no-arrows-field : Refused (1 ∷ 0 ∷ 1 ∷ 1 ∷ []) 1
   pub empty-lines-field : Refused (1 ∷ 0 ∷ 1 ∷ 1 ∷ 2 ∷ 0 ∷ 0 ∷ 3 ∷ 0 ∷ 0 ∷ []) 6
-  -- 129 words or 4,097 arrows give 2
+  -- a vertex or an edge too many is 2
   pub more-words : (c : Content) → c .vertices ≡ 129 → refusalOf c ≡ 2
   pub more-arrows : (c : Content) → edgesOf c ≡ 4097 → refusalOf c ≡ 2
-  -- misreadings: two lines, since 0 gives 2 up for 3
+  -- wrong readings (16.3): two channels, since 0 gives 2 up for 3
   pub moved : channelsOf moving ≡ (0 ∷ 3 ∷ []) ∷ (1 ∷ 2 ∷ []) ∷ []
-  -- two lines, since 1 leads to 4 over 2
+  -- two channels, since 1 reaches 4 over 2
   pub by-routes : channelsOf meeting ≡ (0 ∷ 2 ∷ 3 ∷ []) ∷ (1 ∷ 4 ∷ []) ∷ []
-  -- rows 0 to 2 and 2 to 4 share row 2: two columns
+  -- rows 0 .. 2 and 2 .. 4 share row 2: two tracks
   pub shared : Side touching 0 0 0 2 0 × Side touching 1 0 2 4 1 × (tracksIn (planOf touching) 0 ≡ 2)
-  -- arrow 3 is implied by a route of three arrows; no route of two goes along it
+  -- edge 3 is transitive by a route of three edges; no route of two goes along it
   pub longer : (transitiveEdge? detour 3 ≡ true) × (reducedEdges detour ≡ 3) × (transitive? (edge? (detour .tails) (detour .heads)) 4 0 3 ≡ false)

@@ -1,4 +1,5 @@
-// What is handed over, and the definitions of what is right (specs/): all that a promise rests on.
+// The types that are handed over, and the definitions of what is right (specs/, by the numbers of SPECIFICATION.md): all that a promise
+// rests on.
 
 // A tagged field: its bytes begin at `start`, and there are `size` of them.
 pub enum Field {
@@ -7,7 +8,7 @@ pub enum Field {
 }
 
 // Where the fields of a record stand. Edge i has its tail at edges + 2 i and its head after it, and there are `count` of them. The given
-// channels (document 01: house lines) are the `size` bytes from `lines` on, where `given` says so.
+// channels are the `size` bytes from `lines` on, where `given` says so.
 pub struct Fields {
     pub vertices: usize,
     pub edges: usize,
@@ -28,7 +29,7 @@ pub enum Course {
     Bent(u16, u8),
 }
 
-// A vertex as it is handed over (document 01: per word its line, position, column, row and number of descendants).
+// A vertex as it is handed over (9.2).
 pub struct VertexEntry {
     pub channel: u8,
     pub position: u8,
@@ -43,7 +44,7 @@ pub struct Bend {
     pub row: u8,
 }
 
-// Document 01's kinds: spine, side with its bundle, straight, bent with its bend.
+// The kinds of edges (6.1, 8.4).
 pub enum Kind {
     Path,
     PathTransitive(u16),
@@ -51,14 +52,14 @@ pub enum Kind {
     Bent(Bend),
 }
 
-// An edge as it is handed over, with its mark: transitive (document 01: implied) or reduced (firm).
+// An edge as it is handed over, with its mark (5.1).
 pub struct EdgeEntry {
     pub number: u16,
     pub kind: Kind,
     pub transitive: bool,
 }
 
-// A bundle as it is handed over: its channel, its rows, both included, and its track (document 01: side column).
+// A bundle as it is handed over: its channel, its rows, both included, and its track.
 pub struct BundleEntry {
     pub channel: u8,
     pub first_row: u8,
@@ -72,13 +73,13 @@ pub struct Cell {
     pub row: u32,
 }
 
-// Points across and points up (document 01: page place).
+// Points across and points up (12.1).
 pub struct Point {
     pub x: f32,
     pub y: f32,
 }
 
-// A line through two, three or four points, or that one of them would be off the page (document 01: page stroke).
+// A line through two, three or four points, or that one of them would be off the page (12.2).
 pub enum Polyline {
     Straight(Point, Point),
     Bent(Point, Point, Point),

@@ -1,4 +1,4 @@
-// Reads a record on standard input and prints whether it is accepted, or the number of its refusal.
+// Prints whether the record on standard input is accepted, or the number of its refusal (SPECIFICATION.md, 14.2).
 use libc::STDIN_FILENO;
 use libc::STDOUT_FILENO;
 

@@ -1,4 +1,4 @@
-//! Bundles of path-transitive edges (the paper's side arrows), chosen greedily.
+//! Bundles of path-transitive edges (side arrows), chosen greedily (6).
 
 use crate::lines::Channels;
 use crate::record::Edge;
@@ -15,7 +15,7 @@ pub struct Bundle {
     pub first_row: usize,
     /// The highest row of its vertices.
     pub last_row: usize,
-    /// The track, the paper's side column.
+    /// The track.
     pub track: usize,
 }
 

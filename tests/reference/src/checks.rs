@@ -1,4 +1,4 @@
-//! The checks 2 to 7 of a record, in the paper's order.
+//! The checks 2 to 7 of a record, in their order (13).
 
 use crate::descent::Reachability;
 use crate::record::{Record, MAX_EDGES, MAX_VERTICES};

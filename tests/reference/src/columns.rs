@@ -6,7 +6,7 @@ const FIXED: usize = 3;
 /// Where the channels stand.
 #[derive(Clone, Debug, PartialEq, Eq)]
 pub struct Columns {
-    /// The own column of each channel (X in the paper).
+    /// The own column of each channel (X in 8.1).
     pub own: Vec<usize>,
     /// The number of columns of all blocks.
     pub width: usize,

@@ -1,4 +1,4 @@
-//! Reachability, the paper's descent: which vertex leads to which.
+//! Reachability (descent): which vertex leads to which (2).
 
 use crate::record::{Edge, MAX_VERTICES};
 

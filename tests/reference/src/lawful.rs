@@ -86,7 +86,7 @@ impl PartBundle {
     }
 }
 
-/// A chart as the paper describes a lawful one.
+/// A lawful chart (10.1).
 #[derive(Clone, Debug, PartialEq, Eq)]
 pub struct LawfulChart {
     /// The row of each vertex.

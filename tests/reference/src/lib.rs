@@ -1,8 +1,8 @@
-//! A reference reading of the descent chart paper ("document 01").
+//! A second implementation of docs/SPECIFICATION.md, whose sections are cited by number.
 //!
 //! Data goes one way: bytes, edges, reachability, channels, rows, marks, bundles, columns, kinds,
-//! chart, listing. Each module holds one of these and says, in its head, which of the paper's
-//! words it stands for.
+//! chart, listing. Each module holds one of these and says, in its head, which word of records and
+//! listings it stands for.
 
 pub mod bundles;
 pub mod chart;

@@ -1,4 +1,4 @@
-//! Channels, the paper's lines: lists of vertices in which each reaches the next.
+//! Channels (lines): lists of vertices of which each reaches the next (3).
 
 use crate::descent::Reachability;
 use crate::record::Record;
@@ -46,7 +46,7 @@ impl Channels {
     }
 }
 
-/// Plans channels: each vertex, from 0 up, asks once for a successor.
+/// Plans channels (3.3): every vertex asks for a successor, in ascending order.
 pub fn plan(reach: &Reachability) -> Vec<Vec<usize>> {
     let mut planner = Planner {
         reach,
@@ -58,7 +58,7 @@ pub fn plan(reach: &Reachability) -> Vec<Vec<usize>> {
     planner.channels()
 }
 
-/// The state between two asks. The paper's holder of a word is its predecessor here.
+/// The state between two asks (3.3).
 struct Planner<'a> {
     reach: &'a Reachability,
     predecessors: Vec<Option<usize>>,

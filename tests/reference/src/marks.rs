@@ -1,4 +1,4 @@
-//! Transitive and reduced edges, the paper's implied and firm arrows.
+//! Transitive and reduced edges: implied and firm arrows (5).
 
 use crate::descent::Reachability;
 use crate::record::Edge;

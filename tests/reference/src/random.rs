@@ -72,7 +72,7 @@ pub enum Shape {
     Chain,
     /// From a lower part to the rest.
     Bipartite,
-    /// Small layers, edges from each to the next two.
+    /// Small rows, edges from each to the next two.
     Layered,
     /// At most one edge into each vertex.
     Forest,

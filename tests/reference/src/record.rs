@@ -1,6 +1,6 @@
 //! The record: its bytes, and what stands in them.
 //!
-//! Vertices are the paper's words, edges its arrows, given channels its house lines.
+//! Vertices are words, edges arrows, given channels house lines (1).
 
 use crate::checks;
 use crate::refusal::Refusal;
@@ -84,7 +84,7 @@ impl Record {
     }
 }
 
-/// The record in `bytes`, or nothing where the layout is not the paper's.
+/// The record in `bytes`, or nothing where they are not well laid out (1.3).
 fn parse_layout(bytes: &[u8]) -> Option<Record> {
     if bytes.len() > MAX_BYTES {
         return None;

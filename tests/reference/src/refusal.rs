@@ -1,11 +1,11 @@
-//! Why something is sent back: the paper's ten refusals.
+//! Why something is sent back: the ten refusals (13).
 
 use std::fmt;
 
-/// A refusal. The order of the cases is the order of the paper's table.
+/// A refusal. The cases stand in the order of their numbers.
 #[derive(Clone, Copy, Debug, PartialEq, Eq, PartialOrd, Ord, Hash)]
 pub enum Refusal {
-    /// 1, "layout": fields, lengths or order are not as the paper says.
+    /// 1, "layout": the bytes are not well laid out.
     Layout = 1,
     /// 2, "size": no vertex, too many vertices or too many edges.
     Size,
@@ -19,7 +19,7 @@ pub enum Refusal {
     Cover,
     /// 7, "broken": a vertex of a given channel is not reached by the one before.
     Broken,
-    /// 8, "short": a lent list has too few entries.
+    /// 8, "short": there are too few entries in a lent list.
     Short,
     /// 9, "full": the session has all the edges it can hold.
     Full,
@@ -28,12 +28,12 @@ pub enum Refusal {
 }
 
 impl Refusal {
-    /// The number that the paper gives.
+    /// Its number.
     pub fn number(self) -> u8 {
         self as u8
     }
 
-    /// The word that the paper gives.
+    /// Its word.
     pub fn word(self) -> &'static str {
         match self {
             Refusal::Layout => "layout",

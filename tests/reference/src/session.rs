@@ -1,4 +1,4 @@
-//! A session: a graph that grows edge by edge. It goes in and comes back by value.
+//! A session: a graph that grows edge by edge, by value (11).
 
 use crate::record::{MAX_EDGES, MAX_VERTICES};
 use crate::refusal::Refusal;

@@ -12,7 +12,7 @@ pub const PAGE_COLUMNS: usize = 640;
 /// The number of rows of a page.
 pub const PAGE_ROWS: usize = 128;
 
-/// A point of the page (the paper's page place), in whole quarter points.
+/// A point of the page (12.1), in whole quarter points.
 #[derive(Clone, Copy, Debug, PartialEq, Eq)]
 pub struct Point {
     /// Quarter points from the left.
@@ -51,7 +51,7 @@ pub enum Polyline {
     Straight([Point; 2]),
     /// Three points.
     Bent([Point; 3]),
-    /// Four points, the paper's side stroke.
+    /// Four points, a side stroke.
     PathTransitive([Point; 4]),
 }
 

@@ -1,4 +1,4 @@
-//! Tracks, the paper's side columns: where the bundles of one channel run.
+//! Tracks (side columns): where the bundles of one channel run (7).
 
 use crate::bundles::Bundle;
 use std::collections::BTreeSet;

@@ -7,7 +7,7 @@ use Rattle.specification.specs.Count.{sum, count}
 use Rattle.specification.specs.Graph.{edge?}
 use Rattle.specification.specs.Bundles.{Bundle, alike, gathers, takes, taken, bundleOf, joined, waits, waitsAt, load, before, best, made, rounds, bundles, adjacent?, apart?, side?, bundlesOf}
 
--- document 01's P5: four vertices, every edge from lower to higher, in one channel
+-- P5 (SPECIFICATION.md, 16.1): four vertices, every edge from a lower to a higher one, in one channel
 unfoldable pub tails : List ℕ
 tails = 0 ∷ 0 ∷ 0 ∷ 1 ∷ 1 ∷ 2 ∷ []
 
@@ -18,7 +18,7 @@ unfoldable pub p5 : List Bundle
 p5 = bundlesOf 4 tails heads 1 (λ v. 0) (λ v. v) (λ v. v)
 
 pub record Worked : Type 0 where
-  -- into 3, rows 0 to 3, and into 2, rows 0 to 2
+  -- one into 3, over rows 0 .. 3, and one into 2, over rows 0 .. 2
   pub two : p5 ≡ record { channel = 0; into = true; vertex = 3; first = 0; last = 3 } ∷ record { channel = 0; into = true; vertex = 2; first = 0; last = 2 } ∷ []
   -- the edges 0 → 2, 0 → 3 and 1 → 3
   pub numbers : (bundleOf p5 0 2 ≡ 1) × (bundleOf p5 0 3 ≡ 0) × (bundleOf p5 1 3 ≡ 0)

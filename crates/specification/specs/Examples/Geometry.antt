@@ -1,4 +1,4 @@
--- Examples of document 01, by computation.
+-- Examples (SPECIFICATION.md, 16.1), by computation.
 use mathlib.Core.Path.{_≡_, refl}
 use mathlib.Core.List.{List, [], _∷_}
 use Prim.Native.Nat.{ℕ, _+_, _-_}
@@ -55,7 +55,7 @@ p5-tracks : (trackAt (ownColumn (evenGaps (λ c. 2)) 0) gapWidth 0 ≡ 1) × (tr
 unfolding sum blockStart ownColumn
 p5-tracks = (refl, refl)
 
--- a block has s + 3 columns, and track j stands at X − 2 − j
+-- a block has s + 3 columns, and track j its column (8.1)
 width-said : (tracks : ℕ → ℕ) (c : ℕ) → blockWidth (evenGaps tracks) c ≡ tracks c + 3
 width-said tracks c = omega arith
 

@@ -6,7 +6,7 @@ use Prim.Native.Nat.{ℕ}
 use Rattle.specification.specs.Count.{sum, count, some}
 use Rattle.specification.specs.Graph.{edge?, reaches?, outsized?, strange?, verdict, refusal, reachable?}
 
--- document 01's P1: 0→1, 0→2, 1→3, 2→3, 3→4, 0→3
+-- P1 (SPECIFICATION.md, 16.1): 0→1, 0→2, 1→3, 2→3, 3→4, 0→3
 unfoldable pub tails : List ℕ
 tails = 0 ∷ 0 ∷ 1 ∷ 2 ∷ 3 ∷ 0 ∷ []
 
@@ -14,7 +14,7 @@ unfoldable pub heads : List ℕ
 heads = 1 ∷ 2 ∷ 3 ∷ 3 ∷ 4 ∷ 3 ∷ []
 
 pub record Worked : Type 0 where
-  -- 0 leads to 1, 2, 3 and 4, and to no other
+  -- 0 reaches the four others, and nothing else
   pub p1 : (reachable? 5 tails heads 0 1 ≡ true) × (reachable? 5 tails heads 0 2 ≡ true) × (reachable? 5 tails heads 0 3 ≡ true) × (reachable? 5 tails heads 0 4 ≡ true)
   pub four : count 128 (reachable? 5 tails heads 0) ≡ 4
   pub back : reachable? 5 tails heads 4 0 ≡ false

@@ -19,7 +19,7 @@ unfoldable pub crowded : Graph
 crowded = record { vertices = 4; edges = copies 4096 }
 
 pub record Worked : Type 0 where
-  -- document 01, P9 and P10
+  -- P9 and P10 (SPECIFICATION.md, 16.1)
   pub p9 : answers (fresh 1) (add 0 0 ∷ []) ≡ refused 5 ∷ []
   pub p10 : answers (fresh 2) (add 0 1 ∷ add 0 1 ∷ []) ≡ added ∷ refused 4 ∷ []
   -- a refused start: no vertex is known

@@ -7,7 +7,7 @@ use Rattle.specification.specs.Count.{sum, count, some}
 use Rattle.specification.specs.Graph.{edge?, reaches?}
 use Rattle.specification.specs.Marks.{transitive?, reducedCount, linkCount, reducedLink}
 
--- document 01's P4: 0→1, 0→2, 1→3, 2→3, 3→4, 0→3
+-- P4 (SPECIFICATION.md, 16.1): 0→1, 0→2, 1→3, 2→3, 3→4, 0→3
 unfoldable pub tails : List ℕ
 tails = 0 ∷ 0 ∷ 1 ∷ 2 ∷ 3 ∷ 0 ∷ []
 
@@ -37,7 +37,7 @@ pub record Worked : Type 0 where
   pub implied : transitive? leads 5 0 3 ≡ true
   pub counted : reducedCount leads 5 6 tails heads ≡ 5
   pub links : linkCount 5 (reducedLink leads 5 tails heads) ≡ 5
-  -- document 01's misreading: an arrow is implied over routes of more than two arrows too
+  -- an edge is transitive over routes of more than two edges too (16.3)
   pub detour : transitive? route 4 0 3 ≡ true
   pub missed : transitive? arrow 4 0 3 ≡ false
   pub path : reducedCount route 4 4 detourTails detourHeads ≡ 3

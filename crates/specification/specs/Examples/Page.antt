@@ -1,4 +1,4 @@
--- Worked examples of document 01, and the page's edges.
+-- Worked examples (SPECIFICATION.md, 12.1), and the page's edges.
 use mathlib.Core.Path.{_≡_, refl}
 use mathlib.Core.Bool.{false}
 use mathlib.Core.List.{[], _∷_}

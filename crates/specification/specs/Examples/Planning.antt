@@ -18,12 +18,12 @@ unfoldable pub related : List (List ℕ) → ℕ → ℕ → Bool
 unfolding among
 related rows u v = among (getD rows u []) v
 
--- document 01's P2: 0→1, 0→2, 1→3, 2→3, 3→4, 0→3, with all that follows from them
+-- P2 (SPECIFICATION.md, 16.1): 0→1, 0→2, 1→3, 2→3, 3→4, 0→3, with all that follows from them
 unfoldable pub p2 : ℕ → ℕ → Bool
 unfolding related
 p2 = related ((1 ∷ 2 ∷ 3 ∷ 4 ∷ []) ∷ (3 ∷ 4 ∷ []) ∷ (3 ∷ 4 ∷ []) ∷ (4 ∷ []) ∷ [])
 
--- document 01's misreadings: 0→2, 0→3, 1→2; and 0→2, 1→2, 2→3, 2→4, by arrows alone and with all that follows
+-- wrong readings (SPECIFICATION.md, 16.3): 0→2, 0→3, 1→2; and 0→2, 1→2, 2→3, 2→4, by arrows alone and with all that follows
 unfoldable pub keep : ℕ → ℕ → Bool
 unfolding related
 keep = related ((2 ∷ 3 ∷ []) ∷ (2 ∷ []) ∷ [])

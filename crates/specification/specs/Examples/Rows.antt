@@ -5,7 +5,7 @@ use Prim.Native.Nat.{ℕ}
 use Rattle.specification.specs.Graph.{edge?}
 use Rattle.specification.specs.Rows.{above, rowWithin, row, rowsUsed}
 
--- document 01's P3: 0→1, 0→2, 1→3, 2→3, 3→4, 0→3 have rows 0 1 1 2 3
+-- P3 (SPECIFICATION.md, 16.1): 0→1, 0→2, 1→3, 2→3, 3→4, 0→3 have rows 0 1 1 2 3
 unfoldable pub tails : List ℕ
 tails = 0 ∷ 0 ∷ 1 ∷ 2 ∷ 3 ∷ 0 ∷ []
 

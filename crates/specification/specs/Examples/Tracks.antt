@@ -12,9 +12,9 @@ unfoldable pub within : ℕ → ℕ → List ℕ → List ℕ → List ℕ → L
 within rows n channel first last = take n (inRows n (λ b. getD channel b 0) (λ b. getD first b 0) (λ b. getD last b 0) rows)
 
 pub record Worked : Type 0 where
-  -- document 01's P5: rows 0 to 3 and 0 to 2
+  -- P5 (SPECIFICATION.md, 16.1): rows 0 to 3 and 0 to 2
   pub p5 : within 1 2 (0 ∷ 0 ∷ []) (0 ∷ 0 ∷ []) (3 ∷ 2 ∷ []) ≡ 0 ∷ 1 ∷ []
-  -- document 01's misreading: rows 0 to 2 and 2 to 4 share row 2; rows 3 to 4 fit beside the first
+  -- a wrong reading (16.3): rows 0 .. 2 and 2 .. 4 share row 2; rows 3 to 4 fit beside the first
   pub shared : within 4 3 (0 ∷ 0 ∷ 0 ∷ []) (2 ∷ 0 ∷ 3 ∷ []) (4 ∷ 2 ∷ 4 ∷ []) ≡ 1 ∷ 0 ∷ 0 ∷ []
   -- bundles of different channels never meet
   pub channels : within 1 2 (0 ∷ 1 ∷ []) (0 ∷ 0 ∷ []) (3 ∷ 2 ∷ []) ≡ 0 ∷ 0 ∷ []

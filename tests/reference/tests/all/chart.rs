@@ -79,7 +79,7 @@ fn lists_of_the_needed_length_are_filled() {
 }
 
 #[test]
-fn entries_past_the_needed_ones_are_unchanged() {
+fn lists_stay_past_their_last_entry() {
     let mut lent = Lent::new(9, 11, 5);
     let chart = draw(&complete());
     assert_eq!(lent.draw(&complete().to_bytes()), (None, chart.counts));
@@ -193,7 +193,7 @@ fn the_largest_chart_is_drawn() {
 }
 
 #[test]
-fn masks_have_the_bit_of_v_in_the_masks_of_u() {
+fn masks_have_a_bit_where_one_reaches_another() {
     let path: Vec<_> = (0..127).map(|u| (u, u + 1)).collect();
     let masks = Reachability::of(128, &graph(128, &path).edges).masks();
     assert_eq!((masks[0], masks[1]), (u64::MAX - 1, u64::MAX));

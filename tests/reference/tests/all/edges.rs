@@ -260,7 +260,7 @@ fn with_faults(has: impl Fn(u8) -> bool) -> Vec<u8> {
 }
 
 #[test]
-fn refusals_have_the_paper_s_numbers_and_words() {
+fn refusals_have_their_numbers_and_words() {
     let table = [
         (Refusal::Layout, 1, "layout"),
         (Refusal::Size, 2, "size"),

@@ -1,4 +1,4 @@
-//! Demand 3 on all small graphs: no lawful chart is smaller than the one drawn.
+//! All small graphs: no lawful chart is smaller than the one drawn (SPECIFICATION.md, 10.5).
 
 use crate::support::{draw, graph, with_channels};
 use reference::bundles::Bundle;
@@ -60,7 +60,7 @@ fn no_lawful_chart_is_smaller() {
 }
 
 #[test]
-fn nor_where_an_editor_gave_the_lines() {
+fn nor_with_given_channels() {
     let mut tried = 0;
     for size in SIZES {
         let links = least_links(size);

@@ -1,4 +1,4 @@
-//! Readings of the paper that are wrong, and records that tell them from the right one.
+//! Wrong readings (SPECIFICATION.md, 16.3), and records that tell them from the right one.
 
 use crate::support::{bundles, channels, draw, graph, rows, transitive, with_channels};
 use reference::geometry::Place;

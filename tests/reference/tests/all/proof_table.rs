@@ -1,4 +1,4 @@
-//! The paper's proof table, P1 to P10.
+//! The proof table, P1 to P10 (SPECIFICATION.md, 16.1).
 
 use crate::support::{bundles, channels, draw, graph, refusal, rows, transitive, with_channels};
 use reference::chart::Chart;

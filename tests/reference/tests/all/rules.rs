@@ -1,4 +1,4 @@
-//! The paper's rules, looked at one by one on random records.
+//! The rules, looked at one by one on random records.
 
 use crate::support::{channels, draw};
 use reference::bundles::Bundle;
