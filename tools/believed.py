@@ -4,6 +4,9 @@
     believed.py [ROOT] [--list]     files and lines of definitions, without imports, comments and blank lines;
                                     --list names each definition with its file and lines
 
+What is right is defined in the crate `specification`. The demands, and the promises of the exported calls, are statements over it, and have to be read
+too. Promises of the layers between are proved and used, but nobody has to believe them.
+
 A promise is the `ensures` of a public function of a library; of a demand it is the type of a public theorem of `demands/proofs/Demands.antt`. A
 name in it leads to its definition in a `specs/` file by the imports there, and from that on to every definition that it names. What only private
 functions' contracts name is not counted.
@@ -17,7 +20,10 @@ HEAD = re.compile(r'^( *)(?:abbrev |unfoldable )?pub (?:record |data )?([^\s(){}
 USE = re.compile(r'^use (Rattle\S+?)(?:\.\{(.*)\}| as (\S+))$')
 GHOST = re.compile(r'^ghost use (Rattle\S+?)(?:\.\{(.*)\}| as (\S+));$')
 CALL = re.compile(r'\bpub\s+(?:extern\s+"C"\s+)?fn\s+(\w+)')
-SESSIONS = {'editing', 'script', 'page'}
+# The crate of definitions, that of the exported calls, and those that no chart needs.
+DEFINED = 'specification'
+EXPORTED = 'ceviloneth'
+SESSIONS = {'editing', 'script', 'page', 'text'}
 
 
 def module_of(path):
@@ -141,17 +147,19 @@ def main():
     words = [w for w in sys.argv[1:] if not w.startswith('--')]
     root = Path(words[0] if words else '.')
     specs = Specs(root)
-    chart, all_roots = set(demanded(root, specs)), set()
+    chart, exported, every = (set(demanded(root, specs)) for _ in range(3))
     for crate, roots in promised(root, specs):
-        all_roots |= roots
-        if crate not in SESSIONS | {'ceviloneth'}:
+        every |= roots
+        if crate == EXPORTED:
+            exported |= roots
+        elif crate not in SESSIONS:
             chart |= roots
-    demands = specs.rest(demanded(root, specs))
-    charts = specs.rest(chart)
-    whole = specs.rest(chart | all_roots)
-    report('the demands', specs, demands)
-    report('the demands, and every promise on the way to a chart', specs, charts)
-    report('with sessions, strokes and the exported calls', specs, whole)
+    of_chart, of_exported, whole = specs.rest(chart), specs.rest(exported), specs.rest(every)
+    own = {one for one in whole if one[0] != DEFINED}
+    report('what is right, for charts', specs, of_chart - own)
+    report('what is right, with sessions and polylines', specs, whole - own)
+    report('the demands, and what the exported calls promise by it', specs, of_exported & own)
+    report('what the layers promise each other, which nobody has to believe', specs, own - of_exported)
     if '--list' in sys.argv:
         for crate, module, name in sorted(whole):
             print(f'  {crate}/specs/{module}: {name}: {len(specs.text[crate, module, name])}')

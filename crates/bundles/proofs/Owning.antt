@@ -11,8 +11,9 @@ use Rattle.counting.proofs.Booleans.{and-no}
 use Rattle.specification.specs.Sets.{bit, member, member?, at, inserted}
 use Rattle.specification.specs.Bundles.{adjacent?, apart?}
 use Rattle.masks.proofs.Bits.{bit-lt, bit-of-zero, bit-and, one-shl, bit-high, bit-not}
-use Rattle.masks.proofs.Sets.{inserted-length, member-lt}
+use Rattle.masks.proofs.Sets.{member-lt}
 use Rattle.masks.proofs.Tables.{at-zeros, Put, put-law}
+use Rattle.masks.proofs.Members.{length-inserted}
 use Rattle.bundles.specs.Sides.{tableSide?}
 use Rattle.bundles.specs.Steps.{FirstBits, Owned, Part, lowSide}
 
@@ -48,7 +49,7 @@ module _ (channels : ℕ) (places own : List ℕ) (j : ℕ) (o : Owned channels 
   pub owned-put : j < 128 → quad 0 places j < channels → Owned channels places (j + 1) (inserted own (2 * quad 0 places j) j)
   unfolding at
   owned-put low small = record {
-    size = let e = inserted-length own (2 * quad 0 places j) j in let h = o .size in omega arith;
+    size = let e = length-inserted own (2 * quad 0 places j) j in let h = o .size in omega arith;
     only = λ c v h l e. only c v h l e (ℕ-discrete v j) (ℕ-discrete c (quad 0 places j));
     all = λ c v h l e. ⊎-elim
         (λ k. put .other c v (omega arith) (λ p q. omega arith) ∙ o .all c v h k e)

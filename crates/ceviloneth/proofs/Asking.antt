@@ -2,7 +2,7 @@
 use Rattle.counting.proofs.Prelude.{_≡_, sym, ap, _∙_, Bool, true, false, _||_, List, ℕ, _*_, _<_, _≤_, arith, leb, eq-eqb, ne-eqb, le-leb, lt-leb}
 use Rattle.counting.proofs.Truth.{or-left, or-right}
 use Rattle.counting.proofs.Falsity.{neither}
-use Rattle.specification.specs.Sets.{member?, at}
+use Rattle.specification.specs.Sets.{member?, at, has?}
 use Rattle.reach.proofs.Closures.{same-test}
 use Rattle.specification.specs.Checks.{recordRefusal, said}
 use Rattle.record.specs.Reading.{Reads}
@@ -10,9 +10,8 @@ use Rattle.record.specs.declared.reading.Reading.{Reading}
 use Rattle.record.proofs.Accepted.{said-passes}
 use Rattle.record.proofs.Soundness.{accepted-sound}
 use Rattle.specification.specs.Chart.{leads?}
-use Rattle.ceviloneth.specs.declared.Leading.{Leading}
-use Rattle.ceviloneth.specs.State.{toldBy}
-use Rattle.ceviloneth.specs.Asked.{askRefusal, asked}
+use Rattle.specification.specs.declared.Leading.{Leading}
+use Rattle.specification.specs.Asked.{toldBy, askRefusal, asked}
 
 pub few : (b : List ℕ) (rd : Reading) → Reads b rd → rd .refusal ≡ 0 → rd .vertices ≤ 128
 few b rd h z = omega (arith, h .vertices, accepted-sound (said b) (said-passes b (sym (h .answer) ∙ z)) .size .1)
@@ -45,8 +44,8 @@ module _ (b : List ℕ) (u v : ℕ) where
       asked-head l e = e ∙ stranger-told accepted (or-right (leb (said b .vertices) u) (leb (said b .vertices) v) (le-leb (said b .vertices) v (omega (arith, h .vertices))))
 
       pub asked-known : u < rd .vertices → v < rd .vertices → (t : Bool) → t ≡ member? (rd .table) (2 * u) v → r ≡ toldBy 0 t → r ≡ asked b u v
-      unfolding at leads?
+      unfolding at has? leads?
       asked-known hu hv t k e =
           let inside = neither (leb (said b .vertices) u) (leb (said b .vertices) v) (lt-leb (said b .vertices) u (omega (arith, h .vertices))) (lt-leb (said b .vertices) v (omega (arith, h .vertices))) in
-          let leads = same-test (said b .vertices) (said b .tails) (said b .heads) (rd .table) (h .bits) u v (omega (arith, few b rd h z)) (omega (arith, few b rd h z)) in
+          let leads = same-test 2 (said b .vertices) (said b .tails) (said b .heads) (rd .table) (h .bits) u v (omega (arith, few b rd h z)) (omega (arith, few b rd h z)) in
           e ∙ ap (toldBy 0) (k ∙ leads) ∙ known-told accepted inside

@@ -4,8 +4,10 @@ use Rattle.editing.specs.Promise.{StartPromise, AddPromise, LeadsPromise}
 use Rattle.editing.specs.declared.Session.{Session}
 use Rattle.editing.specs.declared.Changed.{Changed}
 use Rattle.editing.specs.declared.Reply.{Reply}
-use Rattle.ceviloneth.specs.declared.Leading.{Leading}
-use Rattle.ceviloneth.specs.State.{sessionOf, stateRefusal, Stored, Kept, Starts, Adds, toldBy, Tells}
+use Rattle.specification.specs.declared.Leading.{Leading}
+use Rattle.ceviloneth.specs.State.{sessionOf, stateRefusal, Kept, Starts, Adds, Tells}
+use Rattle.specification.specs.Asked.{toldBy}
+use Rattle.ceviloneth.specs.Steps.{Stored}
 
 pub spelt : (s e r : List ℕ) → e ≡ take 256 (drop 2 s) → r ≡ take 256 (drop 258 s) → record { vertices = getD s 0 0; count = getD s 1 0; edges = e; reach = r } ≡ sessionOf s
 unfolding sessionOf

@@ -1,12 +1,14 @@
 -- Every list of calls after a start: the session that the list spells and every answer are those of `editing`'s machine. Assumes nothing.
 use Rattle.counting.proofs.Prelude.{_≡_, refl, sym, ap, subst, _∙_, Bool, true, false, List, ℕ, _≤_, arith, eqb, ltb, length, ltb-false}
 use Rattle.specification.specs.Count.{choose, indicator}
-use Rattle.specification.specs.Machine.{Call, Answer, fresh, startRefusal}
+use Rattle.specification.specs.Machine.{Call, Answer, fresh}
+use Rattle.specification.specs.Graph.{sizeRefusal}
 use Rattle.editing.specs.Promise.{replyAnswer}
 use Rattle.editing.specs.Histories.{Performed, History, Follows}
 use Rattle.editing.proofs.Sequences.{every-list}
-use Rattle.ceviloneth.specs.declared.Leading.{Leading}
-use Rattle.ceviloneth.specs.State.{sessionOf, stateRefusal, toldBy, Starts}
+use Rattle.specification.specs.declared.Leading.{Leading}
+use Rattle.ceviloneth.specs.State.{sessionOf, stateRefusal, Starts}
+use Rattle.specification.specs.Asked.{toldBy}
 use Rattle.ceviloneth.specs.Calls.{Called, Calls}
 use Rattle.ceviloneth.specs.Calls.Called.{adds, asks}
 use Rattle.ceviloneth.specs.Calls.Calls.{done, next}
@@ -40,4 +42,4 @@ history h (next p rest) = let x = called h p in History.next (x .1) (history (x 
 
 -- EVERY LIST OF CALLS: after an accepted start the answers are the machine's, and so is the set that the last list spells
 pub every-call : (was : List ℕ) (n : ℕ) (is : List ℕ) → Starts was n 0 is → {cs : List Call} {out : List Answer} {z : List ℕ} → Calls is cs out z → Follows (fresh n) cs out (sessionOf z)
-every-call was n is p h = every-list n _ (p .started refl) (history (omega (arith, p .kept .as-long, room was (startRefusal n) (p .refusal))) h)
+every-call was n is p h = every-list n _ (p .started refl) (history (omega (arith, p .kept .as-long, room was (sizeRefusal n) (p .refusal))) h)

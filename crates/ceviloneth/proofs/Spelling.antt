@@ -1,9 +1,10 @@
 -- Sessions and the lists that spell them. Assumes nothing.
 use Rattle.counting.proofs.Prelude.{_≡_, refl, sym, ap, _∙_, List, ℕ, _+_, _-_, _<_, _≤_, arith, length, getD, take, drop, replicate, length-drop, length-replicate, ne-eqb, lt-ltb, le-ltb}
 use lib.Seq.{length-take-le, getD-take, getD-drop, ext-getD}
-use Rattle.lists.specs.Filled.{Filled}
+use Rattle.specification.specs.Lent.{Filled}
 use Rattle.editing.specs.declared.Session.{Session}
-use Rattle.ceviloneth.specs.State.{sessionOf, stateNumber, Stored}
+use Rattle.ceviloneth.specs.State.{sessionOf}
+use Rattle.ceviloneth.specs.Steps.{stateNumber, Stored}
 
 -- ---- a part of a list
 

@@ -5,8 +5,9 @@ use Rattle.specification.specs.declared.Cell.{Cell}
 use Rattle.specification.specs.declared.Point.{Point}
 use Rattle.specification.specs.declared.Polyline.{Polyline}
 use Rattle.specification.specs.declared.Polyline.the-variants.{Straight, Bent, Side, OffPage}
-use Rattle.ceviloneth.specs.declared.Stroke.{Stroke}
-use Rattle.ceviloneth.specs.Strokes.{origin, joinedAt, strokeFor, Drawn}
+use Rattle.specification.specs.declared.Stroke.{Stroke}
+use Rattle.ceviloneth.specs.Strokes.{Drawn}
+use Rattle.specification.specs.Strokes.{origin, joinedAt, strokeFor}
 
 -- ---- the numbers of each case, where n stands for a point that it has not
 

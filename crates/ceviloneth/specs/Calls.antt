@@ -4,7 +4,7 @@ use Prim.Native.Nat.{ℕ}
 use lib.Dec.{eqb}
 use Rattle.specification.specs.Machine.{Call, Answer}
 use Rattle.editing.specs.Promise.{changeAnswer, replyAnswer}
-use Rattle.ceviloneth.specs.declared.Leading.{Leading}
+use Rattle.specification.specs.declared.Leading.{Leading}
 use Rattle.ceviloneth.specs.State.{Adds, Tells}
 
 -- a call: what it answers, and the list after it, by a result that meets the call's promise

@@ -1,4 +1,4 @@
-pub mod Asked
 pub mod Calls
 pub mod State
 pub mod Strokes
+pub mod Steps

@@ -2,16 +2,19 @@
 // for any numbers and any lists, and a refusal, a number of SPECIFICATION.md, 13, leaves every lent list as it was.
 ghost use mathlib.Core.Path.{_≡_};
 ghost use mathlib.Core.List.{[], _∷_};
-ghost use Rattle.flat.specs.Chart.{HandedFlat};
-ghost use Rattle.ceviloneth.specs.Asked.{asked};
+ghost use Rattle.chart_numbers.specs.Chart.{HandedFlat};
+ghost use Rattle.specification.specs.Asked.{asked};
 ghost use Rattle.ceviloneth.specs.State.{Starts, Adds, Tells};
-ghost use Rattle.ceviloneth.specs.Strokes.{cell, Drawn};
+ghost use Rattle.ceviloneth.specs.Strokes.{Drawn};
+ghost use Rattle.specification.specs.Strokes.{cell};
 
 mod state;
 mod strokes;
 
-use flat::ChartCounts;
 use specification::Cell;
+use specification::ChartCounts;
+use specification::Leading;
+use specification::Stroke;
 use state::STATE_NUMBERS;
 use state::fill_state;
 use state::session_of;
@@ -31,14 +34,7 @@ pub extern "C" fn ceviloneth_chart(
 ) -> ChartCounts
     ensures { λ r. ⌜ HandedFlat (now (bytes .entry)) (now (words .entry)) (now (arrows .entry)) (now (bundles .entry)) r (now (words .exit)) (now (arrows .exit)) (now (bundles .exit)) ⌝ }
 {
-    flat::of_record(bytes, words, arrows, bundles)
-}
-
-// The refusal, or 0, and 1 where the first word leads to the second; 0 where it does not, and where the call is refused.
-#[repr(C)]
-pub struct Leading {
-    pub refusal: u8,
-    pub leads: u8,
+    chart_numbers::of_record(bytes, words, arrows, bundles)
 }
 
 // Whether one word of a record leads to another. Refused with 1 to 7 as the record is, and with 3 where one of the two is no word of it.
@@ -113,21 +109,6 @@ pub extern "C" fn ceviloneth_session_leads(state: &[u64], from: usize, to: usize
 }
 
 // ---- page strokes
-
-// The refusal, or 0, how many points the stroke has, and the points across (x) and up (y); 0.0 where there is none.
-#[repr(C)]
-pub struct Stroke {
-    pub refusal: u8,
-    pub points: u8,
-    pub x0: f32,
-    pub y0: f32,
-    pub x1: f32,
-    pub y1: f32,
-    pub x2: f32,
-    pub y2: f32,
-    pub x3: f32,
-    pub y3: f32,
-}
 
 // The stroke from one place to another, each a column and a row. Like the other two it is refused with 10 where a place is off the page.
 #[no_mangle]

@@ -2,9 +2,11 @@
 ghost use mathlib.Core.Path.{_≡_};
 ghost use Prim.Native.Nat.{_+_, _<_, _≤_};
 ghost use lib.ListN.{length, take, drop};
-ghost use Rattle.ceviloneth.specs.State.{sessionOf, sessionBy, stateNumber, Stored, toldBy};
-use crate::Leading;
+ghost use Rattle.ceviloneth.specs.State.{sessionOf};
+ghost use Rattle.specification.specs.Asked.{toldBy};
+ghost use Rattle.ceviloneth.specs.Steps.{sessionBy, stateNumber, Stored};
 use editing::Session;
+use specification::Leading;
 
 // How many numbers a session has: words, arrows, 256 masks of arrows, 256 of descent.
 pub(crate) const STATE_NUMBERS: usize = 514;

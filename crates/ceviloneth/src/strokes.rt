@@ -1,10 +1,10 @@
 // A polyline as numbers.
 ghost use mathlib.Core.Path.{_≡_};
 ghost use Rattle.specification.specs.Page.{answerOf};
-ghost use Rattle.ceviloneth.specs.Strokes.{origin, strokeFor, joinedAt};
-use crate::Stroke;
+ghost use Rattle.specification.specs.Strokes.{origin, strokeFor, joinedAt};
 use specification::Point;
 use specification::Polyline;
+use specification::Stroke;
 
 // Stands for a point that a stroke has not.
 fn nowhere() -> Point

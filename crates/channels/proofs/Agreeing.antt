@@ -3,8 +3,9 @@ use Rattle.counting.proofs.Prelude.{_≡_, refl, ap, ap₂, Bool, true, false, 
 use mathlib.Core.List.{List, [], _∷_, _++_, flatten}
 use Rattle.specification.specs.Count.{choose}
 use Rattle.specification.specs.Channels.{linked, every, allLinked, linesOf, verticesOf, unknown?, repeats?, lacks?, broken?}
+use Rattle.specification.specs.Graph.{unsized?}
 use Rattle.counting.proofs.Truth.{or-neither}
-use Rattle.channels.specs.Promise.{outsized?, givenRefusal}
+use Rattle.channels.specs.Promise.{givenRefusal}
 
 unknown-append : (n : ℕ) (l s : List ℕ) → unknown? n (l ++ s) ≡ false → (unknown? n l ≡ false) × (unknown? n s ≡ false)
 unfolding unknown?
@@ -35,7 +36,7 @@ module _ (n : ℕ) (leads other : ℕ → ℕ → Bool) (same : (u v : ℕ) → 
   pub given-same : (field : List ℕ) → givenRefusal leads n field ≡ givenRefusal other n field
   unfolding givenRefusal broken?
   given-same field =
-      ap (λ (k : ℕ). choose (outsized? n) (λ _. 2) (λ _. k))
+      ap (λ (k : ℕ). choose (unsized? n) (λ _. 2) (λ _. k))
       (go (unknown? n (verticesOf field)) (repeats? (verticesOf field) || lacks? n (verticesOf field)) (all-linked-same (linesOf field)))
     where
       rest : Bool → Bool → Bool → ℕ

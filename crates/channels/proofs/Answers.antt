@@ -1,13 +1,15 @@
 -- The answers of the public calls, case by case. Assumes nothing.
-use Rattle.counting.proofs.Prelude.{_≡_, refl, sym, ap, _∙_, subst, _≢_, Bool, true, false, _||_, List, ℕ, _*_, _≤_, _<_, min, arith, eqb, ltb, length, eq-eqb, ne-eqb, lt-ltb, le-ltb}
+use Rattle.counting.proofs.Prelude.{_≡_, refl, sym, ap, _∙_, subst, _≢_, Bool, true, false, _||_, List, ℕ, _*_, _≤_, min, arith, length}
+use Rattle.planning.proofs.Laying.{kept-same}
 use Rattle.specification.specs.Count.{choose}
-use Rattle.counting.proofs.Truth.{or-left, or-right}
+use Rattle.counting.proofs.Sizes.{size-taken}
 use Rattle.specification.specs.Planning.{planned}
 use Rattle.specification.specs.Channels.{linesOf, verticesOf, unknown?, repeats?, lacks?, broken?}
-use Rattle.search.specs.Table.{leadsIn}
+use Rattle.specification.specs.Sets.{has?}
+use Rattle.specification.specs.Graph.{sizeRefusal, unsized?}
 use Rattle.planning.specs.Arranged.{Arranged, Kept}
 use Rattle.planning.specs.Promise.{Chained}
-use Rattle.channels.specs.Promise.{Answers, Plans, Sized, outsized?, planRefusal, givenRefusal}
+use Rattle.channels.specs.Promise.{Answers, Plans, Sized, givenRefusal}
 use Rattle.planning.specs.declared.Channels.{Channels}
 
 -- room for the vertices: the refusal, or the channels
@@ -19,13 +21,11 @@ module _ (n refusal : ℕ) (ls : List (List ℕ)) (p : List ℕ) (r : Channels) 
     short = λ l. absurd (omega arith);
     none = none;
     arranged = a;
-    kept = g .kept;
-    past = g .past;
-    long = g .long;
+    kept = g;
   }
 
 -- refused by size alone
-pub answers-sized : (n refusal : ℕ) (ls : List (List ℕ)) (p : List ℕ) (r : Channels) (k : ℕ) → (planRefusal n ≢ 0 → refusal ≡ planRefusal n)
+pub answers-sized : (n refusal : ℕ) (ls : List (List ℕ)) (p : List ℕ) (r : Channels) (k : ℕ) → (sizeRefusal n ≢ 0 → refusal ≡ sizeRefusal n)
     → Sized n (length p) k → k ≢ 0 → r ≡ record { refusal = k; count = 0 } → Answers n refusal ls p r p
 answers-sized n refusal ls p r k same z d e =
     let k-refused : r .refusal ≡ k = ap (λ (x : Channels). x .refusal) e in
@@ -34,48 +34,24 @@ answers-sized n refusal ls p r k same z d e =
       short = λ h. (k-refused ∙ z .short h, refl);
       none = λ _. ap (λ (x : Channels). x .count) e;
       arranged = λ q. absurd (d (sym k-refused ∙ q));
-      kept = λ i v l m. refl;
-      past = λ i v l m. refl;
-      long = refl;
+      kept = kept-same n p;
     }
 
--- ---- the number of vertices
-
-pub none-outsized : (n : ℕ) → n ≡ 0 → outsized? n ≡ true
-unfolding outsized?
-none-outsized n e = or-left (eqb n 0) (ltb 128 n) (eq-eqb n 0 e)
-
-pub many-outsized : (n : ℕ) → 128 < n → outsized? n ≡ true
-unfolding outsized?
-many-outsized n l = or-right (eqb n 0) (ltb 128 n) (lt-ltb 128 n l)
-
-pub sized : (n : ℕ) → n ≢ 0 → n ≤ 128 → outsized? n ≡ false
-unfolding outsized?
-sized n d l = rw (ne-eqb n 0 d, le-ltb 128 n l)
-
-pub plan-outsized : (n : ℕ) → outsized? n ≡ true → planRefusal n ≡ 2
-unfolding planRefusal
-plan-outsized n e = rw e
-
-pub plan-taken : (n : ℕ) → outsized? n ≡ false → planRefusal n ≡ 0
-unfolding planRefusal
-plan-taken n e = rw e
-
 -- as many vertices as are asked for
-pub plan-answers : (n : ℕ) (table p : List ℕ) (r : Channels) (p′ : List ℕ) → n ≤ 128 → outsized? n ≡ false → 4 * n ≤ length p
+pub plan-answers : (n : ℕ) (table p : List ℕ) (r : Channels) (p′ : List ℕ) → n ≤ 128 → unsized? n ≡ false → 4 * n ≤ length p
     → Chained n table p r p′ → Plans n table p r p′
 plan-answers n table p r p′ l e h c =
     let q : min n 128 ≡ n = omega arith in
-    answers-made n (planRefusal n) (planned (leadsIn table) n) p r p′ h (c .refused (omega arith) ∙ sym (plan-taken n e)) (c .none)
-    (λ z. subst (λ x. Arranged x (planned (leadsIn table) x) (r .count) p′) q (c .arranged z)) (subst (λ x. Kept x p p′) q (c .kept))
+    answers-made n (sizeRefusal n) (planned (has? 2 table) n) p r p′ h (c .refused (omega arith) ∙ sym (size-taken n e)) (c .none)
+    (λ z. subst (λ x. Arranged x (planned (has? 2 table) x) (r .count) p′) q (c .arranged z)) (subst (λ x. Kept x p p′) q (c .kept))
 
 -- ---- given channels
 
 module _ (leads : ℕ → ℕ → Bool) (n : ℕ) (field : List ℕ) where
   -- by size they are refused as planned ones are
-  pub given-sized : planRefusal n ≢ 0 → givenRefusal leads n field ≡ planRefusal n
-  unfolding givenRefusal planRefusal
-  given-sized = go (outsized? n) (choose (unknown? n (verticesOf field)) (λ _. 3) (λ _.
+  pub given-sized : sizeRefusal n ≢ 0 → givenRefusal leads n field ≡ sizeRefusal n
+  unfolding givenRefusal sizeRefusal
+  given-sized = go (unsized? n) (choose (unknown? n (verticesOf field)) (λ _. 3) (λ _.
       choose (repeats? (verticesOf field) || lacks? n (verticesOf field)) (λ _. 6) (λ _.
       choose (broken? leads (linesOf field)) (λ _. 7) (λ _. 0))))
     where
@@ -83,7 +59,7 @@ module _ (leads : ℕ → ℕ → Bool) (n : ℕ) (field : List ℕ) where
       go true k d = refl
       go false k d = absurd (d refl)
 
-  module _ (e : outsized? n ≡ false) where
+  module _ (e : unsized? n ≡ false) where
     pub given-unknown : unknown? n (verticesOf field) ≡ true → givenRefusal leads n field ≡ 3
     unfolding givenRefusal
     given-unknown u = rw (e, u)

@@ -3,9 +3,9 @@ use Rattle.counting.proofs.Prelude.{_≡_, sym, ap, _∙_, _≢_, Bool, false, 
 use Rattle.matching.proofs.Lists.{length-bound}
 use Rattle.specification.specs.Channels.{verticesOf, unknown?, repeats?}
 use Rattle.planning.specs.Arranged.{Arranged, Kept}
-use Rattle.channels.specs.Laid.{Lays}
+use Rattle.channels.specs.Steps.Laid.{Lays}
 use Rattle.channels.specs.Promise.{givenRefusal}
-use Rattle.channels.specs.Walked.{settled, Walks}
+use Rattle.channels.specs.Steps.Walked.{settled, Walks}
 use Rattle.channels.specs.declared.Walked.{Walked}
 use Rattle.channels.proofs.Fields.{left, left-vertex}
 use Rattle.channels.proofs.Checks.{unknown-wider, unknown-within, repeats-once}

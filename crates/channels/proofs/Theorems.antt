@@ -1,6 +1,6 @@
 -- What the channels that the calls hand over are: a division into channels, in which each vertex leads to the next, and planned ones the
 -- least of all. Here the theorems stand of what `plan` and `given` hand over. Assumes nothing.
-use Rattle.counting.proofs.Prelude.{_≡_, refl, sym, ap, _∙_, Bool, true, false, true≢false, _||_, List, ℕ, suc, _*_, _≤_, _<_, min, arith, eqb, ltb, length, ltb-false}
+use Rattle.counting.proofs.Prelude.{_≡_, refl, sym, ap, _∙_, Bool, true, false, _||_, List, ℕ, suc, _*_, _≤_, _<_, min, arith, length}
 use native.Mathlib.Decide.{decLt}
 use Rattle.specification.specs.Count.{choose}
 use Rattle.specification.specs.Channels.{channelOf, positionOf, linesOf, verticesOf, unknown?, repeats?, lacks?, broken?}
@@ -9,12 +9,14 @@ use Rattle.counting.specs.Quads.{quad}
 use Rattle.matching.specs.Division.{Order, Division, Covers, Channelled}
 use Rattle.matching.proofs.Ordered.{channelled}
 use Rattle.matching.proofs.Planned.{planned-least, planned-covers}
-use Rattle.search.specs.Table.{leadsIn}
 use Rattle.planning.specs.Arranged.{Arranged}
-use Rattle.channels.specs.Promise.{Answers, Plans, Gives, outsized?, planRefusal, givenRefusal}
+use Rattle.channels.specs.Promise.{Answers, Plans, Gives, givenRefusal}
 use Rattle.channels.specs.Sound.{Sound}
 use Rattle.planning.specs.declared.Channels.{Channels}
 use Rattle.channels.proofs.Checks.{given-covers}
+use Rattle.counting.proofs.Sizes.{sized-back, size-passed}
+use Rattle.specification.specs.Sets.{has?}
+use Rattle.specification.specs.Graph.{sizeRefusal, unsized?}
 
 -- ---- what the refusals tell
 
@@ -26,25 +28,9 @@ module _ (n refusal : ℕ) (ls : List (List ℕ)) (p : List ℕ) (r : Channels) 
       go (yes l) = absurd (omega (arith, a .short l .0))
       go (no l) = (sym (a .refused (omega arith)) ∙ e, a .arranged e)
 
-sized-small : (n : ℕ) → outsized? n ≡ false → n ≤ 128
-unfolding outsized?
-sized-small n e = go (eqb n 0) e
-  where
-    go : (b : Bool) → (b || ltb 128 n) ≡ false → n ≤ 128
-    go true p = absurd (true≢false p)
-    go false p = ltb-false 128 n p
-
-plan-sized : (n : ℕ) → planRefusal n ≡ 0 → outsized? n ≡ false
-unfolding planRefusal
-plan-sized n e = go (outsized? n) e
-  where
-    go : (b : Bool) → _≡_ {A = ℕ} (choose b (λ _. 2) (λ _. 0)) 0 → b ≡ false
-    go true p = absurd (omega arith)
-    go false p = refl
-
 -- what each check says of given channels that are taken
 pub record Passed (leads : ℕ → ℕ → Bool) (n : ℕ) (field : List ℕ) : Type 0 where
-  pub size : outsized? n ≡ false
+  pub size : unsized? n ≡ false
   pub known : unknown? n (verticesOf field) ≡ false
   pub once : repeats? (verticesOf field) ≡ false
   pub none-lacks : lacks? n (verticesOf field) ≡ false
@@ -52,7 +38,7 @@ pub record Passed (leads : ℕ → ℕ → Bool) (n : ℕ) (field : List ℕ) : 
 
 pub given-passed : (leads : ℕ → ℕ → Bool) (n : ℕ) (field : List ℕ) → givenRefusal leads n field ≡ 0 → Passed leads n field
 unfolding givenRefusal
-given-passed leads n field e = let p = go (outsized? n) (unknown? n (verticesOf field)) (repeats? (verticesOf field)) (lacks? n (verticesOf field)) (broken? leads (linesOf field)) e in record {
+given-passed leads n field e = let p = go (unsized? n) (unknown? n (verticesOf field)) (repeats? (verticesOf field)) (lacks? n (verticesOf field)) (broken? leads (linesOf field)) e in record {
   size = p .0;
   known = p .1;
   once = p .2;
@@ -92,23 +78,23 @@ module _ (leads : ℕ → ℕ → Bool) (n : ℕ) (o : Order leads n) (ls : List
 
 module _ (n : ℕ) (table p : List ℕ) (r : Channels) (p′ : List ℕ) where
   -- planned channels are a division, if the table is a strict order on the vertices
-  pub plan-sound : Plans n table p r p′ → r .refusal ≡ 0 → Order (leadsIn table) n → Sound (leadsIn table) n (r .count) p′
+  pub plan-sound : Plans n table p r p′ → r .refusal ≡ 0 → Order (has? 2 table) n → Sound (has? 2 table) n (r .count) p′
   plan-sound a e o =
-      let t = taken n (planRefusal n) (planned (leadsIn table) n) p r p′ a e in
-      sound-arranged (leadsIn table) n o (planned (leadsIn table) n) (r .count) p′ (t .1)
-      (planned-covers (leadsIn table) n (sized-small n (plan-sized n (t .0))) o)
+      let t = taken n (sizeRefusal n) (planned (has? 2 table) n) p r p′ a e in
+      sound-arranged (has? 2 table) n o (planned (has? 2 table) n) (r .count) p′ (t .1)
+      (planned-covers (has? 2 table) n o)
 
   -- and no division has fewer parts, whatever the table
-  pub plan-least : Plans n table p r p′ → r .refusal ≡ 0 → (m : ℕ) (part : ℕ → ℕ) → Division (leadsIn table) n m part → r .count ≤ m
+  pub plan-least : Plans n table p r p′ → r .refusal ≡ 0 → (m : ℕ) (part : ℕ → ℕ) → Division (has? 2 table) n m part → r .count ≤ m
   plan-least a e m part d =
-      let t = taken n (planRefusal n) (planned (leadsIn table) n) p r p′ a e in
-      omega (arith, t .1 .counted, planned-least (leadsIn table) n (sized-small n (plan-sized n (t .0))) m part d)
+      let t = taken n (sizeRefusal n) (planned (has? 2 table) n) p r p′ a e in
+      omega (arith, t .1 .counted, planned-least (has? 2 table) n m part d)
 
   -- given channels that are taken are such a division too
-  pub given-sound : (field : List ℕ) → Gives n table field p r p′ → r .refusal ≡ 0 → Order (leadsIn table) n
-      → Sound (leadsIn table) n (r .count) p′
+  pub given-sound : (field : List ℕ) → Gives n table field p r p′ → r .refusal ≡ 0 → Order (has? 2 table) n
+      → Sound (has? 2 table) n (r .count) p′
   given-sound field a e o =
-      let t = taken n (givenRefusal (leadsIn table) n field) (linesOf field) p r p′ a e in
-      let q : Passed (leadsIn table) n field = given-passed (leadsIn table) n field (t .0) in
-      sound-arranged (leadsIn table) n o (linesOf field) (r .count) p′ (t .1)
-      (given-covers (leadsIn table) n field (q .known) (q .once) (q .none-lacks) (q .led))
+      let t = taken n (givenRefusal (has? 2 table) n field) (linesOf field) p r p′ a e in
+      let q : Passed (has? 2 table) n field = given-passed (has? 2 table) n field (t .0) in
+      sound-arranged (has? 2 table) n o (linesOf field) (r .count) p′ (t .1)
+      (given-covers (has? 2 table) n field (q .known) (q .once) (q .none-lacks) (q .led))

@@ -4,15 +4,17 @@ use native.Mathlib.Decide.{ℕ-discrete}
 use Rattle.specification.specs.Count.{choose}
 use Rattle.specification.specs.Sets.{member?, inserted}
 use Rattle.specification.specs.Channels.{times, has, linesOf, verticesOf, unknown?, repeats?, lacks?, broken?}
+use Rattle.specification.specs.Graph.{unsized?}
 use Rattle.counting.proofs.Sums.{sum-bound, sum-smaller, sum-mono}
 use Rattle.counting.proofs.Classes.{sum-one}
 use Rattle.counting.proofs.Somes.{some-which}
+use Rattle.counting.proofs.Sizes.{sized}
 use Rattle.matching.proofs.Lists.{Within, has-false, length-times}
-use Rattle.channels.specs.Promise.{outsized?, givenRefusal}
-use Rattle.channels.specs.Walked.{weighed, settled}
+use Rattle.channels.specs.Promise.{givenRefusal}
+use Rattle.channels.specs.Steps.Walked.{weighed, settled}
 use Rattle.channels.proofs.Fields.{left, left-all, left-length, left-vertex, left-end}
 use Rattle.channels.proofs.Checks.{unknown-within, repeats-once, lacks-has, Known, known-none, known-length, known-found, known-more, known-all, Once, once-none, once-length, once-again, once-more, once-all, Linking, linking-none, linking-length, linking-broken, linking-more, linking-all}
-use Rattle.channels.proofs.Answers.{sized, given-unknown, given-repeats, given-lacks, given-broken, given-taken}
+use Rattle.channels.proofs.Answers.{given-unknown, given-repeats, given-lacks, given-broken, given-taken}
 
 -- ---- as many vertices as there should be
 
@@ -120,7 +122,7 @@ module _ (leads : ℕ → ℕ → Bool) (n : ℕ) (field : List ℕ) where
   unfolding settled
   walked-all z m i k last seen vertices fault f h = go fault (f .found)
     where
-      size : outsized? n ≡ false
+      size : unsized? n ≡ false
       size = sized n z m
 
       known : unknown? n (verticesOf field) ≡ false

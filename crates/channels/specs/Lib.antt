@@ -1,5 +1,4 @@
-pub mod Laid
 pub mod Promise
-pub mod Walked
 pub mod Sound
 pub mod Examples
+pub mod Steps

@@ -4,27 +4,20 @@ use mathlib.Core.Logic.{_≢_}
 use mathlib.Core.Bool.{Bool, _||_}
 use mathlib.Core.List.{List}
 use Prim.Native.Nat.{ℕ, _*_, _≤_, _<_, min}
-use lib.Dec.{eqb, ltb}
 use lib.ListN.{length}
 use Rattle.specification.specs.Count.{choose}
-use Rattle.specification.specs.Planning.{most, planned}
+use Rattle.specification.specs.Planning.{planned}
 use Rattle.specification.specs.Channels.{linesOf, verticesOf, unknown?, repeats?, lacks?, broken?}
-use Rattle.counting.specs.Quads.{quad}
 use Rattle.planning.specs.declared.Channels.{Channels}
-use Rattle.search.specs.Table.{leadsIn}
-use Rattle.planning.specs.Arranged.{Arranged}
+use Rattle.planning.specs.Arranged.{Arranged, Kept}
+use Rattle.specification.specs.Sets.{has?}
+use Rattle.specification.specs.Graph.{unsized?, sizeRefusal}
+use Rattle.specification.specs.Lent.{Untouched}
 
--- no vertex, or too many
-unfoldable pub outsized? : ℕ → Bool
-outsized? n = eqb n 0 || ltb most n
-
--- the number of the first check that fails (SPECIFICATION.md, 13), or 0: 2 'size', 3 'stranger', 6 'cover', 7 'broken'
-unfoldable pub planRefusal : ℕ → ℕ
-planRefusal n = choose (outsized? n) (λ _. 2) (λ _. 0)
-
+-- the number of the first check that given channels fail (SPECIFICATION.md, 13), or 0: 2 'size', 3 'stranger', 6 'cover', 7 'broken'
 unfoldable pub givenRefusal : (ℕ → ℕ → Bool) → ℕ → List ℕ → ℕ
 givenRefusal leads n field =
-    choose (outsized? n) (λ _. 2) (λ _.
+    choose (unsized? n) (λ _. 2) (λ _.
     choose (unknown? n (verticesOf field)) (λ _. 3) (λ _.
     choose (repeats? (verticesOf field) || lacks? n (verticesOf field)) (λ _. 6) (λ _.
     choose (broken? leads (linesOf field)) (λ _. 7) (λ _. 0))))
@@ -32,22 +25,20 @@ givenRefusal leads n field =
 -- why n vertices are refused by size alone, with a list of so many bytes, or 0
 pub record Sized (n bytes r : ℕ) : Type 0 where
   pub short : bytes < 4 * min n 128 → r ≡ 8
-  pub size : 4 * min n 128 ≤ bytes → r ≡ planRefusal n
+  pub size : 4 * min n 128 ≤ bytes → r ≡ sizeRefusal n
   pub fits : r ≡ 0 → (n ≢ 0) × (n ≤ 128) × (4 * n ≤ bytes)
 
 -- r is 8 where the list has no room, and nothing changed; else the refusal, and where that is 0 the channels stand in p′. Nothing but
 -- channels and positions of the first n vertices has changed
 pub record Answers (n refusal : ℕ) (ls : List (List ℕ)) (p : List ℕ) (r : Channels) (p′ : List ℕ) : Type 0 where
   pub refused : 4 * min n 128 ≤ length p → r .refusal ≡ refusal
-  pub short : length p < 4 * min n 128 → (r .refusal ≡ 8) × (p′ ≡ p)
+  pub short : length p < 4 * min n 128 → (r .refusal ≡ 8) × Untouched p p′
   pub none : r .refusal ≢ 0 → r .count ≡ 0
   pub arranged : r .refusal ≡ 0 → Arranged n ls (r .count) p′
-  pub kept : (k v : ℕ) → 2 ≤ k → k < 4 → quad k p′ v ≡ quad k p v
-  pub past : (k v : ℕ) → k < 4 → n ≤ v → quad k p′ v ≡ quad k p v
-  pub long : length p′ ≡ length p
+  pub kept : Kept n p p′
 
 abbrev pub Plans : ℕ → List ℕ → List ℕ → Channels → List ℕ → Type 0
-Plans n table p r p′ = Answers n (planRefusal n) (planned (leadsIn table) n) p r p′
+Plans n table p r p′ = Answers n (sizeRefusal n) (planned (has? 2 table) n) p r p′
 
 abbrev pub Gives : ℕ → List ℕ → List ℕ → List ℕ → Channels → List ℕ → Type 0
-Gives n table field p r p′ = Answers n (givenRefusal (leadsIn table) n field) (linesOf field) p r p′
+Gives n table field p r p′ = Answers n (givenRefusal (has? 2 table) n field) (linesOf field) p r p′

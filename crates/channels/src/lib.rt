@@ -7,12 +7,11 @@ ghost use mathlib.Core.List.{[]};
 ghost use Prim.Native.Nat.{_+_, _*_, _≤_, _<_};
 ghost use lib.ListN.{length};
 ghost use lib.Dec.{eqb};
-ghost use Rattle.specification.specs.Sets.{member?, inserted};
-ghost use Rattle.search.specs.Table.{leadsIn};
+ghost use Rattle.specification.specs.Sets.{member?, inserted, has?};
 ghost use Rattle.planning.specs.Arranged.{Arranged};
 ghost use Rattle.specification.specs.Channels.{verticesOf, unknown?};
-ghost use Rattle.channels.specs.Laid.{openedAt, Lays};
-ghost use Rattle.channels.specs.Walked.{weighed, settled, Walks};
+ghost use Rattle.channels.specs.Steps.Laid.{openedAt, Lays};
+ghost use Rattle.channels.specs.Steps.Walked.{weighed, settled, Walks};
 ghost use Rattle.channels.specs.Promise.{Sized, Plans, Gives};
 use planning::Channels;
 
@@ -114,7 +113,7 @@ pub fn unknown(n: usize, field: &[u8]) -> bool
 // Whether v may follow `last` in a line: it is the first, or `last` leads to it.
 fn follows(table: &[u64], last: usize, v: usize) -> bool
     requires { ⌜ last ≤ 256 ⌝ }
-    ensures { λ r. ⌜ r ≡ (eqb last 256 || leadsIn (now (table .entry)) last v) ⌝ }
+    ensures { λ r. ⌜ r ≡ (eqb last 256 || has? 2 (now (table .entry)) last v) ⌝ }
 {
     if last == 256 {
         return true;
@@ -126,7 +125,7 @@ fn follows(table: &[u64], last: usize, v: usize) -> bool
 // found so far.
 fn weigh(table: &[u64], seen: &mut [u64], last: usize, v: usize, fault: u8) -> u8
     requires { ⌜ last ≤ 256 ⌝ }
-    ensures { λ r. ⌜ (r ≡ weighed (member? (now (seen .entry)) 0 v) (eqb last 256 || leadsIn (now (table .entry)) last v) fault) × ((member? (now (seen .entry)) 0 v ≡ Bool.false → now (seen .exit) ≡ inserted (now (seen .entry)) 0 v)) ⌝ }
+    ensures { λ r. ⌜ (r ≡ weighed (member? (now (seen .entry)) 0 v) (eqb last 256 || has? 2 (now (table .entry)) last v) fault) × ((member? (now (seen .entry)) 0 v ≡ Bool.false → now (seen .exit) ≡ inserted (now (seen .entry)) 0 v)) ⌝ }
 {
     if masks::contains(seen, 0, v) {
         return 6;
@@ -164,7 +163,7 @@ struct Walked {
 // are those of the field; else what is laid is not said.
 fn walk<'a, 'p>(n: usize, table: &'a [u64], field: &'a [u8], places: &'p mut [u8]) -> Walked
     requires { ⌜ (n ≢ 0) × (n ≤ 128) × (4 * n ≤ length (now places)) × Arranged n [] 0 (now places) ⌝ }
-    ensures { λ r. ⌜ Walks (leadsIn (now (table .entry))) n (now (field .entry)) (now (places .entry)) r (now (places .exit)) ⌝ }
+    ensures { λ r. ⌜ Walks (has? 2 (now (table .entry))) n (now (field .entry)) (now (places .entry)) r (now (places .exit)) ⌝ }
 {
     let mut seen = [0u64; 4];
     let mut fault: u8 = 0;

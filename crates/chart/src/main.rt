@@ -1,10 +1,9 @@
 // Prints the chart of the record on standard input as a listing (SPECIFICATION.md, 14.1), or `refused` and the number.
-ghost use mathlib.Core.Path.{_≡_};
 ghost use Prim.Native.Nat.{_+_, _*_, _<_, _≤_};
 ghost use lib.ListN.{length};
-use flat::ChartCounts;
 use libc::STDIN_FILENO;
 use libc::STDOUT_FILENO;
+use specification::ChartCounts;
 use specification::Layout;
 
 // Room for any line but the first.
@@ -14,24 +13,6 @@ const NEWLINE: u8 = 10;
 
 // ---- text: each call puts bytes into the output from `used` on, and answers where they end
 
-fn put_byte(output: &mut [u8], used: usize, byte: u8) -> usize
-    requires { ⌜ used + 1 ≤ length (now output) ⌝ }
-    ensures { λ r. ⌜ r ≡ used + 1 ⌝ }
-{
-    output[used] = byte;
-    used + 1
-}
-
-fn put_text<'a>(output: &mut [u8], used: usize, text: &'a [u8]) -> usize
-    requires { ⌜ used + length (now text) ≤ length (now output) ⌝ }
-    ensures { λ r. ⌜ r ≡ used + length (now (text .entry)) ⌝ }
-{
-    for i in 0..text.len() {
-        output[used + i] = text[i];
-    }
-    used + text.len()
-}
-
 // The digit of a power of ten, if the number has it.
 fn put_digit(output: &mut [u8], used: usize, n: u16, power: u16) -> usize
     requires { ⌜ (used + 1 ≤ length (now output)) × (0 < power) ⌝ }
@@ -40,7 +21,7 @@ fn put_digit(output: &mut [u8], used: usize, n: u16, power: u16) -> usize
     if n < power {
         return used;
     }
-    put_byte(output, used, 48 + (n / power % 10) as u8)
+    text::put_byte(output, used, 48 + (n / power % 10) as u8)
 }
 
 // A blank, and the number in decimal.
@@ -48,12 +29,12 @@ fn put_number(output: &mut [u8], used: usize, n: u16) -> usize
     requires { ⌜ used + 6 ≤ length (now output) ⌝ }
     ensures { λ r. ⌜ r ≤ used + 6 ⌝ }
 {
-    let a = put_byte(output, used, b' ');
+    let a = text::put_byte(output, used, b' ');
     let b = put_digit(output, a, n, 10000);
     let c = put_digit(output, b, n, 1000);
     let d = put_digit(output, c, n, 100);
     let e = put_digit(output, d, n, 10);
-    put_byte(output, e, 48 + (n % 10) as u8)
+    text::put_byte(output, e, 48 + (n % 10) as u8)
 }
 
 fn put_pair(output: &mut [u8], used: usize, first: u16, second: u16) -> usize
@@ -69,7 +50,7 @@ fn put_count<'a>(output: &mut [u8], used: usize, name: &'a [u8], n: u16) -> usiz
     requires { ⌜ used + length (now name) + 6 ≤ length (now output) ⌝ }
     ensures { λ r. ⌜ r ≤ used + length (now (name .entry)) + 6 ⌝ }
 {
-    let at = put_text(output, used, name);
+    let at = text::put(output, used, name);
     put_number(output, at, n)
 }
 
@@ -89,11 +70,11 @@ fn put_line(
     requires { ⌜ used + 32 ≤ length (now output) ⌝ }
     ensures { λ r. ⌜ r ≤ used + 32 ⌝ }
 {
-    let first = put_byte(output, used, letter);
+    let first = text::put_byte(output, used, letter);
     let second = put_pair(output, first, a, b);
     let third = put_pair(output, second, c, d);
     let last = put_number(output, third, e);
-    put_byte(output, last, NEWLINE)
+    text::put_byte(output, last, NEWLINE)
 }
 
 fn put_counts(output: &mut [u8], used: usize, chart: ChartCounts, bundles: u16) -> usize
@@ -118,10 +99,10 @@ fn put_header(
     requires { ⌜ used + 78 ≤ length (now output) ⌝ }
     ensures { λ r. ⌜ r ≤ used + 78 ⌝ }
 {
-    let a = put_text(output, used, b"chart");
+    let a = text::put(output, used, b"chart");
     let b = put_pair(output, a, n, m);
     let c = put_counts(output, b, chart, bundles);
-    put_byte(output, c, NEWLINE)
+    text::put_byte(output, c, NEWLINE)
 }
 
 // The kind by its number, with the bundle, or the column and row of the bend.
@@ -130,26 +111,26 @@ fn put_kind(output: &mut [u8], used: usize, code: u16, value: u16, row: u16) -> 
     ensures { λ r. ⌜ r ≤ used + 14 ⌝ }
 {
     if code == 0 {
-        return put_text(output, used, b" S");
+        return text::put(output, used, b" S");
     }
     if code == 1 {
         return put_count(output, used, b" B", value);
     }
     if code == 2 {
-        return put_text(output, used, b" D");
+        return text::put(output, used, b" D");
     }
-    let at = put_text(output, used, b" K");
+    let at = text::put(output, used, b" K");
     put_pair(output, at, value, row)
 }
 
 fn put_mark(output: &mut [u8], used: usize, mark: u16) -> usize
     requires { ⌜ used + 3 ≤ length (now output) ⌝ }
-    ensures { λ r. ⌜ r ≡ used + 3 ⌝ }
+    ensures { λ r. ⌜ r ≤ used + 3 ⌝ }
 {
     if mark == 1 {
-        return put_text(output, used, b" i\n");
+        return text::put(output, used, b" i\n");
     }
-    put_text(output, used, b" f\n")
+    text::put(output, used, b" f\n")
 }
 
 // Arrow e from its five numbers and its ends.
@@ -279,9 +260,9 @@ fn edges_of(b: &[u8]) -> &[u8] {
 
 fn write_refusal(number: u8) {
     let mut output = [0u8; 16];
-    let a = put_text(&mut output, 0, b"refused");
+    let a = text::put(&mut output, 0, b"refused");
     let b = put_number(&mut output, a, number as u16);
-    let c = put_byte(&mut output, b, NEWLINE);
+    let c = text::put_byte(&mut output, b, NEWLINE);
     flush(&output, c);
 }
 
@@ -290,7 +271,7 @@ fn write_chart(record: &[u8]) {
     let mut words = [0u16; 640];
     let mut arrows = [0u16; 20480];
     let mut bundles = [0u16; 1024];
-    let chart = flat::of_record(record, &mut words, &mut arrows, &mut bundles);
+    let chart = chart_numbers::of_record(record, &mut words, &mut arrows, &mut bundles);
     if chart.refusal != 0 {
         write_refusal(chart.refusal);
         return;

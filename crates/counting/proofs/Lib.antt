@@ -11,3 +11,5 @@ pub mod Choosing
 pub mod Mapping
 pub mod Clearing
 pub mod Quads
+pub mod Above
+pub mod Sizes

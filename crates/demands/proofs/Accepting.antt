@@ -8,11 +8,11 @@ use Rattle.specification.specs.declared.EdgeEntry.{EdgeEntry}
 use Rattle.specification.specs.declared.BundleEntry.{BundleEntry}
 use Rattle.specification.specs.Drawn.{Drawn, judged, recordDrawn, graphContent, graphDrawn, short?}
 use Rattle.record.proofs.Soundness.{accepted-sound, sound-accepted, record-sound}
-use Rattle.outline.proofs.Channels.{channels-few, vertices-small}
-use Rattle.outline.proofs.Bundling.{plan-channels, tracks-past}
-use Rattle.drawing.proofs.Shortage.{enough, lent-short, lent-whole}
-use Rattle.charts.specs.declared.Chart as answer
-use Rattle.charts.specs.Promise.{Listed, HandedOver}
+use Rattle.chart_laws.proofs.Channels.{channels-few, vertices-small}
+use Rattle.chart_laws.proofs.Bundling.{plan-channels, tracks-past}
+use Rattle.chart_plan.proofs.Shortage.{enough, lent-short, lent-whole}
+use Rattle.specification.specs.declared.ChartCounts.{ChartCounts}
+use Rattle.chart_entries.specs.Promise.{Listed, HandedOver}
 use Rattle.demands.specs.Demands.{entriesIn, seen, Faithful, Roomy, Smallest, Carried}
 use Rattle.demands.proofs.Agreeing.{Shown, Agrees, seen-agrees}
 use Rattle.demands.proofs.Least.{agreed-smallest, agreed-counted}
@@ -41,7 +41,7 @@ module _ (n : ℕ) (ends : List ℕ) (given : Bool) (field : List ℕ) where
 
 -- ---- calls
 
-module _ (vs vs′ : List VertexEntry) (es es′ : List EdgeEntry) (bs bs′ : List BundleEntry) (r : answer.Chart) where
+module _ (vs vs′ : List VertexEntry) (es es′ : List EdgeEntry) (bs bs′ : List BundleEntry) (r : ChartCounts) where
   -- no list is short
   roomy : (d : Drawn) → short? (length vs) (length es) (length bs) d ≡ false → Roomy (d .graph) vs es bs
   unfolding short?
@@ -81,13 +81,13 @@ module _ (vs vs′ : List VertexEntry) (es es′ : List EdgeEntry) (bs bs′ : L
     }
 
     list-agrees : Agrees c (seen c r (entriesIn vs′ es′ bs′))
-    list-agrees = seen-agrees c s r (entriesIn vs′ es′ bs′) list-shown (l .channels) (l .bundles)
+    list-agrees = seen-agrees c s r (entriesIn vs′ es′ bs′) list-shown (l .summary .lines) (l .summary .bundles)
 
     -- past the last line there is no side column
-    tracks-all : (p : ℕ) → tracksIn (planOf c) p ≡ getD (r .tracks) p 0
+    tracks-all : (p : ℕ) → tracksIn (planOf c) p ≡ getD (r .«side_columns») p 0
     tracks-all p = ⊎-elim
-        (λ h. sym (l .tracks p h))
-        (λ h. tracks-past c s p (omega (arith, channels-few c s, vertices-small c s)) ∙ sym (List·getD-eq-default (r .tracks) 0 (omega (arith, l .long))))
+        (λ h. sym (l .summary .side-columns p h))
+        (λ h. tracks-past c s p (omega (arith, channels-few c s, vertices-small c s)) ∙ sym (List·getD-eq-default (r .«side_columns») 0 (omega (arith, l .summary .long))))
         (lt-or-le p 128)
 
     pub listed-smallest : Smallest c (seen c r (entriesIn vs′ es′ bs′)) × Carried c (seen c r (entriesIn vs′ es′ bs′)) r
@@ -95,10 +95,10 @@ module _ (vs vs′ : List VertexEntry) (es es′ : List EdgeEntry) (bs bs′ : L
         let k = agreed-counted c s _ list-agrees in (
           agreed-smallest c s _ list-agrees,
           record {
-            row-count = k .row-count ∙ sym (l .rows);
-            line-count = k .line-count ∙ sym (l .channels ∙ ap length (plan-channels c s));
-            link-count = k .link-count ∙ sym (l .reduced);
-            bundle-count = k .bundle-count ∙ sym (l .bundles);
+            row-count = k .row-count ∙ sym (l .summary .rows);
+            line-count = k .line-count ∙ sym (l .summary .lines ∙ ap length (plan-channels c s));
+            link-count = k .link-count ∙ sym (l .summary .firm);
+            bundle-count = k .bundle-count ∙ sym (l .summary .bundles);
             side-counts = λ p. k .side-counts p ∙ tracks-all p;
           },
         )

@@ -13,10 +13,10 @@ use Rattle.counting.proofs.Truth.{same-truth, and-intro, and-elim}
 use Rattle.counting.proofs.Somes.{some-found, some-which}
 use Rattle.reduction.specs.Reduction.{Reduced}
 use Rattle.reduction.proofs.Links.{link-decided}
-use Rattle.outline.proofs.Marks.{unmarked-reduced}
-use Rattle.outline.proofs.Bundling.{plan-channels}
-use Rattle.charts.specs.declared.Chart as answer
-use Rattle.demands.specs.Lawful.{Chart}
+use Rattle.chart_laws.proofs.Marks.{unmarked-reduced}
+use Rattle.chart_laws.proofs.Bundling.{plan-channels}
+use Rattle.specification.specs.declared.ChartCounts.{ChartCounts}
+use Rattle.specification.specs.Lawful.{Chart}
 use Rattle.demands.specs.Demands.{Entries, entriesOf, oursOf, joins?, seen, Firm}
 
 -- ---- entries
@@ -89,7 +89,7 @@ ours-agrees c = record {
   side = λ b l. refl;
 }
 
-pub seen-agrees : (c : Content) → Sound c → (r : answer.Chart) (n : Entries) → Shown c n → r .channels ≡ length (planOf c .channels) → r .bundles ≡ length (planOf c .bundles)
+pub seen-agrees : (c : Content) → Sound c → (r : ChartCounts) (n : Entries) → Shown c n → r .lines ≡ length (planOf c .channels) → r .bundles ≡ length (planOf c .bundles)
     → Agrees c (seen c r n)
 unfolding seen vertexEntry bundleEntry
 seen-agrees c s r n h lines bundles = record {

@@ -7,15 +7,15 @@ use Rattle.specification.specs.declared.VertexEntry.{VertexEntry}
 use Rattle.specification.specs.declared.EdgeEntry.{EdgeEntry}
 use Rattle.specification.specs.declared.BundleEntry.{BundleEntry}
 use Rattle.specification.specs.Drawn.{recordDrawn, graphContent, graphDrawn}
-use Rattle.drawing.proofs.Refusals.{record-sound, graph-sound}
-use Rattle.charts.specs.declared.Chart as answer
-use Rattle.charts.specs.Promise.{HandedOver}
-use Rattle.charts.proofs.Refusals.{Untouched, refused-untouched}
+use Rattle.chart_plan.proofs.Refusals.{record-sound, graph-sound}
+use Rattle.chart_entries.specs.Promise.{HandedOver}
+use Rattle.chart_entries.proofs.Refusals.{refused-untouched, Refused}
 use Rattle.demands.specs.Demands.{Entries, entriesIn, entriesOf, oursOf, seen, Faithful, Roomy, Smallest, Counted, Carried}
 use Rattle.demands.proofs.Agreeing.{defined-shown, ours-agrees}
 use Rattle.demands.proofs.Least.{agreed-smallest, agreed-counted}
 use Rattle.demands.proofs.Showing.{shown-faithful}
 use Rattle.demands.proofs.Accepting.{said-fields, record-call, record-left, graph-call, graph-left, listed-smallest, listed-faithful}
+use Rattle.specification.specs.declared.ChartCounts.{ChartCounts}
 
 -- ---- the chart of a sound graph
 
@@ -34,7 +34,7 @@ record-says = said-fields
 
 -- ---- every call: the lists vs, es and bs are lent, r is the answer, and vs′, es′ and bs′ are the lists afterwards
 
-module _ (vs vs′ : List VertexEntry) (es es′ : List EdgeEntry) (bs bs′ : List BundleEntry) (r : answer.Chart) where
+module _ (vs vs′ : List VertexEntry) (es es′ : List EdgeEntry) (bs bs′ : List BundleEntry) (r : ChartCounts) where
   -- what the caller has then
   abbrev entries : Entries
   entries = entriesIn vs′ es′ bs′
@@ -46,7 +46,7 @@ module _ (vs vs′ : List VertexEntry) (es es′ : List EdgeEntry) (bs bs′ : L
     record-accepted-exactly = record-call vs vs′ es es′ bs bs′ r b h
 
     -- a refusal changes no list, and every count is 0 then (9.3)
-    pub record-refused : (r .refusal ≡ 0 → ⊥) → Untouched vs es bs r vs′ es′ bs′
+    pub record-refused : (r .refusal ≡ 0 → ⊥) → Refused vs es bs r vs′ es′ bs′
     record-refused = refused-untouched (recordDrawn b) (record-sound b) vs vs′ es es′ bs bs′ r h
 
     -- the entries, by 15.3
@@ -66,7 +66,7 @@ module _ (vs vs′ : List VertexEntry) (es es′ : List EdgeEntry) (bs bs′ : L
     pub graph-accepted-exactly : (r .refusal ≡ 0) ↔ (Sound c × Roomy c vs es bs)
     graph-accepted-exactly = graph-call vs vs′ es es′ bs bs′ r n ends given field h
 
-    pub graph-refused : (r .refusal ≡ 0 → ⊥) → Untouched vs es bs r vs′ es′ bs′
+    pub graph-refused : (r .refusal ≡ 0 → ⊥) → Refused vs es bs r vs′ es′ bs′
     graph-refused = refused-untouched (graphDrawn n ends given field) (graph-sound n ends given field) vs vs′ es es′ bs bs′ r h
 
     pub graph-faithful : r .refusal ≡ 0 → Faithful c entries

@@ -1,5 +1,5 @@
 -- What agrees with our chart is lawful, has its counts, and no lawful chart has fewer. Assumes nothing.
-use Rattle.counting.proofs.Prelude.{_≡_, sym, ap, _∙_, _↔_, _⊎_, inl, inr, ⊎-elim, _≢_, true, ℕ, _≤_, _<_, arith, eqb, length}
+use Rattle.counting.proofs.Prelude.{_≡_, refl, sym, ap, _∙_, _↔_, _⊎_, inl, inr, ⊎-elim, _≢_, true, ℕ, _≤_, _<_, arith, eqb, length}
 use Rattle.counting.proofs.Sums.{sum-ext, count-ext}
 use Rattle.specification.specs.Graph.{Reaches}
 use Rattle.specification.specs.Checks.{Content, Leads, Sound}
@@ -7,17 +7,17 @@ use Rattle.specification.specs.Marks.{Linked, linkCount, reducedLink}
 use Rattle.specification.specs.Tracks.{differentIn}
 use Rattle.specification.specs.Chart.{leads?, tailOf, headOf, rowOf, rowCount, reducedEdges, Plan, channelsOf, planOf, bundleIn, trackIn, tracksIn}
 use Rattle.matching.specs.Division.{Division}
-use Rattle.layers.proofs.Above.{above-ext}
+use Rattle.counting.proofs.Above.{above-ext}
 use Rattle.reduction.proofs.Transitive.{reaches-map}
 use Rattle.tracks.specs.Order.{Apart, Among}
 use Rattle.tracks.proofs.FirstFit.{row-meet, meet-row, meet-fact}
 use Rattle.tracks.proofs.Different.{different-ext}
-use Rattle.outline.proofs.Leading.{leads-decided}
-use Rattle.outline.proofs.Channels.{channels-divide, channel-below, channels-least}
-use Rattle.outline.proofs.Rows.{edge-rises, row-count, rows-fewest}
-use Rattle.outline.proofs.Marks.{chart-links, chart-links-least, chart-links-count}
-use Rattle.outline.proofs.Bundling.{bundle-channel, bundle-ordered, plan-packed, tracks-different}
-use Rattle.demands.specs.Lawful.{Chart, ShareRow, Lawful, rowsOf, linksOf, sideColumns, SameBundles}
+use Rattle.chart_laws.proofs.Leading.{leads-decided}
+use Rattle.chart_laws.proofs.Channels.{channels-divide, channel-below, channels-least}
+use Rattle.chart_laws.proofs.Rows.{edge-rises, row-count, rows-fewest}
+use Rattle.chart_laws.proofs.Marks.{chart-links, chart-links-least, chart-links-count}
+use Rattle.chart_laws.proofs.Bundling.{bundle-channel, bundle-ordered, plan-packed, tracks-different}
+use Rattle.specification.specs.Lawful.{Chart, ShareRow, Lawful, rowsOf, linksOf, sideColumns, SameBundles}
 use Rattle.demands.specs.Demands.{Smallest, Counted}
 use Rattle.demands.proofs.Agreeing.{Agrees}
 
@@ -85,7 +85,7 @@ module _ (c : Content) (s : Sound c) where
 
     rows-counted : rowsOf c x ≡ rowCount c
     unfolding rowsOf
-    rows-counted = above-ext n (λ v. true) (x .row) (rowOf c) (λ v l e. a .row v l) ∙ sym (row-count c s)
+    rows-counted = above-ext n (λ v. true) (λ v. true) (x .row) (rowOf c) (λ v l. refl) (λ v l e. a .row v l) ∙ sym (row-count c s)
 
     links-counted : linksOf c x ≡ reducedEdges c
     unfolding linksOf linkCount

@@ -14,12 +14,12 @@ use Rattle.specification.specs.declared.VertexEntry.{VertexEntry}
 use Rattle.specification.specs.declared.BundleEntry.{BundleEntry}
 use Rattle.specification.specs.declared.Course.the-variants as course
 use Rattle.reduction.proofs.Transitive.{reaches-map}
-use Rattle.outline.proofs.Leading.{edge-there}
-use Rattle.outline.proofs.Bundling.{side-edge, side-bundle}
-use Rattle.outline.proofs.EdgeKinds.{kind-path, kind-side, kind-cross}
-use Rattle.outline.proofs.Marks.{marked-longer, chart-reduced}
-use Rattle.outline.proofs.Clearing.{chart-clear}
-use Rattle.outline.proofs.Paging.{chart-on-page}
+use Rattle.chart_laws.proofs.Leading.{edge-there}
+use Rattle.chart_laws.proofs.Bundling.{side-edge, side-bundle}
+use Rattle.chart_laws.proofs.EdgeKinds.{kind-path, kind-side, kind-cross}
+use Rattle.chart_laws.proofs.Marks.{marked-longer, chart-reduced}
+use Rattle.chart_laws.proofs.Clearing.{chart-clear}
+use Rattle.chart_laws.proofs.Paging.{chart-on-page}
 use Rattle.demands.specs.Demands.{Entries, entriesOf, Firm, placeIn, lineIn, Faithful}
 use Rattle.demands.proofs.Agreeing.{Shown, mark, firm-reduced, reduced-firm}
 

@@ -18,8 +18,8 @@ use Rattle.specification.specs.declared.Kind.the-variants.{Path}
 use Rattle.specification.specs.declared.VertexEntry.{VertexEntry}
 use Rattle.specification.specs.declared.EdgeEntry.{EdgeEntry}
 use Rattle.specification.specs.declared.BundleEntry.{BundleEntry}
-use Rattle.charts.specs.declared.Chart as answer
-use Rattle.demands.specs.Lawful.{Chart, Lawful, rowsOf, linksOf, sideColumns, SameLines, SameRows, SameBundles}
+use Rattle.specification.specs.Lawful.{Chart, Lawful, rowsOf, linksOf, sideColumns, SameLines, SameRows, SameBundles}
+use Rattle.specification.specs.declared.ChartCounts.{ChartCounts}
 
 -- ---- what is handed over
 
@@ -62,10 +62,10 @@ abbrev pub joins? : Content → Entries → ℕ → ℕ → ℕ → Bool
 joins? c entries u v e = (eqb (tailOf c e) u && eqb (headOf c e) v) && not (entries .edge e .transitive)
 
 -- as whoever knows the graph c sees it: how many channels and bundles the answer r says, all else the entries
-unfoldable pub seen : Content → answer.Chart → Entries → Chart
+unfoldable pub seen : Content → ChartCounts → Entries → Chart
 seen c r entries = record {
   row = λ v. entries .vertex v .row;
-  parts = r .channels;
+  parts = r .lines;
   part = λ v. entries .vertex v .channel;
   link = λ u v. some (edgesOf c) (joins? c entries u v);
   bundles = r .bundles;
@@ -129,5 +129,5 @@ pub record Counted (c : Content) (x : Chart) (rows lines firm bundles : ℕ) (si
   pub side-counts : (p : ℕ) → sideColumns x p ≡ sides p
 
 -- they are those of the answer r
-abbrev pub Carried : Content → Chart → answer.Chart → Type 0
-Carried c x r = Counted c x (r .rows) (r .channels) (r .reduced) (r .bundles) (λ p. getD (r .tracks) p 0)
+abbrev pub Carried : Content → Chart → ChartCounts → Type 0
+Carried c x r = Counted c x (r .rows) (r .lines) (r .firm) (r .bundles) (λ p. getD (r .«side_columns») p 0)

@@ -1,2 +1,1 @@
-pub mod Lawful
 pub mod Demands

@@ -6,10 +6,10 @@ use Rattle.specification.specs.Sets.{at}
 use Rattle.specification.specs.Graph.{edgeCount, outsized?, refusal, tailsOf, headsOf, Adjacent, reachable?}
 use Rattle.counting.proofs.Truth.{true-or-false, and-intro, and-elim}
 use Rattle.counting.proofs.Choosing.{choose-yes}
+use Rattle.counting.proofs.Sizes.{outsized-back}
 use Rattle.scanning.specs.Scanned.{Blank, endsRefusal, Scanned, Scans}
-use Rattle.scanning.proofs.Scanning.{outsized-positive}
 use Rattle.descent.specs.declared.Descent.{Descent}
-use Rattle.descent.specs.Closed.{Rest, Inside, Laid, Closed, Layered}
+use Rattle.descent.specs.Steps.Closed.{Rest, Inside, Laid, Closed, Ranked}
 use Rattle.descent.specs.Promise.{edgesRefusal, noDescent, fits?, Sized, Descended, Descends}
 use Rattle.descent.proofs.Refusals.{edges-in-turn, answer-ends, answer-cycle}
 use Rattle.descent.proofs.Graphs.{graph-inside, graph-cyclic, graph-acyclic, graph-rows, graph-used, graph-below}
@@ -140,7 +140,7 @@ module _ (n : ℕ) (ends e b t l p : List ℕ) where
         pub descends-ready : (0 < n) × (2 * n ≤ length e′) × (2 * n + 2 ≤ length b) × (2 * n ≤ length t) × (2 * n ≤ length l)
             × (4 * n ≤ length p) × Inside e′ n
         descends-ready =
-            let size = outsized-positive n _ outsized in
+            let size = outsized-back n _ outsized in
             let small = size .1 in (
               size .0,
               (let h = sized .edges in let q = scans .long in omega arith),
@@ -151,9 +151,9 @@ module _ (n : ℕ) (ends e b t l p : List ℕ) where
               graph-inside n tails heads e′ none-refused edge-bits,
             )
 
-        pub descends-layered : (r : Descent) (b′ t′ l′ p′ : List ℕ) → Layered e′ n p r b′ t′ l′ p′ → Kept e b t l p e′ b′ t′ l′ p′
+        pub descends-ranked : (r : Descent) (b′ t′ l′ p′ : List ℕ) → Ranked e′ n p r b′ t′ l′ p′ → Kept e b t l p e′ b′ t′ l′ p′
             → Descends n ends e b t l p r e′ b′ t′ l′ p′
-        descends-layered r b′ t′ l′ p′ f long = go (ℕ-discrete (r .refusal) 0)
+        descends-ranked r b′ t′ l′ p′ f long = go (ℕ-discrete (r .refusal) 0)
           where
             made : r .refusal ≡ 0 → Descended n tails heads r e′ b′ t′ l′ p′
             made z =
@@ -192,8 +192,8 @@ module _ (n : ℕ) (ends e b t l p : List ℕ) where
 -- ---- the rows and what is reached
 
 module _ (e : List ℕ) (n top : ℕ) (p q b : List ℕ) (laid : Laid e n top p q b) where
-  pub layered-cyclic : top ≡ 0 → (r : Descent) (t l : List ℕ) → r ≡ noDescent 5 → Layered e n p r b t l q
-  layered-cyclic z r t l y =
+  pub ranked-cyclic : top ≡ 0 → (r : Descent) (t l : List ℕ) → r ≡ noDescent 5 → Ranked e n p r b t l q
+  ranked-cyclic z r t l y =
       let w : r .refusal ≡ 5 = ap (λ (x : Descent). x .refusal) y in
       record {
         cyclic = λ _. (y, laid .cyclic z);
@@ -201,9 +201,9 @@ module _ (e : List ℕ) (n top : ℕ) (p q b : List ℕ) (laid : Laid e n top p 
         rest = λ k v h o. laid .rest k v h (λ i. o (omega arith));
       }
 
-  pub layered-made : top ≢ 0 → (t₀ l₀ t l p′ : List ℕ) → Blank t₀ → Blank l₀ → Closed e n t₀ l₀ q t l p′
-      → Layered e n p (record { refusal = 0; used = top }) b t l p′
-  layered-made used t₀ l₀ t l p′ blank blank′ closed = record {
+  pub ranked-made : top ≢ 0 → (t₀ l₀ t l p′ : List ℕ) → Blank t₀ → Blank l₀ → Closed e n t₀ l₀ q t l p′
+      → Ranked e n p (record { refusal = 0; used = top }) b t l p′
+  ranked-made used t₀ l₀ t l p′ blank blank′ closed = record {
     cyclic = λ ne. absurd (ne refl);
     made = λ _. (used, (t₀, l₀, q, blank, blank′, laid, closed));
     rest = λ k v h o. closed .rest k v h (λ i. o (omega arith)) ∙ laid .rest k v h (λ i. o (omega arith));

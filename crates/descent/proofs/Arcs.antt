@@ -3,19 +3,19 @@ use Rattle.counting.proofs.Prelude.{_≡_, ap, _∙_, _↔_, true, _&&_, List, 
 use Rattle.specification.specs.Count.{indicator, sum, count}
 use Rattle.counting.proofs.Truth.{and-intro, and-elim, same-truth}
 use Rattle.counting.proofs.Sums.{sum-ext}
-use Rattle.specification.specs.Sets.{at}
+use Rattle.specification.specs.Sets.{at, has?}
 use Rattle.masks.proofs.Tables.{at-lt}
 use Rattle.specification.specs.Graph.{Reaches, reaches?}
 use Rattle.reach.proofs.Decide.{reaches-decided}
 use Rattle.reach.proofs.Closures.{test-value}
-use Rattle.descent.specs.Closed.{Arc, edgeIn, arc?, Reached, Inside}
+use Rattle.descent.specs.Steps.Closed.{Arc, arc?, Reached, Inside}
 
 pub arc-decided : (e : List ℕ) (u v : ℕ) → Arc e u v ↔ (arc? e u v ≡ true)
-unfolding arc? edgeIn
+unfolding arc? has?
 arc-decided e u v = (
-  (λ a. and-intro (ltb u 128) (ltb v 128 && edgeIn e u v) (lt-ltb u 128 (a .0)) (and-intro (ltb v 128) (edgeIn e u v) (lt-ltb v 128 (a .1)) (eq-eqb _ _ (a .2)))),
-  λ t. let p = and-elim (ltb u 128) (ltb v 128 && edgeIn e u v) t in
-      let q = and-elim (ltb v 128) (edgeIn e u v) (p .1) in
+  (λ a. and-intro (ltb u 128) (ltb v 128 && has? 2 e u v) (lt-ltb u 128 (a .0)) (and-intro (ltb v 128) (has? 2 e u v) (lt-ltb v 128 (a .1)) (eq-eqb _ _ (a .2)))),
+  λ t. let p = and-elim (ltb u 128) (ltb v 128 && has? 2 e u v) t in
+      let q = and-elim (ltb v 128) (has? 2 e u v) (p .1) in
       (ltb-true u 128 (p .0), ltb-true v 128 (q .0), eqb-true _ _ (q .1)),
 )
 

@@ -13,8 +13,8 @@ use Rattle.masks.proofs.Pairing.{pair-lt, pair-or, pair-at, max-split, max-make
 use Rattle.specification.specs.Graph.{Reaches, Longer}
 use Rattle.specification.specs.Graph.Reaches.{one, more}
 use Rattle.reach.proofs.Routes.{reaches-trans}
-use Rattle.descent.specs.Members.{Long, Pictured, Nested}
-use Rattle.descent.specs.Closed.{Arc, Ample, Reached, Finished, Same, Vertex}
+use Rattle.descent.specs.Steps.Members.{Long, Pictured, Nested}
+use Rattle.descent.specs.Steps.Closed.{Arc, Ample, Reached, Finished, Same, Vertex}
 use Rattle.descent.proofs.Gathering.{long-both}
 
 -- ---- two masks are stored for u

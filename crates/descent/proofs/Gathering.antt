@@ -10,8 +10,8 @@ use Rattle.masks.proofs.Tables.{at-lt}
 use Rattle.masks.proofs.Clearing.{clear}
 use Rattle.masks.proofs.Visiting.{Visited, visited-none, visited-all, visited-more, lowest-lt, lowest-in}
 use Rattle.masks.proofs.Pairing.{pair-lt, pair-low, pair-high, pair-zero, pair-or, pair-at, max-split, max-make}
-use Rattle.descent.specs.Members.{Long, Gathered, FirstGathered, Pictured}
-use Rattle.descent.specs.Closed.{Inside}
+use Rattle.descent.specs.Steps.Members.{Long, Gathered, FirstGathered, Pictured}
+use Rattle.descent.specs.Steps.Closed.{Inside}
 
 -- a list that has numbers for the members of a set has them for those of its two masks
 pub long-both : (w : ℕ) (t : List ℕ) (low high : ℕ) → ((v : ℕ) → v < 128 → inPair low high v ≡ 1 → w * v + w ≤ length t)

@@ -1,8 +1,8 @@
 -- The descent for the table of edges of a graph: its reachability, longer routes and rows. Assumes nothing.
-use Rattle.counting.proofs.Prelude.{_≡_, sym, ap₂, _∙_, subst, _≢_, ⊎-elim, _↔_, true, false, List, ℕ, _+_, _*_, _≤_, _<_, arith, eqb, getD, eq-eqb, eqb-true}
+use Rattle.counting.proofs.Prelude.{_≡_, sym, ap₂, _∙_, subst, _≢_, ⊎-elim, _↔_, true, false, List, ℕ, _+_, _*_, _≤_, _<_, arith, getD, eq-eqb, eqb-true}
 use native.Mathlib.Nat.{lt-of-lt-of-le}
 use Rattle.specification.specs.Count.{count, some}
-use Rattle.specification.specs.Sets.{at}
+use Rattle.specification.specs.Sets.{at, has?}
 use Rattle.specification.specs.Graph.{Reaches, Longer, edgeCount, Edge, edge?, refusal, Adjacent, reachable?}
 use Rattle.specification.specs.Rows.{row, rowsUsed}
 use Rattle.counting.specs.Quads.{quad}
@@ -18,8 +18,8 @@ use Rattle.reach.proofs.Marking.{tail-below, head-below}
 use Rattle.reach.proofs.Decide.{edge-decided, reachable-decided}
 use Rattle.reach.proofs.Refusing.{accepted-within}
 use Rattle.reach.proofs.Closures.{Bits, same-count}
-use Rattle.layers.proofs.Same.{row-same, used-same}
-use Rattle.descent.specs.Closed.{Arc, edgeIn, Inside, Laid, Closed}
+use Rattle.rows.proofs.Same.{row-same, used-same}
+use Rattle.descent.specs.Steps.Closed.{Arc, Inside, Laid, Closed}
 use Rattle.descent.proofs.Arcs.{reached-count}
 
 module _ (n : ℕ) (tails heads e : List ℕ) (accepted : refusal n tails heads ≡ 0)
@@ -62,26 +62,26 @@ module _ (n : ℕ) (tails heads e : List ℕ) (accepted : refusal n tails heads 
       (true-or-false (reachable? n tails heads x x)))
 
   -- the rows are those of the graph's edges
-  same-edges : (u v : ℕ) → u < n → v < n → edgeIn e u v ≡ edge? tails heads u v
-  unfolding edgeIn
+  same-edges : (u v : ℕ) → u < n → v < n → has? 2 e u v ≡ edge? tails heads u v
+  unfolding has?
   same-edges u v hu hv =
       let h = small in
       let b = edges u v (omega arith) (omega arith) in
-      same-truth (eqb (at 2 e u v) 1) (edge? tails heads u v)
+      same-truth (has? 2 e u v) (edge? tails heads u v)
       (λ q. edge-decided tails heads u v .0 (b .0 (eqb-true _ _ q) .1))
       (λ q. eq-eqb _ _ (b .1 (accepted, edge-decided tails heads u v .1 q)))
 
   module _ (r : ℕ) (p p′ below : List ℕ) (g : Laid e n r p p′ below) (some : r ≢ 0) where
     pub graph-rows : (v : ℕ) → v < n → quad 2 p′ v ≡ row (edge? tails heads) n v
-    graph-rows v h = g .rule some v h ∙ row-same (edgeIn e) (edge? tails heads) n same-edges v h
+    graph-rows v h = g .rule some v h ∙ row-same (has? 2 e) (edge? tails heads) n same-edges v h
 
     pub graph-used : r ≡ rowsUsed (edge? tails heads) n
-    graph-used = g .used some ∙ used-same (edgeIn e) (edge? tails heads) n same-edges
+    graph-used = g .used some ∙ used-same (has? 2 e) (edge? tails heads) n same-edges
 
     pub graph-below : (k v : ℕ) → k ≤ r → v < 128 → at 2 below k v ≡ 1 ↔ ((v < n) × (row (edge? tails heads) n v < k))
     graph-below k v hk hv =
         let m = g .prefixes some .members k v hk hv in
-        let same : v < n → row (edgeIn e) n v ≡ row (edge? tails heads) n v = row-same (edgeIn e) (edge? tails heads) n same-edges v in (
+        let same : v < n → row (has? 2 e) n v ≡ row (edge? tails heads) n v = row-same (has? 2 e) (edge? tails heads) n same-edges v in (
           (λ i. let p = m .0 i in (p .0, subst (λ (x : ℕ). x < k) (same (p .0)) (p .1))),
           λ p. m .1 (p .0, subst (λ (x : ℕ). x < k) (sym (same (p .0))) (p .1)),
         )
@@ -95,7 +95,7 @@ module _ (n : ℕ) (tails heads e : List ℕ) (accepted : refusal n tails heads 
     begins u v p = begins-below (tail-below 2 tails heads n within) p
 
     -- the table of what reaches what
-    pub graph-bits : Bits n tails heads t′
+    pub graph-bits : Bits 2 n tails heads t′
     graph-bits u v hu hv =
         ⊎-elim
         (λ k. ((λ i. (accepted, reaches-mono arc-edge (g .bits u v k hv .0 i))), λ p. g .bits u v k hv .1 (reaches-mono edge-arc (p .1))))
@@ -108,7 +108,7 @@ module _ (n : ℕ) (tails heads e : List ℕ) (accepted : refusal n tails heads 
     pub graph-counts : (u : ℕ) → u < n → quad 3 c′ u ≡ count 128 (reachable? n tails heads u)
     graph-counts u h =
         g .counted u h ∙ sym (reached-count e n graph-inside t′ u (λ v hv. g .bits u v h hv))
-        ∙ same-count n tails heads t′ graph-bits u (lt-of-lt-of-le h small)
+        ∙ same-count 2 n tails heads t′ graph-bits u (lt-of-lt-of-le h small)
 
     -- routes of two edges or more
     pub graph-longer : (u v : ℕ) → u < 128 → v < 128 → at 2 l′ u v ≡ 1 ↔ Longer (Edge tails heads) u v
@@ -129,7 +129,7 @@ module _ (n : ℕ) (tails heads e : List ℕ) (accepted : refusal n tails heads 
     graph-closure = record { edge-bits = edges; bits = graph-bits; counted = graph-counts }
 
     -- the table followed by itself
-    pub graph-composed : Composed t′ l′
+    pub graph-composed : Composed 2 t′ l′
     graph-composed = record {
       bits = λ u v hu hv. (
         (λ i. let p = longer-between .0 (graph-longer u v hu hv .0 i) in

@@ -5,11 +5,11 @@ use native.Mathlib.Decide.{ℕ-discrete}
 use native.Mathlib.Numerals.{add-one}
 use lib.Bits.{bitOr, bitAnd, and-le-l, or-comm}
 use lib.Count.{trailingZeros}
-use Rattle.specification.specs.Count.{some}
-use Rattle.specification.specs.Sets.{bit, at}
+use Rattle.specification.specs.Count.{some, above}
+use Rattle.specification.specs.Sets.{bit, at, has?}
 use Rattle.specification.specs.Graph.{reaches?}
 use Rattle.specification.specs.Graph.Reaches.{one}
-use Rattle.specification.specs.Rows.{above, rowWithin, row, rowsUsed}
+use Rattle.specification.specs.Rows.{rowWithin, row, rowsUsed}
 use Rattle.counting.specs.Quads.{quad}
 use Rattle.counting.proofs.Truth.{lt-or-le, two-cases, true-or-false}
 use Rattle.counting.proofs.Somes.{some-found, some-which}
@@ -17,11 +17,11 @@ use Rattle.masks.specs.Pairs.{inPair}
 use Rattle.masks.proofs.Bits.{without, trailing-at, trailing-lt}
 use Rattle.masks.proofs.Pairing.{pair-lt, pair-low, pair-high, pair-at, pair-and, pair-or, pair-zero, pair-without}
 use Rattle.reach.proofs.Routes.{reaches-trans}
-use Rattle.layers.proofs.Above.{above-each, above-le, above-which}
-use Rattle.layers.proofs.Depth.{settled, shallow}
-use Rattle.layers.proofs.Compaction.{Order, rows-below}
-use Rattle.descent.specs.Members.{Below, Long, Pictured, Written}
-use Rattle.descent.specs.Closed.{edgeIn, arc?, Inside, Laid}
+use Rattle.counting.proofs.Above.{above-each, above-le, above-which}
+use Rattle.rows.proofs.Depth.{settled, shallow}
+use Rattle.rows.proofs.Compaction.{Order, rows-below}
+use Rattle.descent.specs.Steps.Members.{Below, Long, Pictured, Written}
+use Rattle.descent.specs.Steps.Closed.{arc?, Inside, Laid}
 use Rattle.descent.proofs.Gathering.{long-below}
 use Rattle.descent.proofs.Descending.{Stored, stored-at, same-bits}
 use Rattle.descent.proofs.Arcs.{reached-decided}
@@ -70,11 +70,11 @@ Some n low high = (v : ℕ) × (v < 128) × (inPair low high v ≡ 1)
 pub record Round (e : List ℕ) (n r low high : ℕ) (places s below : List ℕ) : Type 0 where
   pub low-fits : low < 2 ^ 64
   pub high-fits : high < 2 ^ 64
-  pub growing : (v : ℕ) → v < 128 → inPair low high v ≡ 1 ↔ ((v < n) × (r ≤ rowWithin (edgeIn e) n r v))
+  pub growing : (v : ℕ) → v < 128 → inPair low high v ≡ 1 ↔ ((v < n) × (r ≤ rowWithin (has? 2 e) n r v))
   pub alive : Some n low high
-  pub rule : (v : ℕ) → v < n → rowWithin (edgeIn e) n r v < r → quad 2 s v ≡ rowWithin (edgeIn e) n r v
+  pub rule : (v : ℕ) → v < n → rowWithin (has? 2 e) n r v < r → quad 2 s v ≡ rowWithin (has? 2 e) n r v
   pub rest : (k v : ℕ) → k < 4 → (k ≡ 2 → n ≤ v) → quad k s v ≡ quad k places v
-  pub sets : (k v : ℕ) → k ≤ r → v < 128 → at 2 below k v ≡ 1 ↔ ((v < n) × (rowWithin (edgeIn e) n r v < k))
+  pub sets : (k v : ℕ) → k ≤ r → v < 128 → at 2 below k v ≡ 1 ↔ ((v < n) × (rowWithin (has? 2 e) n r v < k))
 
 pub round-none : (e : List ℕ) (n low high : ℕ) (places below : List ℕ) → 0 < n → Below n low high → getD below 0 0 ≡ 0 → getD below 1 0 ≡ 0
     → Round e n 0 low high places places below
@@ -127,26 +127,26 @@ module _ (e : List ℕ) (n : ℕ) (small : n ≤ 128) (r low high first second p
   both v h = ap₂ (λ (x y : ℕ). inPair x y v) ea eb ∙ pair-and low high p q v h
 
   -- those grow on that an edge enters from one that still grew
-  grows : (v : ℕ) → v < 128 → inPair a b v ≡ 1 ↔ ((v < n) × (suc r ≤ rowWithin (edgeIn e) n (suc r) v))
-  unfolding rowWithin edgeIn
+  grows : (v : ℕ) → v < 128 → inPair a b v ≡ 1 ↔ ((v < n) × (suc r ≤ rowWithin (has? 2 e) n (suc r) v))
+  unfolding rowWithin has?
   grows v h = (there, back)
     where
-      there : inPair a b v ≡ 1 → (v < n) × (suc r ≤ above n (λ u. edgeIn e u v) (rowWithin (edgeIn e) n r))
+      there : inPair a b v ≡ 1 → (v < n) × (suc r ≤ above n (λ u. has? 2 e u v) (rowWithin (has? 2 e) n r))
       there i =
           let w = both v h in
           let x = pair-lt low high v in
           let y = pair-lt p q v in
           let hit = m .here v h .0 (omega arith) in
           let g = o .growing (hit .0) (hit .1) .0 (hit .2) in
-          let k = above-each n (λ u. edgeIn e u v) (rowWithin (edgeIn e) n r) (hit .0) (g .0) (eq-eqb _ _ (hit .3)) in
+          let k = above-each n (λ u. has? 2 e u v) (rowWithin (has? 2 e) n r) (hit .0) (g .0) (eq-eqb _ _ (hit .3)) in
           let l = g .1 in
           (o .growing v h .0 (omega arith) .0, omega arith)
 
-      back : (v < n) × (suc r ≤ above n (λ u. edgeIn e u v) (rowWithin (edgeIn e) n r)) → inPair a b v ≡ 1
+      back : (v < n) × (suc r ≤ above n (λ u. has? 2 e u v) (rowWithin (has? 2 e) n r)) → inPair a b v ≡ 1
       back i =
-          let w = above-which n (λ u. edgeIn e u v) (rowWithin (edgeIn e) n r) r (i .1) in
+          let w = above-which n (λ u. has? 2 e u v) (rowWithin (has? 2 e) n r) r (i .1) in
           let hw : w .0 < 128 = (let l = w .1 in omega arith) in
-          let x = o .growing v h .1 (i .0, grew (edgeIn e) n r v (i .1)) in
+          let x = o .growing v h .1 (i .0, grew (has? 2 e) n r v (i .1)) in
           let y = m .here v h .1 (w .0, hw, o .growing (w .0) hw .1 (w .1, w .3), eqb-true _ _ (w .2)) in
           both v h ∙ omega arith
 
@@ -184,27 +184,27 @@ module _ (e : List ℕ) (n : ℕ) (small : n ≤ 128) (r low high first second p
         ap (quad 2 s″) k ∙ w′ .done (v - 64) hj (sym (pair-high (without low a) _ (v - 64) hj) ∙ subst (λ (x : ℕ). inPair (without low a) (without high b) x ≡ 1) k i))
         (lt-or-le v 64)
 
-    next-rule : (v : ℕ) → v < n → rowWithin (edgeIn e) n (suc r) v < suc r → quad 2 s″ v ≡ rowWithin (edgeIn e) n (suc r) v
+    next-rule : (v : ℕ) → v < n → rowWithin (has? 2 e) n (suc r) v < suc r → quad 2 s″ v ≡ rowWithin (has? 2 e) n (suc r) v
     next-rule v h l =
         let hv : v < 128 = omega arith in
-        let same = same-row (edgeIn e) n r v (omega arith) in
+        let same = same-row (has? 2 e) n r v (omega arith) in
         let none : inPair a b v ≡ 0 = ⊎-elim (λ k. k) (λ k. absurd (let g = grows v hv .0 k .1 in omega arith)) (two-cases (inPair a b v) (pair-lt a b v)) in
         ⊎-elim
         (λ k. kept 2 v (omega arith) (λ _ z i. let g = o .growing v hv .0 (stops low high v hv .0 i .0) .1 in omega arith) ∙ o .rule v h k ∙ sym same)
         (λ k. written v hv (stops low high v hv .1 (o .growing v hv .1 (h, k), none)) ∙ omega arith)
-        (lt-or-le (rowWithin (edgeIn e) n r v) r)
+        (lt-or-le (rowWithin (has? 2 e) n r v) r)
 
-    next-sets : (k v : ℕ) → k ≤ suc r → v < 128 → at 2 below′ k v ≡ 1 ↔ ((v < n) × (rowWithin (edgeIn e) n (suc r) v < k))
+    next-sets : (k v : ℕ) → k ≤ suc r → v < 128 → at 2 below′ k v ≡ 1 ↔ ((v < n) × (rowWithin (has? 2 e) n (suc r) v < k))
     next-sets k v hk h = go (ℕ-discrete k (r + 1))
       where
-        new : at 2 below′ (r + 1) v ≡ 1 ↔ ((v < n) × (rowWithin (edgeIn e) n (suc r) v < r + 1))
+        new : at 2 below′ (r + 1) v ≡ 1 ↔ ((v < n) × (rowWithin (has? 2 e) n (suc r) v < r + 1))
         new =
             let z = stored-at below (r + 1) _ _ below′ t v h in (
               (λ i.
                   let y = stops first second v h .0 (sym z ∙ i) in
                   let hv = start .members v h .0 (y .0) in
                   let no = y .1 in
-                  (hv, ⊎-elim (λ l. omega arith) (λ l. absurd (let g = grows v h .1 (hv, l) in omega arith)) (lt-or-le (rowWithin (edgeIn e) n (suc r) v) (suc r)))),
+                  (hv, ⊎-elim (λ l. omega arith) (λ l. absurd (let g = grows v h .1 (hv, l) in omega arith)) (lt-or-le (rowWithin (has? 2 e) n (suc r) v) (suc r)))),
               λ i.
                   let l = i .1 in
                   z ∙ stops first second v h .1 (
@@ -213,12 +213,12 @@ module _ (e : List ℕ) (n : ℕ) (small : n ≤ 128) (r low high first second p
                   ),
             )
 
-        go : Dec (k ≡ r + 1) → at 2 below′ k v ≡ 1 ↔ ((v < n) × (rowWithin (edgeIn e) n (suc r) v < k))
-        go (yes y) = subst (λ (x : ℕ). at 2 below′ x v ≡ 1 ↔ ((v < n) × (rowWithin (edgeIn e) n (suc r) v < x))) (sym y) new
+        go : Dec (k ≡ r + 1) → at 2 below′ k v ≡ 1 ↔ ((v < n) × (rowWithin (has? 2 e) n (suc r) v < k))
+        go (yes y) = subst (λ (x : ℕ). at 2 below′ x v ≡ 1 ↔ ((v < n) × (rowWithin (has? 2 e) n (suc r) v < x))) (sym y) new
         go (no d) =
             let z = same-bits below below′ k (t .low-other k d) (t .high-other k d) v h in
             let old = o .sets k v (omega arith) h in
-            let f = below-same (edgeIn e) n r k v (omega arith) in
+            let f = below-same (has? 2 e) n r k v (omega arith) in
             ((λ i. let y = old .0 (sym z ∙ i) in (y .0, f .0 (y .1))), λ i. z ∙ old .1 (i .0, f .1 (i .1)))
 
     next-rest : (k v : ℕ) → k < 4 → (k ≡ 2 → n ≤ v) → quad k s″ v ≡ quad k places v
@@ -238,36 +238,36 @@ module _ (e : List ℕ) (n : ℕ) (small : n ≤ 128) (r low high first second p
 
     -- none grows on: the rows are those of the rule
     module _ (inside : Inside e n) (hr : r < n) (z : bitOr a b ≡ 0) where
-      low-rows : (v : ℕ) → v < n → rowWithin (edgeIn e) n (suc r) v < suc r
+      low-rows : (v : ℕ) → v < n → rowWithin (has? 2 e) n (suc r) v < suc r
       low-rows v h =
           let hv : v < 128 = omega arith in
-          ⊎-elim (λ l. l) (λ l. absurd (let g = grows v hv .1 (h, l) in let y = pair-none a b v z hv in omega arith)) (lt-or-le (rowWithin (edgeIn e) n (suc r) v) (suc r))
+          ⊎-elim (λ l. l) (λ l. absurd (let g = grows v hv .1 (h, l) in let y = pair-none a b v z hv in omega arith)) (lt-or-le (rowWithin (has? 2 e) n (suc r) v) (suc r))
 
-      last-rows : (v : ℕ) → v < n → row (edgeIn e) n v < suc r
-      last-rows v h = below-last (edgeIn e) n (suc r) (suc r) v (omega arith) (omega arith) .0 (low-rows v h)
+      last-rows : (v : ℕ) → v < n → row (has? 2 e) n v < suc r
+      last-rows v h = below-last (has? 2 e) n (suc r) (suc r) v (omega arith) (omega arith) .0 (low-rows v h)
 
-      highest : r < rowsUsed (edgeIn e) n
+      highest : r < rowsUsed (has? 2 e) n
       highest =
           let v = o .alive in
           let g = o .growing (v .0) (v .1) .0 (v .2) in
-          let k = above-each n (λ x. true) (row (edgeIn e) n) (v .0) (g .0) refl in
+          let k = above-each n (λ x. true) (row (has? 2 e) n) (v .0) (g .0) refl in
           let l = g .1 in
           ⊎-elim
-          (λ y. absurd (let w = settled (edgeIn e) n r 128 (v .0) (omega arith) (inl y) in omega arith))
+          (λ y. absurd (let w = settled (has? 2 e) n r 128 (v .0) (omega arith) (inl y) in omega arith))
           (λ y. omega arith)
-          (lt-or-le (row (edgeIn e) n (v .0)) r)
+          (lt-or-le (row (has? 2 e) n (v .0)) r)
 
       pub round-over : Laid e n (r + 1) places s″ below′
       round-over = record {
         cyclic = λ y. absurd (omega arith);
         acyclic = λ y. no-cycle e n inside (λ v h. let l = last-rows v h in omega arith);
-        used = λ y. let k = highest in let l = above-le n (λ v. true) (row (edgeIn e) n) (suc r) (λ v h t. last-rows v h) in omega arith;
-        rule = λ y v h. next-rule v h (low-rows v h) ∙ sym (settled (edgeIn e) n (suc r) 128 v (omega arith) (inr (low-rows v h)));
+        used = λ y. let k = highest in let l = above-le n (λ v. true) (row (has? 2 e) n) (suc r) (λ v h t. last-rows v h) in omega arith;
+        rule = λ y v h. next-rule v h (low-rows v h) ∙ sym (settled (has? 2 e) n (suc r) 128 v (omega arith) (inr (low-rows v h)));
         prefixes = λ y. record {
           few = omega arith;
           members = λ k v hk hv.
               let old = next-sets k v (omega arith) hv in
-              let f = below-last (edgeIn e) n (suc r) k v (omega arith) (omega arith) in
+              let f = below-last (has? 2 e) n (suc r) k v (omega arith) (omega arith) in
               ((λ i. let x = old .0 i in (x .0, f .0 (x .1))), λ i. old .1 (i .0, f .1 (i .1)));
           all = λ v h. let l = last-rows v h in omega arith;
         };
@@ -284,8 +284,8 @@ module _ (e : List ℕ) (n low high : ℕ) (places s below : List ℕ) (inside :
   self : ℕ → Bool
   self u = reaches? (arc? e) n u u
 
-  order : some n self ≡ false → Order (edgeIn e) (reaches? (arc? e) n) n
-  unfolding edgeIn self
+  order : some n self ≡ false → Order (has? 2 e) (reaches? (arc? e) n) n
+  unfolding has? self
   order none =
       let small = inside .small in
       record {
@@ -313,7 +313,7 @@ module _ (e : List ℕ) (n low high : ℕ) (places s below : List ℕ) (inside :
           let v = o .alive in
           let g = o .growing (v .0) (v .1) .0 (v .2) in
           let small = inside .small in
-          let l = rows-below (edgeIn e) (reaches? (arc? e) n) n (order f) small (v .0) (g .0) in
-          let w = settled (edgeIn e) n n 128 (v .0) small (inl l) in
+          let l = rows-below (has? 2 e) (reaches? (arc? e) n) n (order f) small (v .0) (g .0) in
+          let w = settled (has? 2 e) n n 128 (v .0) small (inl l) in
           let k = g .1 in
           omega arith

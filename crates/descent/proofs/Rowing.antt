@@ -7,8 +7,8 @@ use Rattle.counting.proofs.Quads.{quad-same, quad-other}
 use Rattle.specification.specs.Sets.{bit}
 use Rattle.masks.proofs.Clearing.{clear}
 use Rattle.masks.proofs.Visiting.{Visited, visited-none, visited-all, visited-more, lowest-lt, lowest-in}
-use Rattle.descent.specs.Members.{Written}
-use Rattle.descent.specs.Closed.{Ample, Finished, Same, Vertex, Row}
+use Rattle.descent.specs.Steps.Members.{Written}
+use Rattle.descent.specs.Steps.Closed.{Ample, Finished, Same, Vertex, Row}
 use Rattle.descent.proofs.Descending.{finished-same, same-refl, same-trans}
 
 -- v is no member of a mask that begins at vertex `base`

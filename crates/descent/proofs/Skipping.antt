@@ -11,7 +11,7 @@ use Rattle.masks.proofs.Tables.{at-lt}
 use Rattle.masks.proofs.Clearing.{clear}
 use Rattle.masks.proofs.Visiting.{Visited, visited-skip, visited-less, lowest-lt, lowest-in}
 use Rattle.masks.proofs.Pairing.{pair-lt, pair-low, pair-high, pair-or, pair-at, pair-zero, max-split, max-make}
-use Rattle.descent.specs.Members.{Nested, Covered}
+use Rattle.descent.specs.Steps.Members.{Nested, Covered}
 use Rattle.descent.proofs.Gathering.{Held, Gathering, gathering-none, gathering-more}
 
 pub covered-none : (t : List ℕ) (low high : ℕ) → Covered t low high 0 0

@@ -6,7 +6,7 @@ use Rattle.specification.specs.Sets.{bit}
 use Rattle.masks.specs.Pairs.{inPair}
 use Rattle.masks.proofs.Bits.{bit-not, bit-of-zero, bit-high}
 use Rattle.masks.proofs.Pairing.{pair-low, pair-high}
-use Rattle.descent.specs.Members.{Below}
+use Rattle.descent.specs.Steps.Members.{Below}
 
 -- n ones
 pub ones-lt : (n : ℕ) → 2 ^ n - 1 < 2 ^ n

@@ -1,3 +1,2 @@
-pub mod Members
-pub mod Closed
 pub mod Promise
+pub mod Steps

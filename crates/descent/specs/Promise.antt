@@ -6,10 +6,12 @@ use mathlib.Core.List.{List}
 use Prim.Native.Nat.{ℕ, _+_, _*_, _≤_, _<_, min}
 use lib.Dec.{eqb, leb}
 use lib.ListN.{length}
+use Rattle.specification.specs.Limits.{mostVertices}
 use Rattle.specification.specs.Count.{choose, some}
 use Rattle.specification.specs.Sets.{at}
 use Rattle.specification.specs.Graph.{edgeCount, edge?, refusal, tailsOf, headsOf, duplicate?, reachable?}
 use Rattle.specification.specs.Rows.{row, rowsUsed}
+use Rattle.specification.specs.Lent.{Untouched}
 use Rattle.counting.specs.Quads.{quad}
 use Rattle.reach.specs.Closure.{Closure, Composed}
 use Rattle.descent.specs.declared.Descent.{Descent}
@@ -18,7 +20,8 @@ use Rattle.descent.specs.declared.Descent.{Descent}
 unfoldable pub edgesRefusal : ℕ → List ℕ → List ℕ → ℕ
 edgesRefusal n tails heads =
     choose (eqb (refusal n tails heads) 0)
-    (λ _. choose (duplicate? (edgeCount tails heads) tails heads) (λ _. 4) (λ _. choose (some 128 (λ u. reachable? n tails heads u u)) (λ _. 5) (λ _. 0)))
+    (λ _. choose (duplicate? (edgeCount tails heads) tails heads) (λ _. 4)
+    (λ _. choose (some mostVertices (λ u. reachable? n tails heads u u)) (λ _. 5) (λ _. 0)))
     (λ _. refusal n tails heads)
 
 -- refused with k: no row is used
@@ -27,32 +30,34 @@ noDescent k = record { refusal = k; used = 0 }
 
 -- the work lists have room: two masks a vertex, at most 128, and one set more for the rows; four numbers a vertex in the places
 pub record Sized (n : ℕ) (e b t l p : List ℕ) : Type 0 where
-  pub edges : 2 * min n 128 ≤ length e
-  pub below : 2 * min n 128 + 2 ≤ length b
-  pub table : 2 * min n 128 ≤ length t
-  pub longer : 2 * min n 128 ≤ length l
-  pub places : 4 * min n 128 ≤ length p
+  pub edges : 2 * min n mostVertices ≤ length e
+  pub below : 2 * min n mostVertices + 2 ≤ length b
+  pub table : 2 * min n mostVertices ≤ length t
+  pub longer : 2 * min n mostVertices ≤ length l
+  pub places : 4 * min n mostVertices ≤ length p
 
 -- the same of their lengths, computed
 unfoldable pub fits? : ℕ → ℕ → ℕ → ℕ → ℕ → ℕ → Bool
 fits? n e b t l p =
-    leb (2 * min n 128) e && (leb (2 * min n 128 + 2) b && (leb (2 * min n 128) t && (leb (2 * min n 128) l && leb (4 * min n 128) p)))
+    leb (2 * min n mostVertices) e && (leb (2 * min n mostVertices + 2) b
+    && (leb (2 * min n mostVertices) t && (leb (2 * min n mostVertices) l && leb (4 * min n mostVertices) p)))
 
 -- what is made of a graph without cycles: e has its edges, t what reaches what, l the same by two edges or more, set k of b has the
 -- vertices of rows below k, and p the row of each vertex and how many it reaches
 pub record Descended (n : ℕ) (tails heads : List ℕ) (r : Descent) (e b t l p : List ℕ) : Type 0 where
   pub closure : Closure n tails heads (record { edges = e; table = t; counts = quad 3 p })
-  pub longer : Composed t l
+  pub longer : Composed 2 t l
   pub rows : (v : ℕ) → v < n → quad 2 p v ≡ row (edge? tails heads) n v
   pub used : r .used ≡ rowsUsed (edge? tails heads) n
-  pub below : (k v : ℕ) → k ≤ r .used → v < 128 → at 2 b k v ≡ 1 ↔ ((v < n) × (row (edge? tails heads) n v < k))
+  pub below : (k v : ℕ) → k ≤ r .used → v < mostVertices → at 2 b k v ≡ 1 ↔ ((v < n) × (row (edge? tails heads) n v < k))
 
 -- from the bytes of the edges to the tables; e′, b′, t′, l′ and p′ are the work lists after it. Where a list has too little room the answer
 -- is 8, and nothing changed. After a refusal of 2 to 5 what the tables hold is left free, and so are the rows and counts of the n vertices;
 -- what the tables hold past 256 masks always is: nobody reads it. Every other number of the places stays
 pub record Descends (n : ℕ) (ends e b t l p : List ℕ) (r : Descent) (e′ b′ t′ l′ p′ : List ℕ) : Type 0 where
   pub answer : Sized n e b t l p → r .refusal ≡ edgesRefusal n (tailsOf ends) (headsOf ends)
-  pub short : (Sized n e b t l p → ⊥) → (r .refusal ≡ 8) × (e′ ≡ e) × (b′ ≡ b) × (t′ ≡ t) × (l′ ≡ l) × (p′ ≡ p)
+  pub short : (Sized n e b t l p → ⊥)
+      → (r .refusal ≡ 8) × Untouched e e′ × Untouched b b′ × Untouched t t′ × Untouched l l′ × Untouched p p′
   pub none : r .refusal ≢ 0 → r ≡ noDescent (r .refusal)
   pub made : r .refusal ≡ 0 → Descended n (tailsOf ends) (headsOf ends) r e′ b′ t′ l′ p′
   pub kept : (k v : ℕ) → k < 2 → quad k p′ v ≡ quad k p v

@@ -9,8 +9,8 @@ ghost use lib.ListN.{length};
 ghost use Rattle.specification.specs.Sets.{bit};
 ghost use Rattle.masks.specs.Pairs.{inPair};
 ghost use Rattle.scanning.specs.Scanned.{Blank};
-ghost use Rattle.descent.specs.Members.{Below, Long, Gathered, FirstGathered, Pictured, Nested, Covered, Written};
-ghost use Rattle.descent.specs.Closed.{Arc, Ample, Reached, Finished, Vertex, Row, Inside, Prefixes, Laid, Closed, Layered};
+ghost use Rattle.descent.specs.Steps.Members.{Below, Long, Gathered, FirstGathered, Pictured, Nested, Covered, Written};
+ghost use Rattle.descent.specs.Steps.Closed.{Arc, Ample, Reached, Finished, Vertex, Row, Inside, Prefixes, Laid, Closed, Ranked};
 ghost use Rattle.descent.specs.Promise.{noDescent, fits?, Descends};
 
 // The most vertices of a graph.
@@ -269,7 +269,7 @@ fn clear(masks: &mut [u64])
 }
 
 // The rows of n vertices and what each reaches, by the table of their edges. Refused with 5 where a vertex reaches itself.
-fn layered(
+fn ranked(
     n: usize,
     edges: &[u64],
     below: &mut [u64],
@@ -278,7 +278,7 @@ fn layered(
     places: &mut [u8],
 ) -> Descent
     requires { ⌜ (0 < n) × (2 * n ≤ length (now edges)) × (2 * n + 2 ≤ length (now below)) × (2 * n ≤ length (now table)) × (2 * n ≤ length (now longer)) × (4 * n ≤ length (now places)) × Inside (now edges) n ⌝ }
-    ensures { λ r. ⌜ Layered (now (edges .entry)) n (now (places .entry)) r (now (below .exit)) (now (table .exit)) (now (longer .exit)) (now (places .exit)) ⌝ }
+    ensures { λ r. ⌜ Ranked (now (edges .entry)) n (now (places .entry)) r (now (below .exit)) (now (table .exit)) (now (longer .exit)) (now (places .exit)) ⌝ }
 {
     clear(table);
     clear(longer);
@@ -351,5 +351,5 @@ pub fn descend(
     if k != 0 {
         return no_descent(k);
     }
-    layered(n, edges, below, table, longer, places)
+    ranked(n, edges, below, table, longer, places)
 }

@@ -4,10 +4,10 @@ use native.Mathlib.Nat.{not-suc-le-zero, le-refl, mul-zero}
 use native.Mathlib.Decide.{ℕ-discrete}
 use borrow.Author.Count.{below-more}
 use Rattle.counting.proofs.Falsity.{or-false, max-test}
-use Rattle.specification.specs.Sets.{member, at, inserted}
+use Rattle.specification.specs.Sets.{member, at, has?, inserted}
 use Rattle.masks.proofs.Sets.{member-lt}
 use Rattle.masks.proofs.Tables.{at-lt, Put, put-law, Row, row-member, Absorbed}
-use Rattle.editing.specs.Promise.{has?, across?, Linked}
+use Rattle.editing.specs.Promise.{across?, Linked}
 
 module _ (w : ℕ) (t : List ℕ) where
   -- the set o has the head, and all that the head has
@@ -16,7 +16,7 @@ module _ (w : ℕ) (t : List ℕ) where
 
   -- the head's masks, with the head put in
   pub target-law : (head : ℕ) (o : List ℕ) → head < w * 64 → length o ≡ w → Row w t head o → Target head (inserted o 0 head)
-  unfolding at
+  unfolding at has?
   target-law head o hh size same = record { holds = λ y hy. go y hy (ℕ-discrete y head) }
     where
       put : Put w o 0 head (inserted o 0 head)
@@ -41,6 +41,7 @@ module _ (w : ℕ) (t : List ℕ) where
       -- vertex n is done, and no other changes
       more : (r : List ℕ) → ((y : ℕ) → y < w * 64 → has? w r n y ≡ (has? w t n y || across? w t tail head n y))
           → ((x y : ℕ) → y < w * 64 → x ≢ n → at w r x y ≡ at w s x y) → Linked w t tail head (n + 1) r
+      unfolding has?
       more r here other = record {
         below = λ x y l h. below-more (λ (x : ℕ). has? w r x y ≡ (has? w t x y || across? w t tail head x y)) n
             (λ x l′. ap (λ (b : ℕ). eqb b 1) (other x y h (λ e. omega arith)) ∙ k .below x y l′ h) (here y h) x l;
@@ -53,11 +54,12 @@ module _ (w : ℕ) (t : List ℕ) where
 
       -- whether it is the tail or has it
       comes-same : tail < w * 64 → (eqb n tail || has? w s n tail) ≡ (eqb n tail || has? w t n tail)
+      unfolding has?
       comes-same ht = ap (λ (b : ℕ). eqb n tail || eqb b 1) (same tail ht)
 
       -- it is or has: it gets the target
       pub linked-set : (r o : List ℕ) → (eqb n tail || has? w s n tail) ≡ true → tail < w * 64 → Target head o → Absorbed w s n o r → Linked w t tail head (n + 1) r
-      unfolding across?
+      unfolding across? has?
       linked-set r o comes ht target a = more r (λ y h. here y h) (a .other)
         where
           here : (y : ℕ) → y < w * 64 → has? w r n y ≡ (has? w t n y || ((eqb n tail || has? w t n tail) && (eqb y head || has? w t head y)))
@@ -67,7 +69,7 @@ module _ (w : ℕ) (t : List ℕ) where
 
       -- it is not and has not: it stays as it is
       pub linked-clear : (eqb n tail || has? w s n tail) ≡ false → tail < w * 64 → Linked w t tail head (n + 1) s
-      unfolding across?
+      unfolding across? has?
       linked-clear apart ht = more s (λ y h. here y h) (λ x y h ne. refl)
         where
           here : (y : ℕ) → y < w * 64 → has? w s n y ≡ (has? w t n y || ((eqb n tail || has? w t n tail) && (eqb y head || has? w t head y)))

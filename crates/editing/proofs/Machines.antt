@@ -1,15 +1,15 @@
 -- The machine's laws: the order of its tests, its steps, and what holds of every graph that it comes to. Assumes nothing.
-use Rattle.counting.proofs.Prelude.{_≡_, refl, sym, _∙_, _≢_, _⊎_, inl, inr, ⊎-elim, _↔_, Bool, true, false, true≢false, false≢true, _||_, _&&_, List, [], _∷_, ℕ, zero, suc, _≤_, _<_, zero-le, arith, eqb, leb, ltb, length, eqb-false, eq-eqb, ne-eqb, leb-false, le-leb, lt-ltb, le-ltb}
+use Rattle.counting.proofs.Prelude.{_≡_, refl, sym, _∙_, _≢_, _⊎_, inl, inr, ⊎-elim, _↔_, Bool, true, false, true≢false, false≢true, _||_, _&&_, List, [], _∷_, ℕ, zero, suc, _≤_, _<_, zero-le, arith, eqb, leb, length, eqb-false, leb-false, le-leb}
 use native.Mathlib.Nat.{suc-ne-zero}
 use native.Mathlib.Decide.{ℕ-discrete, decLt}
 use Rattle.counting.proofs.Truth.{or-left, or-right, or-neither, same-truth}
 use Rattle.counting.proofs.Deciding.{eq-decided, or-decided, and-decided}
-use Rattle.counting.proofs.Falsity.{neither}
-use Rattle.specification.specs.Graph.{Reaches}
+use Rattle.counting.proofs.Sizes.{sized, none-unsized, many-unsized, size-taken, size-refused}
+use Rattle.specification.specs.Graph.{Reaches, sizeRefusal}
 use Rattle.specification.specs.Graph.Reaches.{one, more}
 use Rattle.reach.proofs.Decide.{reaches-decided}
 use Rattle.reach.proofs.Extending.{Extends, Across, extended, stays-acyclic}
-use Rattle.specification.specs.Machine.{Edge, Graph, Call, Answer, Turn, contains, In, unknown?, reached?, cyclic?, full?, verdict, refusal, insert, change, reply, step, run, empty, startRefusal, startVertices, fresh, Distinct, Lawful}
+use Rattle.specification.specs.Machine.{Edge, Graph, Call, Answer, Turn, contains, In, unknown?, reached?, cyclic?, full?, verdict, refusal, insert, change, reply, step, run, empty, startVertices, fresh, Distinct, Lawful}
 use Rattle.specification.specs.Machine.Edge.{edge}
 
 -- ---- the first test that holds
@@ -188,14 +188,13 @@ empty-lawful n h = record {
   limit = omega arith;
 }
 
-pub start-passes : (n : ℕ) → n ≢ 0 → n ≤ 128 → (startRefusal n ≡ 0) × (startVertices n ≡ n)
-unfolding startRefusal startVertices
-start-passes n h k = let e : (eqb n 0 || ltb 128 n) ≡ false = neither _ _ (ne-eqb n 0 h) (le-ltb 128 n k) in (rw e, rw e)
+pub start-passes : (n : ℕ) → n ≢ 0 → n ≤ 128 → (sizeRefusal n ≡ 0) × (startVertices n ≡ n)
+unfolding startVertices
+start-passes n h k = let e = size-taken n (sized n h k) in (e, rw e)
 
-pub start-fails : (n : ℕ) → (n ≡ 0) ⊎ (128 < n) → (startRefusal n ≡ 2) × (startVertices n ≡ 0)
-unfolding startRefusal startVertices
-start-fails n h =
-    let e : (eqb n 0 || ltb 128 n) ≡ true = ⊎-elim (λ z. or-left (eqb n 0) (ltb 128 n) (eq-eqb n 0 z)) (λ z. or-right (eqb n 0) (ltb 128 n) (lt-ltb 128 n z)) h in (rw e, rw e)
+pub start-fails : (n : ℕ) → (n ≡ 0) ⊎ (128 < n) → (sizeRefusal n ≡ 2) × (startVertices n ≡ 0)
+unfolding startVertices
+start-fails n h = let e = size-refused n (⊎-elim (none-unsized n) (many-unsized n) h) in (e, rw e)
 
 pub fresh-lawful : (n : ℕ) → Lawful (fresh n)
 unfolding fresh

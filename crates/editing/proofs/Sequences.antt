@@ -2,7 +2,8 @@
 use Rattle.counting.proofs.Prelude.{_≡_, refl, ap, ap₂, _≢_, List, [], _∷_, ℕ, length, replicate, ne-eqb}
 use Rattle.editing.specs.declared.Session.{Session}
 use Rattle.editing.specs.declared.Changed.{Changed}
-use Rattle.specification.specs.Machine.{Graph, Call, Answer, step, run, answers, empty, startRefusal, startVertices, fresh}
+use Rattle.specification.specs.Machine.{Graph, Call, Answer, step, run, answers, empty, startVertices, fresh}
+use Rattle.specification.specs.Graph.{sizeRefusal}
 use Rattle.editing.specs.Promise.{Represents, StartPromise}
 use Rattle.editing.specs.Meaning.{Exact}
 use Rattle.editing.specs.Histories.{Performed, History, Follows}
@@ -37,6 +38,6 @@ all-refused [] = refl
 all-refused (c ∷ cs) = rw (nothing-known c) (ap (λ (out : List Answer). Answer.refused 3 ∷ out) (all-refused cs))
 
 -- NO VERTICES: after a refused start every call is refused with 3
-pub no-vertices : (n : ℕ) → startRefusal n ≢ 0 → (cs : List Call) → answers (fresh n) cs ≡ replicate (length cs) (Answer.refused 3)
+pub no-vertices : (n : ℕ) → sizeRefusal n ≢ 0 → (cs : List Call) → answers (fresh n) cs ≡ replicate (length cs) (Answer.refused 3)
 unfolding fresh startVertices
-no-vertices n h cs = rw (ne-eqb (startRefusal n) 0 h) (all-refused cs)
+no-vertices n h cs = rw (ne-eqb (sizeRefusal n) 0 h) (all-refused cs)

@@ -4,14 +4,16 @@ use native.Mathlib.Nat.{lt-of-lt-of-le}
 use native.Mathlib.Numerals.{add-one}
 use native.Mathlib.Decide.{ℕ-discrete}
 use Rattle.specification.specs.Count.{choose}
+use Rattle.specification.specs.Sets.{has?}
 use Rattle.counting.proofs.Truth.{or-left, or-right, same-truth}
 use Rattle.counting.proofs.Falsity.{not-true, neither}
 use Rattle.masks.proofs.Tables.{at-zeros, Put, put-law}
 use Rattle.reach.proofs.Extending.{Extends}
 use Rattle.editing.specs.declared.Session.{Session}
-use Rattle.specification.specs.Machine.{Graph, Call, Answer, contains, In, unknown?, reached?, cyclic?, full?, refusal, insert, change, reply, step, empty, startRefusal, startVertices, fresh}
+use Rattle.specification.specs.Machine.{Graph, Call, Answer, contains, In, unknown?, reached?, cyclic?, full?, refusal, insert, change, reply, step, empty, startVertices, fresh}
 use Rattle.specification.specs.Machine.Edge.{edge}
-use Rattle.editing.specs.Promise.{has?, outside?, refusalOf, across?, Grown, blank, Represents, changeAnswer, replyAnswer, StartPromise, AddPromise, LeadsPromise}
+use Rattle.specification.specs.Graph.{sizeRefusal}
+use Rattle.editing.specs.Promise.{outside?, refusalOf, across?, Grown, blank, Represents, changeAnswer, replyAnswer, StartPromise, AddPromise, LeadsPromise}
 use Rattle.editing.proofs.Machines.{verdict-unknown, known, reached-decided, insert-extends, Accepted, accepted, insert-lawful, insert-reached, add-made, add-kept, none-reached, empty-lawful}
 
 -- ---- an end that is no vertex
@@ -82,6 +84,7 @@ module _ (g : Graph) (s : Session) (r : Represents g s) where
     hv = lt-of-lt-of-le (a .head) (r .lawful .small)
 
     edges-same : Put 2 (s .edges) u v (z .edges) → (x y : ℕ) → x < 128 → y < 128 → has? 2 (z .edges) x y ≡ contains (edge u v ∷ g .edges) x y
+    unfolding has?
     edges-same p x y hx hy = go (ℕ-discrete x u) (ℕ-discrete y v)
       where
         e : Extends (In (g .edges)) (In (edge u v ∷ g .edges)) u v
@@ -142,7 +145,7 @@ pub leads-inside : (s : Session) (u v : ℕ) (b : Bool) → outside? s u v ≡ f
 leads-inside s u v b e q = leads-promise s u v 0 b (rw e) (rw e q)
 
 blank-represents : (n : ℕ) → n ≤ 128 → Represents (empty n) (blank n)
-unfolding empty contains
+unfolding empty contains has?
 blank-represents n h = record {
   lawful = empty-lawful n h;
   vertices = refl;
@@ -154,7 +157,7 @@ blank-represents n h = record {
     zeros : (u v : ℕ) → has? 2 (replicate 256 0) u v ≡ false
     zeros u v = ap (λ (b : ℕ). eqb b 1) (at-zeros 2 256 u v)
 
-pub started : (n k m : ℕ) (z : Session) → startRefusal n ≡ k → startVertices n ≡ m → m ≤ 128 → z ≡ blank m → StartPromise n (record { refusal = k; session = z })
+pub started : (n k m : ℕ) (z : Session) → sizeRefusal n ≡ k → startVertices n ≡ m → m ≤ 128 → z ≡ blank m → StartPromise n (record { refusal = k; session = z })
 unfolding fresh
 started n k m z e f h q = record {
   refusal = sym e;

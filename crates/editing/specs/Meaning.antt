@@ -5,7 +5,8 @@ use mathlib.Core.Bool.{true, false}
 use mathlib.Core.List.{_∷_}
 use Prim.Native.Nat.{ℕ, _≤_, _<_}
 use lib.ListN.{length}
-use Rattle.specification.specs.Graph.{Reaches, mostEdges}
+use Rattle.specification.specs.Graph.{Reaches}
+use Rattle.specification.specs.Limits.{mostEdges}
 use Rattle.specification.specs.Machine.{Graph, Call, Answer, In, refusal, step, Lawful}
 use Rattle.specification.specs.Machine.Edge.{edge}
 

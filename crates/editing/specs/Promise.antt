@@ -7,18 +7,16 @@ use Prim.Native.Nat.{ℕ, zero, suc, _+_, _*_, _≤_, _<_, min}
 use lib.Dec.{eqb, leb}
 use lib.ListN.{length, replicate}
 use Rattle.specification.specs.Count.{choose}
-use Rattle.specification.specs.Sets.{at, inserted}
-use Rattle.specification.specs.Graph.{mostVertices, mostEdges}
+use Rattle.specification.specs.Sets.{at, inserted, has?}
+use Rattle.specification.specs.Limits.{mostVertices, mostEdges, tableMasks, maskBits}
 use Rattle.editing.specs.declared.Session.{Session}
 use Rattle.editing.specs.declared.Changed.{Changed}
 use Rattle.editing.specs.declared.Reply.{Reply}
-use Rattle.specification.specs.Machine.{Graph, Call, Answer, contains, reached?, verdict, refusal, step, startRefusal, startVertices, fresh, Lawful}
+use Rattle.specification.specs.Machine.{Graph, Call, Answer, contains, reached?, verdict, refusal, step, startVertices, fresh, Lawful}
+use Rattle.specification.specs.Graph.{sizeRefusal}
+use Rattle.specification.specs.Lent.{Untouched}
 
 -- ---- of any session value: its tables have two masks a vertex and 128 vertices, whatever its number of vertices says
-
--- v is in the set of u, in a table with w masks a vertex
-abbrev pub has? : ℕ → List ℕ → ℕ → ℕ → Bool
-has? w t u v = eqb (at w t u v) 1
 
 -- one of the two is no vertex
 unfoldable pub outside? : Session → ℕ → ℕ → Bool
@@ -34,19 +32,19 @@ across? w t tail head x y = (eqb x tail || has? w t x tail) && (eqb y head || ha
 
 -- s is t, where each of the first n vertices that is the tail or has it also has the head and all that the head has
 pub record Linked (w : ℕ) (t : List ℕ) (tail head n : ℕ) (s : List ℕ) : Type 0 where
-  pub below : (x y : ℕ) → x < n → y < w * 64 → has? w s x y ≡ (has? w t x y || across? w t tail head x y)
-  pub above : (x y : ℕ) → n ≤ x → y < w * 64 → at w s x y ≡ at w t x y
+  pub below : (x y : ℕ) → x < n → y < w * maskBits → has? w s x y ≡ (has? w t x y || across? w t tail head x y)
+  pub above : (x y : ℕ) → n ≤ x → y < w * maskBits → at w s x y ≡ at w t x y
 
 -- z is s with the edge from u to v
 pub record Grown (s : Session) (u v : ℕ) (z : Session) : Type 0 where
   pub vertices : z .vertices ≡ s .vertices
   pub count : z .count ≡ s .count + 1
   pub edges : z .edges ≡ inserted (s .edges) (2 * u) v
-  pub reach : Linked 2 (s .reach) u v 128 (z .reach)
+  pub reach : Linked 2 (s .reach) u v mostVertices (z .reach)
 
 -- a session of n vertices and no edges
 abbrev pub blank : ℕ → Session
-blank n = record { vertices = n; count = 0; edges = replicate 256 0; reach = replicate 256 0 }
+blank n = record { vertices = n; count = 0; edges = replicate tableMasks 0; reach = replicate tableMasks 0 }
 
 -- ---- of a session that represents a graph of the machine
 
@@ -54,8 +52,8 @@ pub record Represents (g : Graph) (s : Session) : Type 0 where
   pub lawful : Lawful g
   pub vertices : s .vertices ≡ g .vertices
   pub count : s .count ≡ length (g .edges)
-  pub edges : (u v : ℕ) → u < 128 → v < 128 → has? 2 (s .edges) u v ≡ contains (g .edges) u v
-  pub reach : (u v : ℕ) → u < 128 → v < 128 → has? 2 (s .reach) u v ≡ reached? g u v
+  pub edges : (u v : ℕ) → u < mostVertices → v < mostVertices → has? 2 (s .edges) u v ≡ contains (g .edges) u v
+  pub reach : (u v : ℕ) → u < mostVertices → v < mostVertices → has? 2 (s .reach) u v ≡ reached? g u v
 
 -- the machine's answer that a result stands for: a refusal of 0 is none
 unfoldable pub changeAnswer : ℕ → Answer
@@ -69,13 +67,13 @@ replyAnswer (suc k) b = Answer.refused (suc k)
 -- ---- the calls
 
 pub record StartPromise (n : ℕ) (r : Changed) : Type 0 where
-  pub refusal : r .refusal ≡ startRefusal n
+  pub refusal : r .refusal ≡ sizeRefusal n
   pub session : r .session ≡ blank (startVertices n)
   pub holds : Represents (fresh n) (r .session)
 
 pub record AddPromise (s : Session) (u v : ℕ) (r : Changed) : Type 0 where
   pub refusal : r .refusal ≡ refusalOf s u v
-  pub kept : r .refusal ≢ 0 → r .session ≡ s
+  pub kept : r .refusal ≢ 0 → Untouched s (r .session)
   pub made : r .refusal ≡ 0 → Grown s u v (r .session)
   pub answer : (g : Graph) → Represents g s → changeAnswer (r .refusal) ≡ step g (Call.add u v) .answer
   pub holds : (g : Graph) → Represents g s → Represents (step g (Call.add u v) .graph) (r .session)

@@ -5,7 +5,8 @@ ghost use mathlib.Core.Bool.{_||_};
 ghost use Prim.Native.Nat.{_<_, min};
 ghost use lib.Dec.{eqb};
 ghost use lib.ListN.{length};
-ghost use Rattle.editing.specs.Promise.{has?, blank, refusalOf, Linked, StartPromise, AddPromise, LeadsPromise};
+ghost use Rattle.specification.specs.Sets.{has?};
+ghost use Rattle.editing.specs.Promise.{blank, refusalOf, Linked, StartPromise, AddPromise, LeadsPromise};
 
 // The most vertices and edges of a graph.
 const MOST_VERTICES: usize = 128;

@@ -1,12 +1,11 @@
 -- Lines are read byte by byte. Assumes nothing.
 use Rattle.counting.proofs.Prelude.{_≡_, refl, sym, ap, _∙_, false, List, [], _∷_, ℕ, zero, suc, _+_, _-_, _≤_, _<_, arith, eqb, length, getD, drop, drop-of-length-le, ne-eqb}
-use native.Mathlib.Numerals.{add-one}
-use lib.Seq.{drop-cons}
 use Rattle.specification.specs.Layout.{lined}
+use Rattle.specification.proofs.Placing.{byte}
 
 -- the byte at i, and what follows
 next : (left : ℕ) (b : List ℕ) (i : ℕ) → i < length b → lined left (drop i b) ≡ lined left (getD b i 0 ∷ drop (i + 1) b)
-next left b i h = ap (lined left) (drop-cons b i 0 h ∙ ap (λ (j : ℕ). getD b i 0 ∷ drop j b) (sym (add-one i)))
+next left b i h = ap (lined left) (byte b i (i + 1) refl h)
 
 -- a line of no vertex
 pub lined-empty : (b : List ℕ) (i : ℕ) → i < length b → getD b i 0 ≡ 0 → lined 0 (drop i b) ≡ false

@@ -5,26 +5,16 @@ use Rattle.counting.proofs.Truth.{and-elim}
 use Rattle.specification.specs.declared.Field.{Field}
 use Rattle.specification.specs.declared.Field.the-variants.{Found, Missing}
 use Rattle.specification.specs.declared.Fields.{Fields}
-use Rattle.specification.specs.declared.Layout.{Layout}
-use Rattle.specification.specs.declared.Layout.the-variants.{Good, Bad}
-use Rattle.specification.specs.Layout.{mostBytes, fieldAt, lined, withLines, afterEdges, withEdges, withVertices, layoutOf}
-use Rattle.fields.proofs.Placing.{found-inside}
+use Rattle.specification.specs.declared.Layout.the-variants.{Good}
+use Rattle.specification.specs.Limits.{mostBytes}
+use Rattle.specification.specs.Layout.{fieldAt, lined, withLines, afterEdges, withEdges, withVertices, layoutOf}
+use Rattle.specification.proofs.Placing.{found-inside, bad-good, good-same, chosen}
 
 pub record LaidOut (b : List ℕ) (f : Fields) : Type 0 where
   pub edges : f .edges + 2 * f .count ≤ length b
   pub lines : f .lines + f .size ≤ length b
   pub bare : f .given ≡ false → f .size ≡ 0
   pub channels : lined 0 (take (f .size) (drop (f .lines) b)) ≡ true
-
-bad-good : (f : Fields) → Bad ≡ Good f → ⊥
-bad-good f e = let z : _≡_ {A = ℕ} 0 1 = cc in omega arith
-
-good-same : (f g : Fields) → Good f ≡ Good g → f ≡ g
-good-same f g e = cc
-
-chosen : (t : Bool) (x : Layout) (f : Fields) → choose t (λ _. x) (λ _. Bad) ≡ Good f → (t ≡ true) × (x ≡ Good f)
-chosen true x f e = (refl, e)
-chosen false x f e = absurd (bad-good f e)
 
 module _ (b : List ℕ) (f : Fields) where
   lines-good : (n e m : ℕ) (fd : Field) → e + 2 * m ≤ length b → withLines b n e m fd ≡ Good f → LaidOut b f

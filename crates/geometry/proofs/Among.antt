@@ -10,7 +10,7 @@ use Rattle.masks.specs.Pairs.{inPair}
 use Rattle.masks.proofs.Bits.{bit-high, bit-of-zero}
 use Rattle.masks.proofs.Pairing.{pair-low, pair-high}
 use Rattle.masks.proofs.Visiting.{Visited, visited-all, lowest-in}
-use Rattle.geometry.specs.Segment.{Struck}
+use Rattle.geometry.specs.Steps.{Struck}
 use Rattle.geometry.proofs.Segments.{hit-rise}
 use Rattle.geometry.proofs.Tests.{decides, not-so, so, decides-once, isHit-decides, hit-true}
 

@@ -1,5 +1,5 @@
 pub mod Segment
-pub mod Signed
 pub mod Placement
 pub mod Polylines
 pub mod Courses
+pub mod Steps

@@ -5,8 +5,9 @@ ghost use lib.Dec.{eqb, leb};
 ghost use lib.ListN.{length};
 ghost use Rattle.masks.specs.Pairs.{inPair};
 ghost use Rattle.specification.specs.Geometry.{point, Hit, BlockedAmong, aligned, Decides, bendBeside, courseAmong};
-ghost use Rattle.geometry.specs.Segment.{pointOf, vertexCount, Struck};
-ghost use Rattle.geometry.specs.Signed.{Diff};
+ghost use Rattle.geometry.specs.Segment.{pointOf, vertexCount};
+ghost use Rattle.geometry.specs.Steps.{Struck};
+ghost use Rattle.geometry.specs.Steps.{Diff};
 use specification::Course;
 
 // Columns from a vertex to the bends beside it.

@@ -1,7 +1,7 @@
 -- The candidates of a cross edge, as two masks. Assumes nothing.
 use Rattle.counting.proofs.Prelude.{_≡_, refl, ap, ap₂, _∙_, _⊎_, inl, inr, ⊎-elim, not, _&&_, List, ℕ, _+_, _-_, _*_, _^_, _<_, min, max, arith, eqb, getD, lt-ltb, le-ltb}
 use Rattle.counting.proofs.Truth.{lt-or-le, two-cases}
-use Rattle.specification.specs.Sets.{at}
+use Rattle.specification.specs.Sets.{at, has?}
 use Rattle.specification.specs.Geometry.{Point, courseAmong}
 use Rattle.masks.specs.Pairs.{inPair}
 use Rattle.masks.proofs.Bits.{without}
@@ -49,6 +49,7 @@ module _ (below left : List ℕ) (fb : (x : ℕ) → getD below x 0 < 2 ^ 64) (f
 
   module _ (a b x y first second : ℕ) (masked : Masked a b x y first second) where
     masked-low : (w : ℕ) → w < 128 → eqb (inPair first second w) 1 ≡ (strictly? below a b w && strictly? left x y w)
+    unfolding has?
     masked-low w l =
         ap (λ k. eqb k 1) (ap₂ (λ p q. inPair p q w) (masked .0) (masked .1)
         ∙ pair-and _ _ _ _ w l

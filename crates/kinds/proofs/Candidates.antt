@@ -3,7 +3,7 @@ use Rattle.counting.proofs.Prelude.{_≡_, refl, sym, ap, _∙_, _↔_, ⊎-eli
 use native.Mathlib.Decide.{ℕ-discrete}
 use Rattle.counting.specs.Quads.{quad}
 use Rattle.counting.proofs.Truth.{and-intro, two-cases}
-use Rattle.specification.specs.Sets.{at}
+use Rattle.specification.specs.Sets.{at, has?}
 use Rattle.specification.specs.Geometry.{Hit, Widths, ownColumn}
 use Rattle.specification.specs.Chart.{crossing}
 use Rattle.masks.proofs.Tables.{at-lt}
@@ -37,6 +37,7 @@ own-back W c d l =
 
 -- in set b and not in set a + 1
 strictly-true : (t : List ℕ) (a b w : ℕ) → at 2 t b w ≡ 1 → (at 2 t (a + 1) w ≡ 1 → ⊥) → strictly? t a b w ≡ true
+unfolding has?
 strictly-true t a b w p q =
     and-intro _ _ (eq-eqb _ _ p) (⊎-elim (λ z. rw z refl) (λ o. absurd (q o)) (two-cases (at 2 t (a + 1) w) (at-lt 2 t (a + 1) w)))
 

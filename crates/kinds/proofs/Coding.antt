@@ -8,8 +8,9 @@ use Rattle.specification.specs.Chart.{crossing}
 use Rattle.specification.specs.declared.Kind.{Kind}
 use Rattle.specification.specs.declared.Kind.the-variants.{Path, PathTransitive, Straight, Bent}
 use Rattle.specification.specs.declared.Course.{Course}
-use Rattle.kinds.specs.declared.Code.{Code}
-use Rattle.kinds.specs.Codes.{codeOf, kindOf}
+use Rattle.specification.specs.declared.Code.{Code}
+use Rattle.kinds.specs.Codes.{kindOf}
+use Rattle.specification.specs.Numbers.{codeOf}
 use Rattle.kinds.specs.Kinds.{kindIn, candidate?, kindAmong}
 
 -- a kind is known by its code

@@ -6,7 +6,7 @@ use lib.Bits.{bitAnd}
 use lib.Dec.{eqb, ltb}
 use Rattle.counting.specs.Quads.{quad}
 use Rattle.specification.specs.Count.{choose}
-use Rattle.specification.specs.Sets.{at}
+use Rattle.specification.specs.Sets.{has?}
 use Rattle.geometry.specs.Segment.{pointOf, vertexCount}
 use Rattle.specification.specs.Geometry.{courseOf, courseAmong}
 use Rattle.specification.specs.Bundles.{adjacent?}
@@ -26,7 +26,7 @@ kindIn c d p q into outOf columns places u v =
 
 -- of a table of sets by key: w is in set b and not in set a + 1, so that its key is strictly between a and b
 abbrev pub strictly? : List ℕ → ℕ → ℕ → ℕ → Bool
-strictly? sets a b w = eqb (at 2 sets b w) 1 && not (eqb (at 2 sets (a + 1) w) 1)
+strictly? sets a b w = has? 2 sets b w && not (has? 2 sets (a + 1) w)
 
 -- vertex w can be in the way from row a and channel c to row b and channel d, by the sets of the vertices below each row and left of
 -- each channel; the sets, of two masks, have vertices below 128

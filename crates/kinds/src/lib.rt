@@ -8,16 +8,10 @@ ghost use Rattle.geometry.specs.Segment.{pointOf, vertexCount};
 ghost use Rattle.specification.specs.Geometry.{courseAmong};
 ghost use Rattle.specification.specs.Bundles.{adjacent?};
 ghost use Rattle.specification.specs.Chart.{crossing};
-ghost use Rattle.kinds.specs.Codes.{codeOf};
+ghost use Rattle.specification.specs.Numbers.{codeOf};
 ghost use Rattle.kinds.specs.Kinds.{between, candidate?, kindAmong};
+use specification::Code;
 use specification::Course;
-
-// The number of a kind, with its bundle or its bend.
-pub struct Code {
-    pub code: u8,
-    pub value: u16,
-    pub row: u8,
-}
 
 // A byte as a usize.
 fn wide(x: u8) -> usize

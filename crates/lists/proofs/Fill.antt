@@ -46,7 +46,7 @@ use denote.Triple.Spec.{Meets, tripleOf}
 use denote.Triple.Clauses.{Ended, Clauses, ensured, closing, lasts}
 use denote.Triple.Walked.{says, needs, Stays, stay-slice, stay-none, walkOf, AllGo, goes-slice, goes-none, Walks, ends-at, walked, walk-meets}
 use denote.Exit.{yes, Last, left}
-use Rattle.lists.specs.Filled.{Filled}
+use Rattle.specification.specs.Lent.{Filled}
 use Rattle.lists.proofs.Upto.{Upto, Nearer, Nearer-wf}
 use Rattle.lists.proofs.Written.{written, as-long, filled}
 

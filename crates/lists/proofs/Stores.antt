@@ -2,7 +2,7 @@
 use Rattle.counting.proofs.Prelude.{_≡_, refl, subst, _∙_, ⊎-elim, List, ℕ, _+_, _<_, _≤_, arith, length, set, length-set}
 use native.Mathlib.Nat.{eq-or-lt-of-le, le-antisymm}
 use lib.Seq.{getD-set-same, getD-set-other}
-use Rattle.lists.specs.Filled.{Filled}
+use Rattle.specification.specs.Lent.{Filled}
 
 module _ (was : List ℕ) (g : ℕ → ℕ) where
   pub filled-none : Filled was g 0 was

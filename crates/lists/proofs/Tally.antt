@@ -48,7 +48,7 @@ use denote.Triple.Walked.{says, needs, Stays, stay-slice, stay-dropped, walkOf, 
 use denote.Exit.{yes, Last}
 use Rattle.specification.specs.Count.{indicator, sum, count}
 use Rattle.counting.proofs.Classes.{count-le}
-use Rattle.lists.specs.Filled.{Filled}
+use Rattle.specification.specs.Lent.{Filled}
 use Rattle.lists.proofs.Fill.{Source}
 use Rattle.lists.proofs.Upto.{Upto, Nearer, Nearer-wf}
 use Rattle.lists.proofs.Written.{written, as-long, filled}

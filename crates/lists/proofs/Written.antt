@@ -2,7 +2,7 @@
 use Rattle.counting.proofs.Prelude.{_≡_, refl, _∙_, ⊎-elim, List, ℕ, zero, suc, _<_, _≤_, arith, length, getD, set, length-set}
 use native.Mathlib.Nat.{eq-or-lt-of-le}
 use lib.Seq.{getD-set-same, getD-set-other, ext-getD}
-use Rattle.lists.specs.Filled.{Filled}
+use Rattle.specification.specs.Lent.{Filled}
 
 -- ---- the list with its first i entries written, by what g says
 module _ {E : Type 0} (ys : List E) (g : ℕ → E) where

@@ -6,7 +6,7 @@ use lib.Bits.{bitOr, bitAnd, and-mask}
 use lib.Count.{ones}
 use lib.Seq.{getD-set-same, getD-set-other}
 use Rattle.specification.specs.Count.{sum}
-use Rattle.specification.specs.Sets.{bit, maskOf, member, member?, inserted, United}
+use Rattle.specification.specs.Sets.{bit, maskOf, member, member?, United}
 use Rattle.counting.proofs.Sums.{sum-ext, sum-split}
 use Rattle.masks.proofs.Bits.{bit-lt, bit-or, without, bit-without, ones-sum}
 
@@ -73,8 +73,3 @@ without-member w t from s first r fit same v h =
     ap (λ (j : ℕ). eqb (bit (getD r j 0) (v % 64)) 1) (let e : 0 + i ≡ i = omega arith in e)
     ∙ ap (λ (x : ℕ). eqb (bit x (v % 64)) 1) (same i l)
     ∙ bit-without (getD t (from + i) 0) (getD s (first + i) 0) (v % 64) (fit i l) (omega arith)
-
--- as many masks as before
-pub inserted-length : (s : List ℕ) (first v : ℕ) → length (inserted s first v) ≡ length s
-unfolding inserted
-inserted-length s first v = length-set s (first + v / 64) _

@@ -6,6 +6,7 @@ ghost use Prim.Native.Nat.{_+_, _/_, _<_};
 ghost use lib.Dec.{leb, ltb};
 ghost use lib.ListN.{length, getD};
 ghost use Rattle.specification.specs.Sets.{member?, inserted, United};
+ghost use Rattle.specification.specs.Lent.{Untouched};
 
 // Mask i of the set.
 pub fn mask_at(masks: &[u64], first: usize, i: usize) -> u64
@@ -47,7 +48,7 @@ pub fn insert(masks: &mut [u64], first: usize, v: usize) -> bool
 pub fn unite(masks: &mut [u64], first: usize, other: &[u64]) -> bool
     ensures answer { λ r. ⌜ r ≡ leb (first + length (now (other .entry))) (length (now (masks .entry))) ⌝ }
     ensures made { λ r. ⌜ (r ≡ true → United (now (masks .entry)) first (now (other .entry)) (length (now (other .entry))) (now (masks .exit))) ⌝ }
-    ensures kept { λ r. ⌜ (r ≡ false → now (masks .exit) ≡ now (masks .entry)) ⌝ }
+    ensures kept { λ r. ⌜ (r ≡ false → Untouched (now (masks .entry)) (now (masks .exit))) ⌝ }
 {
     if masks.len() < first {
         return false;

@@ -7,6 +7,7 @@ pub mod Asked
 pub mod Least
 pub mod Lists
 pub mod Chains
+pub mod Depth
 pub mod Ordered
 pub mod Planned
 pub mod Same

@@ -1,10 +1,11 @@
 -- The channels of the rule: each vertex leads to the next; if `leads` is a strict order they hold every vertex once and are a division,
 -- and no division has fewer parts. Assumes nothing.
-use Rattle.counting.proofs.Prelude.{_≡_, refl, sym, ap, _∙_, subst, _≢_, Bool, true, false, List, _∷_, flatten, ℕ, zero, suc, _+_, _≤_, _<_, arith, eqb, ltb, length, getD, eq-eqb, ne-eqb, lt-ltb}
+use Rattle.counting.proofs.Prelude.{_≡_, refl, sym, ap, _∙_, subst, Bool, true, false, true≢false, List, _∷_, flatten, ℕ, zero, suc, _+_, _≤_, _<_, arith, eqb, ltb, length, ne-eqb, lt-ltb}
 use native.Mathlib.Nat.{not-suc-le-zero}
 use native.Mathlib.Decide.{ℕ-discrete, decLt}
+use mathlib.Core.Option.{Option, none, some, Option·none-ne-some}
 use Rattle.specification.specs.Count.{indicator, sum, count}
-use Rattle.specification.specs.Planning.{most, nobody, matching, successorFrom, successor, chain, begun, planned}
+use Rattle.specification.specs.Planning.{Held, predecessorOf, is?, matching, successorFrom, successor, chain, begun, plannedTo, planned}
 use Rattle.specification.specs.Channels.{times, linked, every}
 use Rattle.counting.proofs.Truth.{indicator-le, and-intro}
 use Rattle.counting.proofs.Sums.{sum-mono}
@@ -16,111 +17,117 @@ use Rattle.matching.proofs.Asked.{Asked, asked-matching}
 use Rattle.matching.proofs.Sound.{Sound}
 use Rattle.matching.proofs.Least.{least-begins}
 use Rattle.matching.proofs.Lists.{times-here, times-other, times-tail, times-none, times-snoc, every-snoc}
-use Rattle.matching.proofs.Chains.{chain-end, chain-more, begun-yes, begun-no, successor-here, successor-on, successor-fact, begun-once, begun-within, begun-count}
+use Rattle.matching.proofs.Chains.{is-true, is-same, chain-none, chain-some, begun-yes, begun-no, successor-here, successor-on, successor-fact, begun-once, begun-within, begun-count}
 
-module _ (leads : ℕ → ℕ → Bool) (n : ℕ) (small : n ≤ most) (P : List ℕ) where
+module _ (leads : ℕ → ℕ → Bool) (n : ℕ) (held : List Held) where
+  abbrev channel : ℕ → List ℕ
+  channel v = chain n held (suc n) (some v)
+
+  abbrev channels : ℕ → List (List ℕ)
+  channels v = begun n held (suc n) v
+
   -- what holds of each channel holds of those begun
-  begun-every : (p : List ℕ → Bool) → ((v : ℕ) → v < n → p (chain n P (suc n) v) ≡ true) → (v : ℕ) → v ≤ n → every p (begun n P v) ≡ true
+  begun-every : (p : List ℕ → Bool) → ((v : ℕ) → v < n → p (channel v) ≡ true) → (v : ℕ) → v ≤ n → every p (channels v) ≡ true
   unfolding begun every
   begun-every p f zero l = refl
-  begun-every p f (suc v) l = go (ℕ-discrete (getD P v 0) nobody) (begun-every p f v (omega arith))
+  begun-every p f (suc v) l = go (predecessorOf held v) refl (begun-every p f v (omega arith))
     where
-      go : Dec (getD P v 0 ≡ nobody) → every p (begun n P v) ≡ true → every p (begun n P (suc v)) ≡ true
-      go (yes e) ih = rw (begun-yes n P v e) (every-snoc p (begun n P v) (chain n P (suc n) v) ih (f v (omega arith)))
-      go (no e) ih = rw (begun-no n P v e) ih
+      go : (m : Option ℕ) → predecessorOf held v ≡ m → every p (channels v) ≡ true → every p (channels (suc v)) ≡ true
+      go none e ih = rw (begun-yes n held (suc n) v e) (every-snoc p (channels v) (channel v) ih (f v (omega arith)))
+      go (some x) e ih = rw (begun-no n held (suc n) v x e) ih
 
   -- a channel has at least the vertex that it begins with
-  chain-full : (v : ℕ) → v < n → full (chain n P (suc n) v) ≡ true
-  chain-full v l = lt-ltb 0 (length (chain n P (suc n) v)) (omega (arith, ap length (chain-more n P n v (λ o. omega arith))))
+  channel-full : (v : ℕ) → full (channel v) ≡ true
+  channel-full v = lt-ltb 0 (length (channel v)) (omega (arith, ap length (chain-some n held n v)))
 
   -- ---- each leads to the next
 
-  module _ (s : Sound leads n P) where
-    chain-linked : (k x : ℕ) → x < n → linked leads (chain n P k x) ≡ true
+  module _ (s : Sound leads n held) where
+    chain-linked : (k x : ℕ) → linked leads (chain n held k (some x)) ≡ true
     unfolding linked chain
-    chain-linked zero x l = refl
-    chain-linked (suc k) x l = rw (chain-more n P k x (λ o. omega arith)) (go k (ℕ-discrete (successor n P x) nobody) (λ m. chain-linked k (successor n P x) m))
+    chain-linked zero x = refl
+    chain-linked (suc k) x = go k (successor n held x) refl (λ w. chain-linked k w)
       where
-        go : (k : ℕ) → Dec (successor n P x ≡ nobody) → (successor n P x < n → linked leads (chain n P k (successor n P x)) ≡ true) → linked leads (x ∷ chain n P k (successor n P x)) ≡ true
-        go k (yes e) ih = rw (e, chain-end n P k) refl
-        go zero (no e) ih = refl
-        go (suc k) (no e) ih =
-            let f : (successor n P x < n) × (getD P (successor n P x) 0 ≡ x) = successor-fact n P x e in
-            let g : getD P (successor n P x) 0 ≢ nobody = λ (o : getD P (successor n P x) 0 ≡ nobody). omega (arith, f .1) in
-            let a : leads x (successor n P x) ≡ true = ap (λ y. leads y (successor n P x)) (sym (f .1)) ∙ s (successor n P x) (f .0) g .1 in
-            rw (chain-more n P k (successor n P x) (λ o. omega (arith, f .0)))
-            (and-intro (leads x (successor n P x)) (linked leads (successor n P x ∷ chain n P k (successor n P (successor n P x)))) a
-            (ap (linked leads) (sym (chain-more n P k (successor n P x) (λ o. omega (arith, f .0)))) ∙ ih (f .0)))
+        go : (k : ℕ) (m : Option ℕ) → successor n held x ≡ m → ((w : ℕ) → linked leads (chain n held k (some w)) ≡ true)
+            → linked leads (x ∷ chain n held k (successor n held x)) ≡ true
+        go k none e ih = rw (e, chain-none n held k) refl
+        go zero (some w) e ih = refl
+        go (suc k) (some w) e ih =
+            rw e (and-intro (leads x w) (linked leads (chain n held (suc k) (some w))) (s w x (successor-fact n held x w e .1) .1) (ih w))
 
   -- ---- every vertex is in a channel, if `leads` is a strict order
 
   -- a vertex of a chain, and the next one
-  chain-next : (k a u w : ℕ) → 0 < times u (chain n P k a) → successor n P u ≡ w → w ≢ nobody → 0 < times w (chain n P (suc k) a)
+  chain-next : (k : ℕ) (m : Option ℕ) (u w : ℕ) → 0 < times u (chain n held k m) → successor n held u ≡ some w
+      → 0 < times w (chain n held (suc k) m)
   unfolding chain
-  chain-next zero a u w h e d = absurd (omega (arith, times-none u))
-  chain-next (suc k) a u w h e d = go (ℕ-discrete a nobody) (ℕ-discrete u a) (λ p. chain-next k (successor n P a) u w p e d)
+  chain-next zero m u w h e = absurd (omega (arith, times-none u))
+  chain-next (suc k) none u w h e = absurd (omega (arith, times-none u))
+  chain-next (suc k) (some a) u w h e = go (ℕ-discrete u a) (λ p. chain-next k (successor n held a) u w p e)
     where
-      go : Dec (a ≡ nobody) → Dec (u ≡ a) → (0 < times u (chain n P k (successor n P a)) → 0 < times w (chain n P (suc k) (successor n P a)))
-          → 0 < times w (chain n P (suc (suc k)) a)
-      go (yes q) f ih = absurd (omega (arith, ap (λ y. times u (chain n P (suc k) y)) q, ap (times u) (chain-end n P (suc k)), times-none u))
-      go (no q) (yes f) ih =
-          let g : successor n P a ≡ w = ap (successor n P) (sym f) ∙ e in
-          rw (chain-more n P (suc k) a q, g, chain-more n P k w d)
-          (omega (arith, times-here w (chain n P k (successor n P w)), times-tail w a (w ∷ chain n P k (successor n P w))))
-      go (no q) (no f) ih =
-          rw (chain-more n P (suc k) a q)
-          (omega (
-            arith,
-            times-tail w a (chain n P (suc k) (successor n P a)),
-            ih (omega (arith, ap (times u) (chain-more n P k a q), times-other a u (chain n P k (successor n P a)) f)),
-          ))
+      go : Dec (u ≡ a) → (0 < times u (chain n held k (successor n held a)) → 0 < times w (chain n held (suc k) (successor n held a)))
+          → 0 < times w (a ∷ chain n held (suc k) (successor n held a))
+      go (yes f) ih =
+          let g : successor n held a ≡ some w = ap (successor n held) (sym f) ∙ e in
+          rw (g, chain-some n held k w)
+          (omega (arith, times-here w (chain n held k (successor n held w)), times-tail w a (w ∷ chain n held k (successor n held w))))
+      go (no f) ih = omega (
+        arith,
+        times-tail w a (chain n held (suc k) (successor n held a)),
+        ih (omega (arith, times-other a u (chain n held k (successor n held a)) f)),
+      )
 
   -- a channel that begins below v is among them
-  begun-has : (v a w : ℕ) → a < v → getD P a 0 ≡ nobody → times w (chain n P (suc n) a) ≤ times w (flatten (begun n P v))
+  begun-has : (v a w : ℕ) → a < v → predecessorOf held a ≡ none → times w (channel a) ≤ times w (flatten (channels v))
   begun-has zero a w l e = absurd (not-suc-le-zero l)
-  begun-has (suc v) a w l e = go (ℕ-discrete a v) (ℕ-discrete (getD P v 0) nobody) (λ m. begun-has v a w m e)
+  begun-has (suc v) a w l e = go (ℕ-discrete a v) (predecessorOf held v) refl (λ m. begun-has v a w m e)
     where
-      whole : getD P v 0 ≡ nobody → times w (flatten (begun n P (suc v))) ≡ times w (flatten (begun n P v)) + times w (chain n P (suc n) v)
-      whole f = ap (λ x. times w (flatten x)) (begun-yes n P v f) ∙ times-snoc w (begun n P v) (chain n P (suc n) v)
+      whole : predecessorOf held v ≡ none → times w (flatten (channels (suc v))) ≡ times w (flatten (channels v)) + times w (channel v)
+      whole f = ap (λ x. times w (flatten x)) (begun-yes n held (suc n) v f) ∙ times-snoc w (channels v) (channel v)
 
-      go : Dec (a ≡ v) → Dec (getD P v 0 ≡ nobody) → (a < v → times w (chain n P (suc n) a) ≤ times w (flatten (begun n P v))) → times w (chain n P (suc n) a) ≤ times w (flatten (begun n P (suc v)))
-      go (yes q) (yes f) ih = omega (arith, whole f, ap (λ y. times w (chain n P (suc n) y)) q)
-      go (yes q) (no f) ih = absurd (f (ap (λ y. getD P y 0) (sym q) ∙ e))
-      go (no q) (yes f) ih = omega (arith, whole f, ih (omega arith))
-      go (no q) (no f) ih = omega (arith, ih (omega arith), ap (λ x. times w (flatten x)) (begun-no n P v f))
+      go : Dec (a ≡ v) → (m : Option ℕ) → predecessorOf held v ≡ m → (a < v → times w (channel a) ≤ times w (flatten (channels v)))
+          → times w (channel a) ≤ times w (flatten (channels (suc v)))
+      go (yes q) none f ih = omega (arith, whole f, ap (λ y. times w (channel y)) q)
+      go (yes q) (some p) f ih = absurd (Option·none-ne-some p (sym e ∙ ap (predecessorOf held) q ∙ f))
+      go (no q) none f ih = omega (arith, whole f, ih (omega arith))
+      go (no q) (some p) f ih = omega (arith, ih (omega arith), ap (λ x. times w (flatten x)) (begun-no n held (suc n) v p f))
 
-  module _ (q : Asked leads n n P) (o : Order leads n) where
+  module _ (q : Asked leads n n held) (o : Order leads n) where
     -- no two vertices have one predecessor
-    one-each : (u v : ℕ) → u < n → v < n → getD P u 0 ≢ nobody → getD P u 0 ≡ getD P v 0 → u ≡ v
+    one-each : (u v a : ℕ) → u < n → v < n → predecessorOf held u ≡ some a → predecessorOf held v ≡ some a → u ≡ v
     unfolding heldBy count
-    one-each u v l m f e = go (ℕ-discrete u v) (decLt u v)
+    one-each u v a l m e f = go (ℕ-discrete u v) (decLt u v)
       where
-        a : ℕ
-        a = getD P u 0
-
         g : ℕ → ℕ
-        g w = indicator (eqb (getD P w 0) a)
+        g w = indicator (is? a (predecessorOf held w))
 
         most-one : sum n g ≤ 1
-        most-one = omega (arith, q .each a (q .sound u l f .0), indicator-le (ltb a n))
+        most-one = omega (arith, q .each a (q .sound u a e .0), indicator-le (ltb a n))
+
+        at : (w : ℕ) → predecessorOf held w ≡ some a → g w ≡ 1
+        at w i = ap indicator (ap (is? a) i ∙ is-same a)
 
         go : Dec (u ≡ v) → Dec (u < v) → u ≡ v
         go (yes d) b = d
-        go (no d) (yes b) = absurd (omega (arith, most-one, sum-two n g u v b m, ap indicator (eq-eqb a a refl), ap indicator (eq-eqb (getD P v 0) a (sym e))))
-        go (no d) (no b) = absurd (omega (arith, most-one, sum-two n g v u (omega arith) l, ap indicator (eq-eqb a a refl), ap indicator (eq-eqb (getD P v 0) a (sym e))))
+        go (no d) (yes b) = absurd (omega (arith, most-one, sum-two n g u v b m, at u e, at v f))
+        go (no d) (no b) = absurd (omega (arith, most-one, sum-two n g v u (omega arith) l, at u e, at v f))
 
-    successor-at : (v j w : ℕ) → v < n → getD P v 0 ≢ nobody → w + j ≡ n → w ≤ v → successorFrom n P (getD P v 0) j w ≡ v
-    successor-at v zero w l f e m = absurd (omega arith)
-    successor-at v (suc j) w l f e m = go (ℕ-discrete (getD P w 0) (getD P v 0)) (ℕ-discrete w v) (successor-at v j (suc w) l f (omega arith))
+    successor-at : (v p j w : ℕ) → v < n → predecessorOf held v ≡ some p → w + j ≡ n → w ≤ v → successorFrom n held p j w ≡ some v
+    successor-at v p zero w l f e m = absurd (omega arith)
+    successor-at v p (suc j) w l f e m =
+        go (is? p (predecessorOf held w)) refl (ℕ-discrete w v) (successor-at v p j (suc w) l f (omega arith))
       where
-        go : Dec (getD P w 0 ≡ getD P v 0) → Dec (w ≡ v) → (suc w ≤ v → successorFrom n P (getD P v 0) j (suc w) ≡ v) → successorFrom n P (getD P v 0) (suc j) w ≡ v
-        go (yes p) d ih = successor-here n P (getD P v 0) j w p ∙ one-each w v (omega arith) l (λ z. f (sym p ∙ z)) p
-        go (no p) (yes d) ih = absurd (p (ap (λ y. getD P y 0) d))
-        go (no p) (no d) ih = successor-on n P (getD P v 0) j w p ∙ ih (omega arith)
+        go : (b : Bool) → is? p (predecessorOf held w) ≡ b → Dec (w ≡ v) → (suc w ≤ v → successorFrom n held p j (suc w) ≡ some v)
+            → successorFrom n held p (suc j) w ≡ some v
+        go true i d ih =
+            successor-here n held p j w i ∙ ap {B = Option ℕ} some (one-each w v p (omega arith) l (is-true p (predecessorOf held w) i) f)
+        go false i (yes d) ih =
+            absurd (true≢false (sym (is-same p) ∙ ap (is? p) (sym f) ∙ ap (λ y. is? p (predecessorOf held y)) (sym d) ∙ i))
+        go false i (no d) ih = successor-on n held p j w i ∙ ih (omega arith)
 
-    successor-is : (v : ℕ) → v < n → getD P v 0 ≢ nobody → successor n P (getD P v 0) ≡ v
+    successor-is : (v p : ℕ) → v < n → predecessorOf held v ≡ some p → successor n held p ≡ some v
     unfolding successor
-    successor-is v l f = successor-at v n 0 l f (omega arith) (omega arith)
+    successor-is v p l f = successor-at v p n 0 l f (omega arith) (omega arith)
 
     -- how many vertices lead to w
     abbrev before : ℕ → ℕ
@@ -146,35 +153,37 @@ module _ (leads : ℕ → ℕ → Bool) (n : ℕ) (small : n ≤ most) (P : List
         each u m (no p) = omega (arith, ap indicator (ne-eqb a u p), indicator-mono (leads u a) (leads u b) (λ t. o .trans u a b m l k t e))
 
     -- back from w, each time to a vertex that fewer lead to, until one has no predecessor
-    reached : (k w : ℕ) → w < n → before w < k → (a : ℕ) × (a < n) × (getD P a 0 ≡ nobody) × (0 < times w (chain n P k a))
+    reached : (k w : ℕ) → w < n → before w < k → (a : ℕ) × (a < n) × (predecessorOf held a ≡ none) × (0 < times w (chain n held k (some a)))
     reached zero w l b = absurd (not-suc-le-zero b)
-    reached (suc k) w l b = go (ℕ-discrete (getD P w 0) nobody) (λ m. reached k (getD P w 0) m)
+    reached (suc k) w l b = go (predecessorOf held w) refl (λ p m. reached k p m)
       where
-        go : Dec (getD P w 0 ≡ nobody) → (getD P w 0 < n → before (getD P w 0) < k → (a : ℕ) × (a < n) × (getD P a 0 ≡ nobody) × (0 < times (getD P w 0) (chain n P k a)))
-            → (a : ℕ) × (a < n) × (getD P a 0 ≡ nobody) × (0 < times w (chain n P (suc k) a))
-        go (yes e) ih = (w, l, e, omega (arith, ap (times w) (chain-more n P k w (λ z. omega arith)), times-here w (chain n P k (successor n P w))))
-        go (no e) ih =
-            let s : (getD P w 0 < n) × (leads (getD P w 0) w ≡ true) = q .sound w l e in
-            let r = ih (s .0) (omega (arith, fewer (getD P w 0) w (s .0) l (s .1))) in
-            (r .0, r .1, r .2, chain-next k (r .0) (getD P w 0) w (r .3) (successor-is w l e) (λ z. omega arith))
+        go : (m : Option ℕ) → predecessorOf held w ≡ m
+            → ((p : ℕ) → p < n → before p < k → (a : ℕ) × (a < n) × (predecessorOf held a ≡ none) × (0 < times p (chain n held k (some a))))
+            → (a : ℕ) × (a < n) × (predecessorOf held a ≡ none) × (0 < times w (chain n held (suc k) (some a)))
+        go none e ih = (w, l, e, omega (arith, ap (times w) (chain-some n held k w), times-here w (chain n held k (successor n held w))))
+        go (some p) e ih =
+            let s : (p < n) × (leads p w ≡ true) = q .sound w p e in
+            let r = ih p (s .0) (omega (arith, fewer p w (s .0) l (s .1))) in
+            (r .0, r .1, r .2, chain-next k (some (r .0)) p w (r .3) (successor-is w p l e))
 
-    pub begun-covers : Covers leads n (begun n P n)
+    pub begun-covers : Covers leads n (channels n)
     begun-covers = record {
       once = λ v l.
           let r = reached (suc n) v l (omega (arith, count-le n (λ u. leads u v))) in
-          omega (arith, r .3, begun-has n (r .0) v (r .1) (r .2), begun-once n P small n v (omega arith));
-      only = begun-within n P small n (omega arith);
-      filled = begun-every full chain-full n (omega arith);
-      next = begun-every (linked leads) (chain-linked (q .sound) (suc n)) n (omega arith);
+          omega (arith, r .3, begun-has n (r .0) v (r .1) (r .2), begun-once n held (suc n) n v (omega arith));
+      only = begun-within n held (suc n) n (omega arith);
+      filled = begun-every full (λ v l. channel-full v) n (omega arith);
+      next = begun-every (linked leads) (λ v l. chain-linked (q .sound) (suc n) v) n (omega arith);
     }
 
-module _ (leads : ℕ → ℕ → Bool) (n : ℕ) (small : n ≤ most) where
+module _ (leads : ℕ → ℕ → Bool) (n : ℕ) where
   -- for any relation: no division has fewer parts
   pub planned-least : (m : ℕ) (part : ℕ → ℕ) → Division leads n m part → length (planned leads n) ≤ m
-  unfolding planned
-  planned-least m part d = omega (arith, begun-count n (matching leads n) n, least-begins leads n small (matching leads n) (asked-matching leads n small) m part d)
+  unfolding planned plannedTo matching
+  planned-least m part d =
+      omega (arith, begun-count n (matching leads n) (suc n) n, least-begins leads n (matching leads n) (asked-matching leads n) m part d)
 
   -- for a strict order: every vertex once
   pub planned-covers : Order leads n → Covers leads n (planned leads n)
-  unfolding planned
-  planned-covers o = begun-covers leads n small (matching leads n) (asked-matching leads n small) o
+  unfolding planned plannedTo matching
+  planned-covers o = begun-covers leads n (matching leads n) (asked-matching leads n) o

@@ -6,17 +6,19 @@ use Rattle.counting.proofs.Truth.{or-neither}
 use Rattle.specification.specs.declared.Cell.{Cell}
 use Rattle.specification.specs.declared.Polyline.{Polyline}
 use Rattle.specification.specs.declared.Polyline.the-variants.{OffPage}
-use Rattle.specification.specs.Page.{columns, rows, columnPitch, rowPitch, perPoint, toPoints, pointOf, At, AllAt, offPage, anyOff, accepted, refused, answerOf, Answers}
+use Rattle.specification.specs.Limits.{pageColumns, pageRows}
+use Rattle.specification.specs.Page.{columnPitch, rowPitch, perPoint, toPoints, pointOf, At, AllAt}
+use Rattle.specification.specs.Page.{offPage, anyOff, accepted, refused, answerOf, Answers}
 use Rattle.page.proofs.Exact.{exact}
 
 -- the test in numbers
 pub record OnPage (c : Cell) : Type 0 where
-  pub inColumns : c .column < columns
-  pub inRows : c .row < rows
+  pub inColumns : c .column < pageColumns
+  pub inRows : c .row < pageRows
 
 pub on : (c : Cell) → offPage c ≡ false → OnPage c
 on c h =
-    let w = or-neither (leb columns (c .column)) (leb rows (c .row)) h in
+    let w = or-neither (leb pageColumns (c .column)) (leb pageRows (c .row)) h in
     record { inColumns = leb-false _ _ (w .0); inRows = leb-false _ _ (w .1) }
 
 -- every cell is on the page
@@ -34,8 +36,8 @@ spaced k bound pitch h p fits = exact (k * pitch) (lt-of-lt-of-le (mul-lt-mul-of
 
 at : (c : Cell) → offPage c ≡ false → At c (pointOf c)
 at c h = let o = on c h in record {
-  across = spaced (c .column) columns columnPitch (o .inColumns) (omega arith) (lit≤ tt);
-  up = spaced (c .row) rows rowPitch (o .inRows) (omega arith) (lit≤ tt);
+  across = spaced (c .column) pageColumns columnPitch (o .inColumns) (omega arith) (lit≤ tt);
+  up = spaced (c .row) pageRows rowPitch (o .inRows) (omega arith) (lit≤ tt);
 }
 
 all-at : (cs : List Cell) → AllOn cs → AllAt cs (map pointOf cs)

@@ -1,54 +1,69 @@
 -- The loops over vertices: whose successor it is, and which channels have begun. Assumes nothing.
-use Rattle.counting.proofs.Prelude.{_≡_, refl, sym, ap, _∙_, subst, _≢_, _⊎_, inl, inr, List, [], _∷_, _++_, append-nil, append-assoc, flatten, ℕ, zero, suc, _+_, _-_, _*_, _≤_, _<_, min, arith, length, getD, set, replicate, length-append, length-set, length-replicate, getD-replicate, lt-ltb, le-ltb}
+use Rattle.counting.proofs.Prelude.{_≡_, refl, sym, ap, _∙_, subst, _≢_, List, [], _∷_, _++_, append-nil, append-assoc, flatten, ℕ, zero, suc, _+_, _-_, _*_, _≤_, _<_, min, arith, eqb, length, getD, set, replicate, length-append, length-set, length-replicate, getD-replicate, eq-eqb, ne-eqb, lt-ltb, le-ltb}
 use native.Mathlib.Decide.{ℕ-discrete}
+use mathlib.Core.Option.{Option, none, some, Option·some-injective}
 use native.Mathlib.Numerals.{add-one}
 use lib.Seq.{getD-set-same, getD-set-other}
-use Rattle.specification.specs.Planning.{nobody, matching, successorFrom, successor, chain, begun, planned}
+use Rattle.specification.specs.Planning.{Held, predecessorOf, is?, matching, successorFrom, successor, chain, plannedTo, planned}
 use Rattle.specification.specs.Channels.{times}
 use Rattle.matching.proofs.Lists.{flatten-snoc, times-append, times-here, length-bound}
-use Rattle.matching.proofs.Chains.{chain-end, chain-more, begun-yes, begun-none, begun-no, successor-here, successor-on, successor-end, successor-fact, begun-once, begun-within, begun-room}
-use Rattle.search.specs.Table.{leadsIn}
+use Rattle.matching.proofs.Chains.{begun-yes, begun-none, begun-no, successor-here, successor-on, successor-end, successor-fact, begun-once, begun-within, begun-room, begun-same}
+use Rattle.matching.proofs.Asked.{asked-matching}
+use Rattle.search.specs.Tabled.{byteOf, Tabled}
 use Rattle.planning.specs.Arranged.{Arranged, Kept}
-use Rattle.planning.specs.Laid.{placed, Successors, followed, Fits, Ready, Behind}
+use Rattle.planning.specs.Steps.{heldIn, channelsIn, placed, Successors, followed, Fits, Ready, Behind}
 use Rattle.planning.specs.Promise.{Chained}
 use Rattle.planning.specs.declared.Channels.{Channels}
+use Rattle.planning.proofs.Held.{held-none, held-some, held-is, held-tabled}
 use Rattle.planning.proofs.Laying.{kept-same, kept-on, kept-placed, arranged-opened, arranged-extended}
+use Rattle.specification.specs.Sets.{has?}
 
 -- ---- each vertex's successor, from the last vertex down
 
 module _ (n : ℕ) (P : List ℕ) where
+  -- the first of the vertices from v on that has h as its predecessor
+  abbrev first : ℕ → ℕ → ℕ
+  first h v = byteOf (successorFrom n (heldIn n P) h (n - v) v)
+
   -- of the vertices from v on, r has the first that has h as its predecessor
   pub record Seeking (v : ℕ) (r : List ℕ) : Type 0 where
     pub upto : v ≤ n
     pub size : length r ≡ 128
-    pub each : (h : ℕ) → h < 128 → getD r h 0 ≡ successorFrom n P h (n - v) v
+    pub each : (h : ℕ) → h < 128 → getD r h 0 ≡ first h v
 
-  pub seek-none : Seeking n (replicate 128 nobody)
+  pub seek-none : Seeking n (replicate 128 255)
+  unfolding byteOf
   seek-none = record {
     upto = omega arith;
-    size = length-replicate {A = ℕ} 128 nobody;
-    each = λ h l. getD-replicate 128 h nobody 0 l
-        ∙ sym (ap (λ j. successorFrom n P h j n) (let e : n - n ≡ 0 = omega arith in e) ∙ successor-end n P h n);
+    size = length-replicate {A = ℕ} 128 255;
+    each = λ h l. getD-replicate 128 h 255 0 l
+        ∙ sym (ap (λ j. byteOf (successorFrom n (heldIn n P) h j n)) (let e : n - n ≡ 0 = omega arith in e)
+        ∙ ap byteOf (successor-end n (heldIn n P) h n));
   }
 
   module _ (v w p : ℕ) (r : List ℕ) (g : Seeking v r) (ev : v ≡ suc w) (ep : p ≡ getD P w 0) where
-    at : (h : ℕ) → successorFrom n P h (n - w) w ≡ successorFrom n P h (suc (n - v)) w
-    at h = ap (λ j. successorFrom n P h j w) (let e : n - w ≡ suc (n - v) = omega (arith, g .upto) in e)
+    at : (h : ℕ) → first h w ≡ byteOf (successorFrom n (heldIn n P) h (suc (n - v)) w)
+    at h = ap (λ j. byteOf (successorFrom n (heldIn n P) h j w)) (let e : n - w ≡ suc (n - v) = omega (arith, g .upto) in e)
 
-    seek-other : (h : ℕ) → h < 128 → p ≢ h → getD r h 0 ≡ successorFrom n P h (n - w) w
-    seek-other h l d = g .each h l ∙ ap (λ x. successorFrom n P h (n - v) x) ev
-        ∙ sym (at h ∙ successor-on n P h (n - v) w (λ e. d (ep ∙ e)))
+    test : (h : ℕ) → h < 128 → is? h (predecessorOf (heldIn n P) w) ≡ eqb p h
+    test h l = held-is P n w h (omega (arith, g .upto)) l ∙ ap (λ x. eqb x h) (sym ep)
+
+    seek-other : (h : ℕ) → h < 128 → p ≢ h → getD r h 0 ≡ first h w
+    seek-other h l d = g .each h l ∙ ap (λ x. byteOf (successorFrom n (heldIn n P) h (n - v) x)) ev
+        ∙ sym (at h ∙ ap byteOf (successor-on n (heldIn n P) h (n - v) w (test h l ∙ ne-eqb p h d)))
 
     pub seek-here : p < 128 → Seeking w (set r p w)
+    unfolding byteOf
     seek-here l = record {
       upto = omega (arith, g .upto);
       size = length-set r p w ∙ g .size;
       each = λ h m. go h m (ℕ-discrete p h);
     }
       where
-        go : (h : ℕ) → h < 128 → Dec (p ≡ h) → getD (set r p w) h 0 ≡ successorFrom n P h (n - w) w
+        go : (h : ℕ) → h < 128 → Dec (p ≡ h) → getD (set r p w) h 0 ≡ first h w
         go h m (yes e) = ap (λ x. getD (set r p w) x 0) (sym e)
-            ∙ getD-set-same r p w 0 (omega (arith, g .size)) ∙ sym (at h ∙ successor-here n P h (n - v) w (sym ep ∙ e))
+            ∙ getD-set-same r p w 0 (omega (arith, g .size))
+            ∙ sym (at h ∙ ap byteOf (successor-here n (heldIn n P) h (n - v) w (test h m ∙ eq-eqb p h e)))
         go h m (no d) = getD-set-other r p h w 0 (λ e. d (sym e)) ∙ seek-other h m d
 
     -- w has no predecessor
@@ -59,8 +74,8 @@ module _ (n : ℕ) (P : List ℕ) where
   unfolding successor
   seek-all v r g z = record {
     size = g .size;
-    each = λ h l. g .each h l ∙ ap (successorFrom n P h (n - v)) (let e : v ≡ 0 = omega arith in e)
-        ∙ ap (λ j. successorFrom n P h j 0) (let e : n - v ≡ n = omega arith in e);
+    each = λ h l. g .each h l ∙ ap (λ x. byteOf (successorFrom n (heldIn n P) h (n - v) x)) (let e : v ≡ 0 = omega arith in e)
+        ∙ ap (λ j. byteOf (successorFrom n (heldIn n P) h j 0)) (let e : n - v ≡ n = omega arith in e);
   }
 
 -- ---- the vertices that follow, by a table of successors
@@ -76,19 +91,15 @@ module _ (n : ℕ) (F : List ℕ) where
   followed-end (suc k) v l = rw (le-ltb v n l)
 
   module _ (P : List ℕ) (small : n ≤ 128) (g : Successors n P F) where
-    followed-chain : (k v : ℕ) → (v < n) ⊎ (v ≡ nobody) → followed n F k v ≡ chain n P k v
-    unfolding followed chain
-    followed-chain zero v c = refl
-    followed-chain (suc k) v (inl l) =
+    followed-chain : (k : ℕ) (m : Option ℕ) → ((v : ℕ) → m ≡ some v → v < n) → followed n F k (byteOf m) ≡ chain n (heldIn n P) k m
+    unfolding followed chain byteOf
+    followed-chain zero m b = refl
+    followed-chain (suc k) none b = followed-end (suc k) 255 (omega arith)
+    followed-chain (suc k) (some v) b =
+        let l : v < n = b v refl in
         followed-more k v l
         ∙ ap (λ x. v ∷ followed n F k x) (g .each v (omega arith))
-        ∙ ap (λ x. v ∷ x) (followed-chain k (successor n P v) (next (ℕ-discrete (successor n P v) nobody)))
-        ∙ sym (chain-more n P k v (λ e. omega arith))
-      where
-        next : Dec (successor n P v ≡ nobody) → (successor n P v < n) ⊎ (successor n P v ≡ nobody)
-        next (yes e) = inr e
-        next (no d) = inl (successor-fact n P v d .0)
-    followed-chain (suc k) v (inr e) = followed-end (suc k) v (omega arith) ∙ sym (ap (chain n P (suc k)) e ∙ chain-end n P (suc k))
+        ∙ ap (λ x. v ∷ x) (followed-chain k (successor n (heldIn n P) v) (λ w e. successor-fact n (heldIn n P) v w e .0))
 
 -- ---- the channel that begins with a, behind the channels ls
 
@@ -207,31 +218,34 @@ module _ (n : ℕ) (P : List ℕ) where
   -- those that begin below v are laid
   pub record Laid (v count : ℕ) (r : List ℕ) : Type 0 where
     pub upto : v ≤ n
-    pub full : length (begun n P v) ≤ length (flatten (begun n P v))
-    pub arranged : Arranged n (begun n P v) count r
+    pub full : length (channelsIn n P v) ≤ length (flatten (channelsIn n P v))
+    pub arranged : Arranged n (channelsIn n P v) count r
 
   pub laid-none : (r : List ℕ) → Arranged n [] 0 r → Laid 0 0 r
   laid-none r a = record {
     upto = omega arith;
-    full = omega (arith, ap length (begun-none n P));
-    arranged = subst (λ x. Arranged n x 0 r) (sym (begun-none n P)) a;
+    full = omega (arith, ap length (begun-none n (heldIn n P) (suc n)));
+    arranged = subst (λ x. Arranged n x 0 r) (sym (begun-none n (heldIn n P) (suc n))) a;
   }
 
   module _ (small : n ≤ 128) (F : List ℕ) (o : Successors n P F) (v count : ℕ) (r : List ℕ) (g : Laid v count r) (l : v < n) where
-    module _ (e : getD P v 0 ≡ nobody) where
+    module _ (e : getD P v 0 ≡ 255) where
       -- v begins a channel
-      yes-begun : begun n P (suc v) ≡ begun n P v ++ (followed n F (suc n) v ∷ [])
-      yes-begun = begun-yes n P v e ∙ ap (λ x. begun n P v ++ (x ∷ [])) (sym (followed-chain n F P small o (suc n) v (inl l)))
+      yes-begun : channelsIn n P (suc v) ≡ channelsIn n P v ++ (followed n F (suc n) v ∷ [])
+      unfolding byteOf
+      yes-begun = begun-yes n (heldIn n P) (suc n) v (held-none P n v e)
+          ∙ ap (λ x. channelsIn n P v ++ (x ∷ []))
+          (sym (followed-chain n F P small o (suc n) (some v) (λ w q. subst (λ x. x < n) (Option·some-injective v w q) l)))
 
-      fits : Fits n (begun n P v) (followed n F (suc n) v)
+      fits : Fits n (channelsIn n P v) (followed n F (suc n) v)
       fits = record {
         full = g .full;
-        once = λ u. subst (λ x. times u (flatten x) ≤ 1) yes-begun (begun-once n P small (suc v) u l);
-        only = λ u h. subst (λ x. times u (flatten x) ≡ 0) yes-begun (begun-within n P small (suc v) l u h);
+        once = λ u. subst (λ x. times u (flatten x) ≤ 1) yes-begun (begun-once n (heldIn n P) (suc n) (suc v) u l);
+        only = λ u h. subst (λ x. times u (flatten x) ≡ 0) yes-begun (begun-within n (heldIn n P) (suc n) (suc v) l u h);
       }
 
       pub laid-ready : 4 * n ≤ length r → Ready n (followed n F (suc n) v) count r
-      laid-ready room = record { room = room; ls = begun n P v; arranged = g .arranged; fits = fits }
+      laid-ready room = record { room = room; ls = channelsIn n P v; arranged = g .arranged; fits = fits }
 
       -- and is laid
       pub laid-chain : (s : List ℕ) → Behind n (followed n F (suc n) v) count r s → Laid (v + 1) (count + 1) s
@@ -241,19 +255,20 @@ module _ (n : ℕ) (P : List ℕ) where
           arith,
           g .full,
           ap length yes-begun,
-          length-append (begun n P v) (followed n F (suc n) v ∷ []),
+          length-append (channelsIn n P v) (followed n F (suc n) v ∷ []),
           ap (λ x. length (flatten x)) yes-begun,
-          ap length (flatten-snoc (begun n P v) (followed n F (suc n) v)),
-          length-append (flatten (begun n P v)) (followed n F (suc n) v),
+          ap length (flatten-snoc (channelsIn n P v) (followed n F (suc n) v)),
+          length-append (flatten (channelsIn n P v)) (followed n F (suc n) v),
           ap length (followed-more n F n v l),
         );
-        arranged = subst (λ x. Arranged n x (count + 1) s) (sym yes-begun) (b .laid (begun n P v) (g .arranged) fits);
+        arranged = subst (λ x. Arranged n x (count + 1) s) (sym yes-begun) (b .laid (channelsIn n P v) (g .arranged) fits);
       })
 
     -- v begins none
-    pub laid-pass : getD P v 0 ≢ nobody → Laid (v + 1) count r
+    pub laid-pass : getD P v 0 ≢ 255 → Laid (v + 1) count r
     laid-pass d =
-        let z : begun n P v ≡ begun n P (v + 1) = sym (begun-no n P v d) ∙ ap (begun n P) (sym (add-one v)) in record {
+        let z : channelsIn n P v ≡ channelsIn n P (v + 1) = sym (begun-no n (heldIn n P) (suc n) v (getD P v 0) (held-some P n v l d))
+        ∙ ap (channelsIn n P) (sym (add-one v)) in record {
           upto = omega arith;
           full = subst (λ x. length x ≤ length (flatten x)) z (g .full);
           arranged = subst (λ x. Arranged n x count r) z (g .arranged);
@@ -262,10 +277,10 @@ module _ (n : ℕ) (P : List ℕ) where
   -- all are laid, and few enough for a byte
   module _ (small : n ≤ 128) (v count : ℕ) (r : List ℕ) (g : Laid v count r) where
     pub laid-few : count ≤ n
-    laid-few = omega (arith, g .arranged .counted, g .full, begun-room n P small v (g .upto))
+    laid-few = omega (arith, g .arranged .counted, g .full, begun-room n (heldIn n P) (suc n) v (g .upto))
 
-    pub laid-all : n ≤ v → Arranged n (begun n P n) count r
-    laid-all l = subst (λ x. Arranged n (begun n P x) count r) (let e : v ≡ n = omega (arith, g .upto) in e) (g .arranged)
+    pub laid-all : n ≤ v → Arranged n (channelsIn n P n) count r
+    laid-all l = subst (λ x. Arranged n (channelsIn n P x) count r) (let e : v ≡ n = omega (arith, g .upto) in e) (g .arranged)
 
 -- ---- the answer
 
@@ -283,14 +298,20 @@ chained-short n table p r h e =
 
 -- the channels of the predecessors that the rule gives
 pub chained-all : (n : ℕ) (table p : List ℕ) (r : Channels) (m : ℕ) (P p₁ p′ : List ℕ) → m ≡ min n 128 → 4 * m ≤ length p
-    → P ≡ matching (leadsIn table) (min n 128) → Kept m p p₁
-    → (r .refusal ≡ 0) × Arranged m (begun m P m) (r .count) p′ × Kept m p₁ p′ → Chained n table p r p′
-unfolding planned
+    → Tabled (matching (has? 2 table) (min n 128)) P → Kept m p p₁
+    → (r .refusal ≡ 0) × Arranged m (channelsIn m P m) (r .count) p′ × Kept m p₁ p′ → Chained n table p r p′
+unfolding planned plannedTo matching
 chained-all n table p r m P p₁ p′ em h e g a = record {
   refused = λ _. a .0;
   short = λ l. absurd (omega arith);
   none = λ d. absurd (d (a .0));
-  arranged = λ _. subst (λ x. Arranged (min n 128) (begun (min n 128) x (min n 128)) (r .count) p′) e
-      (subst (λ x. Arranged x (begun x P x) (r .count) p′) em (a .1));
+  arranged = λ _.
+      let M : List Held = matching (has? 2 table) (min n 128) in
+      let low : (v q : ℕ) → predecessorOf M v ≡ some q → q < min n 128 =
+      λ v q z. asked-matching (has? 2 table) (min n 128) .sound v q z .0 in
+      subst (λ x. Arranged (min n 128) x (r .count) p′)
+      (begun-same (min n 128) (heldIn (min n 128) P) M (held-tabled (min n 128) M P (omega arith) e low) (suc (min n 128)) (min n 128)
+      (omega arith))
+      (subst (λ x. Arranged x (channelsIn x P x) (r .count) p′) em (a .1));
   kept = subst (λ x. Kept x p p′) em (kept-on m p p₁ g p′ (a .2));
 }

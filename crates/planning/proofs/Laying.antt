@@ -6,7 +6,7 @@ use Rattle.counting.proofs.Quads.{quad-same, quad-other}
 use Rattle.specification.specs.Channels.{times, channelFrom, channelOf, positionOf}
 use Rattle.matching.proofs.Lists.{channel-kept, position-kept, channel-new, position-new, channel-opened, position-opened}
 use Rattle.planning.specs.Arranged.{Arranged, Kept}
-use Rattle.planning.specs.Laid.{placed}
+use Rattle.planning.specs.Steps.{placed}
 
 -- ---- what two stores change
 
@@ -41,6 +41,9 @@ module _ (n : ℕ) where
   kept-same p = record { kept = λ k v l m. refl; past = λ k v l m. refl; long = refl }
 
   module _ (p p′ : List ℕ) (g : Kept n p p′) where
+    pub kept-wider : (m : ℕ) → n ≤ m → Kept m p p′
+    kept-wider m h = record { kept = g .kept; past = λ k v l i. g .past k v l (omega arith); long = g .long }
+
     pub kept-on : (s : List ℕ) → Kept n p′ s → Kept n p s
     kept-on s h = record {
       kept = λ k v l m. h .kept k v l m ∙ g .kept k v l m;

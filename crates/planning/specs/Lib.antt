@@ -1,3 +1,3 @@
 pub mod Arranged
-pub mod Laid
 pub mod Promise
+pub mod Steps

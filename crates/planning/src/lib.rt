@@ -3,9 +3,8 @@ ghost use mathlib.Core.Path.{_≡_};
 ghost use mathlib.Core.List.{[]};
 ghost use Prim.Native.Nat.{suc, _*_, _≤_, _<_, min, _/_};
 ghost use lib.ListN.{length};
-ghost use Rattle.specification.specs.Planning.{begun};
 ghost use Rattle.planning.specs.Arranged.{Arranged, Kept};
-ghost use Rattle.planning.specs.Laid.{Successors, followed, Ready, Behind};
+ghost use Rattle.planning.specs.Steps.{channelsIn, Successors, followed, Ready, Behind};
 ghost use Rattle.planning.specs.Promise.{Chained};
 
 // The most vertices, and what stands for no vertex.
@@ -36,7 +35,7 @@ pub fn empty(refusal: u8) -> Channels
 
 // Sets channel and position of the first n vertices to 0, or of as many as the list has room for: gives how many.
 pub fn unplace(n: usize, places: &mut [u8]) -> usize
-    ensures { λ r. ⌜ (r ≡ min n (length (now (places .entry)) / 4)) × Arranged r [] 0 (now (places .exit)) × Kept n (now (places .entry)) (now (places .exit)) ⌝ }
+    ensures { λ r. ⌜ (r ≡ min n (length (now (places .entry)) / 4)) × Arranged r [] 0 (now (places .exit)) × Kept r (now (places .entry)) (now (places .exit)) ⌝ }
 {
     let room = places.len() / 4;
     let mut v: usize = 0;
@@ -87,7 +86,7 @@ fn with_chain(places: &mut [u8], successor: &[u8], n: usize, count: usize, v: us
 // The channels that the predecessors make, by first vertex, ascending, where no vertex has one yet.
 fn chains(predecessor: &[u8], n: usize, places: &mut [u8]) -> Channels
     requires { ⌜ (n ≤ 128) × (length (now predecessor) ≡ 128) × (4 * n ≤ length (now places)) × Arranged n [] 0 (now places) ⌝ }
-    ensures { λ r. ⌜ (r .refusal ≡ 0) × Arranged n (begun n (now (predecessor .entry)) n) (r .count) (now (places .exit)) × Kept n (now (places .entry)) (now (places .exit)) ⌝ }
+    ensures { λ r. ⌜ (r .refusal ≡ 0) × Arranged n (channelsIn n (now (predecessor .entry)) n) (r .count) (now (places .exit)) × Kept n (now (places .entry)) (now (places .exit)) ⌝ }
 {
     let successor = successors(predecessor, n);
     let mut count: usize = 0;

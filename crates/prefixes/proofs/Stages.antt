@@ -6,9 +6,11 @@ use lib.Bits.{bitOr}
 use lib.Seq.{set-out}
 use Rattle.counting.proofs.Truth.{lt-or-le}
 use Rattle.specification.specs.Sets.{at, inserted, United}
-use Rattle.masks.proofs.Sets.{united-none, united-more, inserted-length}
+use Rattle.masks.proofs.Sets.{united-none, united-more}
 use Rattle.masks.proofs.Tables.{at-lt, at-zeros, put-law, Absorbed, absorbed-law, Row, pair-row, row-member}
-use Rattle.prefixes.specs.Prefixes.{Prefixes, Stage}
+use Rattle.masks.proofs.Members.{length-inserted}
+use Rattle.prefixes.specs.Prefixes.{Prefixes}
+use Rattle.prefixes.specs.Steps.{Stage}
 
 inserted-out : (s : List ℕ) (first v : ℕ) → length s ≤ first + v / 64 → inserted s first v ≡ s
 unfolding inserted
@@ -26,7 +28,7 @@ module _ (w : ℕ) (key : ℕ → ℕ) (top : ℕ) where
   -- one vertex more
   stage-put : (n : ℕ) (s : List ℕ) → n < w * 64 → Stage w n key top 0 s → Stage w (n + 1) key top 0 (inserted s (w * (key n + 1)) n)
   stage-put n s hn g = record {
-    room = rw (inserted-length s (w * u) n) (g .room);
+    room = rw (length-inserted s (w * u) n) (g .room);
     here = λ k v l lv lt e. put-here k v l lv lt e (ℕ-discrete v n);
     has = λ k v l lv lt e z. absurd (omega arith);
     only = λ k v l lv e. put-only k v l lv e (ℕ-discrete v n) (ℕ-discrete k u);

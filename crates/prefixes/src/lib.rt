@@ -3,7 +3,8 @@ ghost use mathlib.Core.Path.{_≡_};
 ghost use Prim.Native.Nat.{ℕ, _/_, _≤_, _<_, min};
 ghost use lib.ListN.{length, replicate};
 ghost use Rattle.counting.specs.Quads.{quad};
-ghost use Rattle.prefixes.specs.Prefixes.{lastSet, Prefixes, Stage};
+ghost use Rattle.prefixes.specs.Prefixes.{lastSet, Prefixes};
+ghost use Rattle.prefixes.specs.Steps.{Stage};
 
 // A byte as a usize.
 fn wide(x: u8) -> usize

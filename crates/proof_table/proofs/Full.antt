@@ -2,7 +2,7 @@
 use Rattle.counting.proofs.Prelude.{_≡_, refl, ap, _∙_, true, false, _&&_, List, _∷_, ℕ, zero, suc, _+_, _*_, _/_, _%_, _≤_, _<_, arith, eqb, leb, length, getD, take, drop, eqb-true, lt-leb}
 use lib.Seq.{take-length}
 use Rattle.specification.specs.Count.{some}
-use Rattle.specification.specs.Graph.{Reaches, one, more, edgeCount, Edge, outsized?, strange?, reachable?, alternate, tailsOf, headsOf, alike?, duplicate?}
+use Rattle.specification.specs.Graph.{Reaches, one, more, edgeCount, Edge, outsized?, strange?, reachable?, alternate, tailsOf, headsOf, alike?, duplicate?, unsized?}
 use Rattle.specification.specs.declared.Fields.{Fields}
 use Rattle.specification.specs.declared.Layout.the-variants.{Good}
 use Rattle.specification.specs.Layout.{sizeAt, fieldAt, afterEdges, withEdges, withVertices, layoutOf}
@@ -100,7 +100,7 @@ no-loop : (u : ℕ) → reachable? 128 tails heads u u ≡ false
 no-loop u = not-true (reachable? 128 tails heads u u) (λ e. let a = up (reachable-decided 128 tails heads u u .1 e .1) in omega arith)
 
 size : size? full ≡ false
-unfolding size? outsized? full
+unfolding size? outsized? unsized? full
 size = rw edges
 
 stranger : stranger? full ≡ false

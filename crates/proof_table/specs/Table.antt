@@ -3,6 +3,7 @@ use mathlib.Core.Path.{_≡_}
 use mathlib.Core.Bool.{false}
 use mathlib.Core.List.{List, [], _∷_}
 use Prim.Native.Nat.{ℕ, zero, suc, _+_, _/_, _%_}
+use Rattle.specification.specs.Limits.{mostVertices, mostEdges}
 use Rattle.specification.specs.Checks.{Content, content, edgesOf}
 use Rattle.specification.specs.Table.{Says}
 
@@ -19,7 +20,7 @@ abbrev pub fullHead : ℕ → ℕ
 fullHead i = 64 + i % 64
 
 unfoldable pub full : Content
-full = content 128 (values fullTail 4096 0) (values fullHead 4096 0) false []
+full = content mostVertices (values fullTail mostEdges 0) (values fullHead mostEdges 0) false []
 
 -- f i, g i, f (i + 1), g (i + 1) and so on, n of each
 unfoldable pub pairs : (ℕ → ℕ) → (ℕ → ℕ) → ℕ → ℕ → List ℕ
@@ -28,8 +29,8 @@ pairs f g (suc n) i = f i ∷ g i ∷ pairs f g n (suc i)
 
 -- 128 vertices and 4,096 edges, which are 8,192 bytes
 unfoldable pub fullRecord : List ℕ
-fullRecord = 1 ∷ 0 ∷ 1 ∷ 128 ∷ 2 ∷ 32 ∷ 0 ∷ pairs fullTail fullHead 4096 0
+fullRecord = 1 ∷ 0 ∷ 1 ∷ 128 ∷ 2 ∷ 32 ∷ 0 ∷ pairs fullTail fullHead mostEdges 0
 
 -- it passes
 pub record Largest : Type 0 where
-  pub most : (full .vertices ≡ 128) × (edgesOf full ≡ 4096) × Says fullRecord full
+  pub most : (full .vertices ≡ mostVertices) × (edgesOf full ≡ mostEdges) × Says fullRecord full

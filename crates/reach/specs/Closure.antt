@@ -2,7 +2,8 @@
 use mathlib.Core.Path.{_≡_}
 use mathlib.Core.Logic.{_↔_}
 use mathlib.Core.List.{List}
-use Prim.Native.Nat.{ℕ, _<_}
+use Prim.Native.Nat.{ℕ, _<_, _*_}
+use Rattle.specification.specs.Limits.{mostVertices}
 use Rattle.specification.specs.Count.{count}
 use Rattle.specification.specs.Sets.{at}
 use Rattle.specification.specs.Graph.{Reachable, Adjacent, reachable?}
@@ -16,10 +17,11 @@ pub record Reachability : Type 0 where
 -- r is the graph's reachability: a table of its edges and one of what reaches what (SPECIFICATION.md, 2.2), two masks a vertex each, and
 -- the number of descendants of each vertex. A mask past a table's end counts as 0
 pub record Closure (n : ℕ) (tails heads : List ℕ) (r : Reachability) : Type 0 where
-  pub edge-bits : (u v : ℕ) → u < 128 → v < 128 → at 2 (r .edges) u v ≡ 1 ↔ Adjacent n tails heads u v
-  pub bits : (u v : ℕ) → u < 128 → v < 128 → at 2 (r .table) u v ≡ 1 ↔ Reachable n tails heads u v
-  pub counted : (u : ℕ) → u < n → r .counts u ≡ count 128 (reachable? n tails heads u)
+  pub edge-bits : (u v : ℕ) → u < mostVertices → v < mostVertices → at 2 (r .edges) u v ≡ 1 ↔ Adjacent n tails heads u v
+  pub bits : (u v : ℕ) → u < mostVertices → v < mostVertices → at 2 (r .table) u v ≡ 1 ↔ Reachable n tails heads u v
+  pub counted : (u : ℕ) → u < n → r .counts u ≡ count mostVertices (reachable? n tails heads u)
 
--- r is the table t followed by itself: v is in the set of u exactly when some w is in the set of u, and v in that of w
-pub record Composed (t r : List ℕ) : Type 0 where
-  pub bits : (u v : ℕ) → u < 128 → v < 128 → at 2 r u v ≡ 1 ↔ ((w : ℕ) × (w < 128) × (at 2 t u w ≡ 1) × (at 2 t w v ≡ 1))
+-- r is the table t, of w masks a vertex, followed by itself: v is in the set of u exactly when some x is in the set of u, and v in that
+-- of x
+pub record Composed (w : ℕ) (t r : List ℕ) : Type 0 where
+  pub bits : (u v : ℕ) → u < w * 64 → v < w * 64 → at w r u v ≡ 1 ↔ ((x : ℕ) × (x < w * 64) × (at w t u x ≡ 1) × (at w t x v ≡ 1))

@@ -1,7 +1,8 @@
 -- What the checks of a graph hand over, by what the layers below promise. Assumes nothing.
 use Rattle.counting.proofs.Prelude.{_≡_, refl, sym, ap, _∙_, subst, _≢_, Bool, true, false, _&&_, List, ℕ, zero, suc, _*_, _≤_, _<_, min, arith, leb, length}
+use Rattle.counting.proofs.Sizes.{size-taken, sized}
 use Rattle.specification.specs.Count.{choose}
-use Rattle.specification.specs.Graph.{outsized?, verdict, reachable?, tailsOf, headsOf}
+use Rattle.specification.specs.Graph.{outsized?, verdict, reachable?, tailsOf, headsOf, unsized?}
 use Rattle.specification.specs.Channels.{verticesOf, unknown?}
 use Rattle.specification.specs.Checks.{content, refusalOf}
 use Rattle.specification.specs.Graph as edges
@@ -10,18 +11,17 @@ use Rattle.reach.proofs.Refusing.{accepted-within}
 use Rattle.reach.proofs.Closures.{same-test}
 use Rattle.descent.specs.Promise.{Sized, edgesRefusal, Descended, Descends}
 use Rattle.descent.specs.declared.Descent.{Descent}
-use Rattle.search.specs.Table.{leadsIn}
+use Rattle.specification.specs.Sets.{has?}
 use Rattle.channels.specs.Promise as planner
 use Rattle.channels.specs.Promise.{Answers}
 use Rattle.planning.specs.declared.Channels.{Channels}
-use Rattle.channels.proofs.Answers.{sized, plan-taken}
 use Rattle.record.specs.declared.checks.Checked.{Checked}
 use Rattle.record.specs.Checked.{uncheckedBy, channelsRefusal, channelsBy, Checks}
 use Rattle.record.proofs.Judging.{refused-edges, edges-accepted, bare-refusal, given-refusal, first-high}
 
 -- a graph of no vertex is refused
 nonempty : (n : ℕ) (tails heads : List ℕ) → edges.refusal n tails heads ≡ 0 → n ≢ 0
-unfolding edges.refusal verdict outsized?
+unfolding edges.refusal verdict outsized? unsized?
 nonempty zero tails heads e z = let q : _≡_ {A = ℕ} 2 0 = e in absurd (omega arith)
 nonempty (suc n) tails heads e z = absurd (omega arith)
 
@@ -72,12 +72,11 @@ module _ (n : ℕ) (ends : List ℕ) (given : Bool) (field e b t l p : List ℕ)
       small : n ≤ 128
       small = accepted-within n tails heads accepted .1
 
-      of-size : planner.outsized? n ≡ false
+      of-size : unsized? n ≡ false
       of-size = sized n (nonempty n tails heads accepted) small
 
-      table-same : (u v : ℕ) → u < n → v < n → leadsIn t′ u v ≡ reachable? n tails heads u v
-      unfolding leadsIn
-      table-same u v hu hv = same-test n tails heads t′ (promised .made passed .closure .bits) u v (let k = small in omega arith) (let k = small in omega arith)
+      table-same : (u v : ℕ) → u < n → v < n → has? 2 t′ u v ≡ reachable? n tails heads u v
+      table-same u v hu hv = same-test 2 n tails heads t′ (promised .made passed .closure .bits) u v (let k = small in omega arith) (let k = small in omega arith)
 
     module _ (ch : Channels) (p′ : List ℕ)
         (lined : Answers n (channelsRefusal n t′ given field) (channelsBy n t′ given field) p₁ ch p′) where
@@ -85,17 +84,17 @@ module _ (n : ℕ) (ends : List ℕ) (given : Bool) (field e b t l p : List ℕ)
       room s = omega (arith, promised .long .4, s .places)
 
       answered : (g : Bool) → given ≡ g → Sized n e b t l p → channelsRefusal n t′ g field ≡ refusalOf (content n tails heads g field)
-      answered true h s = given-refusal n tails heads field (sound s) (leadsIn t′) (table-same s) (of-size s)
-      answered false h s = plan-taken n (of-size s) ∙ sym (bare-refusal n tails heads field (sound s))
+      answered true h s = given-refusal n tails heads field (sound s) (has? 2 t′) (table-same s) (of-size s)
+      answered false h s = size-taken n (of-size s) ∙ sym (bare-refusal n tails heads field (sound s))
 
       same-answer : Sized n e b t l p → ch .refusal ≡ answer
       same-answer s = lined .refused (room s) ∙ answered given refl s
 
       past : (k v : ℕ) → k < 4 → n ≤ v → quad k p′ v ≡ quad k p v
-      past k v h hv = lined .past k v h hv ∙ promised .past k v h hv
+      past k v h hv = lined .kept .past k v h hv ∙ promised .past k v h hv
 
       long : (length e′ ≡ length e) × (length b′ ≡ length b) × (length t′ ≡ length t) × (length l′ ≡ length l) × (length p′ ≡ length p)
-      long = let k = promised .long in (k .0, k .1, k .2, k .3, lined .long ∙ k .4)
+      long = let k = promised .long in (k .0, k .1, k .2, k .3, lined .kept .long ∙ k .4)
 
       -- the given channels are refused
       pub channels-fail : (r : Checked) → ch .refusal ≢ 0 → r ≡ uncheckedBy (ch .refusal) → Checks n ends given field e b t l p r e′ b′ t′ l′ p′
@@ -118,10 +117,10 @@ module _ (n : ℕ) (ends : List ℕ) (given : Bool) (field e b t l p : List ℕ)
             closure = record {
               edge-bits = m .closure .edge-bits;
               bits = m .closure .bits;
-              counted = λ u h. lined .kept 3 u (omega arith) (omega arith) ∙ m .closure .counted u h;
+              counted = λ u h. lined .kept .kept 3 u (omega arith) (omega arith) ∙ m .closure .counted u h;
             };
             longer = m .longer;
-            rows = λ v h. lined .kept 2 v (omega arith) (omega arith) ∙ m .rows v h;
+            rows = λ v h. lined .kept .kept 2 v (omega arith) (omega arith) ∙ m .rows v h;
             used = m .used;
             below = m .below;
           }

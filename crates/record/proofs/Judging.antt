@@ -1,12 +1,11 @@
 -- The checks one after the other: by the refusal of the edges alone, and then by the given channels. Assumes nothing.
 use Rattle.counting.proofs.Prelude.{_≡_, refl, sym, ap, _∙_, _≢_, Bool, true, false, _&&_, _||_, List, ℕ, _≤_, _<_, arith, eqb, leb, le-leb, lt-leb}
 use Rattle.specification.specs.Count.{choose, some}
-use Rattle.specification.specs.Graph.{edgeCount, outsized?, strange?, verdict, reachable?, duplicate?}
+use Rattle.specification.specs.Graph.{edgeCount, outsized?, strange?, verdict, reachable?, duplicate?, unsized?}
 use Rattle.specification.specs.Channels.{linesOf, verticesOf, unknown?, repeats?, lacks?, broken?}
 use Rattle.specification.specs.Checks.{Content, content, size?, stranger?, double?, ring?, repeated?, lacking?, unled?, looseChecks, laterChecks, firstOf, refusalOf}
 use Rattle.specification.specs.Graph as edges
 use Rattle.descent.specs.Promise.{edgesRefusal}
-use Rattle.channels.specs.Promise as planner
 use Rattle.channels.specs.Promise.{givenRefusal}
 use Rattle.channels.proofs.Agreeing.{given-same}
 
@@ -104,7 +103,7 @@ module _ (n : ℕ) (tails heads : List ℕ) (field : List ℕ) (passes : edgesRe
   bare-refusal = passed-edges n tails heads false field passes
 
   -- channels are given, and checked by a relation that says what the graph says
-  pub given-refusal : (leads : ℕ → ℕ → Bool) → ((u v : ℕ) → u < n → v < n → leads u v ≡ reachable? n tails heads u v) → planner.outsized? n ≡ false
+  pub given-refusal : (leads : ℕ → ℕ → Bool) → ((u v : ℕ) → u < n → v < n → leads u v ≡ reachable? n tails heads u v) → unsized? n ≡ false
       → givenRefusal leads n field ≡ refusalOf (content n tails heads true field)
   unfolding givenRefusal
   given-refusal leads same small =

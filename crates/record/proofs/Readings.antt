@@ -2,7 +2,7 @@
 use Rattle.counting.proofs.Prelude.{_≡_, refl, sym, ap, ap₂, _∙_, subst, _≢_, _↔_, Bool, List, [], ℕ, _+_, _-_, _*_, _<_, arith, length, take, drop, eq-eqb, ne-eqb}
 use Rattle.specification.specs.Count.{choose}
 use Rattle.specification.specs.Sets.{at}
-use Rattle.specification.specs.Graph.{tailsOf, headsOf, refusal, verdict, outsized?, Reachable}
+use Rattle.specification.specs.Graph.{tailsOf, headsOf, refusal, verdict, outsized?, Reachable, unsized?}
 use Rattle.specification.specs.declared.Fields.{Fields}
 use Rattle.specification.specs.declared.Layout.the-variants.{Good, Bad}
 use Rattle.specification.specs.Layout.{layoutOf}
@@ -40,7 +40,7 @@ parts-content b f =
 
 -- nothing is reachable in nothing
 none-reached : (u v : ℕ) → Reachable 0 [] [] u v → ⊥
-unfolding refusal verdict outsized?
+unfolding refusal verdict outsized? unsized?
 none-reached u v r = let z : _≡_ {A = ℕ} 2 0 = r .0 in omega arith
 
 pub unread-reads : (b : List ℕ) (k : ℕ) (r : Reading) → recordRefusal b ≡ k → k ≢ 0 → r ≡ unreadBy k → Reads b r

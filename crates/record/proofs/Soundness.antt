@@ -1,5 +1,5 @@
 -- The sound records are accepted, and no others. Assumes nothing.
-use Rattle.counting.proofs.Prelude.{_≡_, refl, sym, ap, _∙_, subst, _↔_, _⊎_, ⊎-elim, _≢_, Bool, true, false, true≢false, not, _&&_, _||_, List, [], _∷_, ℕ, zero, suc, _≤_, _<_, arith, eqb, leb, ltb, length, getD, eq-eqb, ne-eqb, eqb-true, eqb-false, le-ltb, lt-leb, leb-false, ltb-false}
+use Rattle.counting.proofs.Prelude.{_≡_, refl, sym, ap, _∙_, subst, _↔_, _⊎_, ⊎-elim, _≢_, Bool, true, false, true≢false, not, _&&_, List, [], _∷_, ℕ, zero, suc, _≤_, _<_, arith, eqb, leb, length, getD, eq-eqb, eqb-true, le-ltb, lt-leb, leb-false}
 use Rattle.specification.specs.Count.{choose, some}
 use Rattle.specification.specs.Channels.{times, linked, every, allLinked, linesOf, verticesOf, unknown?, broken?}
 use Rattle.specification.specs.Graph.{Edge, outsized?, strange?, verdict, refusal, reachable?, alike?, duplicate?}
@@ -16,6 +16,7 @@ use Rattle.reach.proofs.Routes.{begins-below}
 use Rattle.channels.proofs.Checks.{unknown-within, repeats-once, once-repeats, lacks-has, has-lacks, broken-linked}
 use Rattle.record.specs.declared.reading.Reading.{Reading}
 use Rattle.record.specs.Reading.{Reads}
+use Rattle.counting.proofs.Sizes.{sized, outsized-back}
 
 -- ---- none of a list of tests fails
 
@@ -64,17 +65,9 @@ passes-accepted c p = rw (p .size, p .stranger, p .double, p .ring, p .repeated,
 -- ---- what each test says
 
 module _ (n m : ℕ) where
-  sized : outsized? n m ≡ false → (0 < n) × (n ≤ 128) × (m ≤ 4096)
-  unfolding outsized?
-  sized e =
-      let p = or-neither (eqb n 0 || ltb 128 n) (ltb 4096 m) e in
-      let q = or-neither (eqb n 0) (ltb 128 n) (p .0) in
-      let z = eqb-false n 0 (q .0) in
-      (⊎-elim (λ h. h) (λ h. absurd (z (omega arith))) (lt-or-le 0 n), ltb-false 128 n (q .1), ltb-false 4096 m (p .1))
-
   of-size : (0 < n) × (n ≤ 128) × (m ≤ 4096) → outsized? n m ≡ false
   unfolding outsized?
-  of-size h = neither _ _ (neither _ _ (ne-eqb n 0 (λ z. let l = h .0 in omega arith)) (le-ltb 128 n (h .1))) (le-ltb 4096 m (h .2))
+  of-size h = neither _ _ (sized n (λ z. let l = h .0 in omega arith) (h .1)) (le-ltb 4096 m (h .2))
 
 within-unknown : (n : ℕ) (l : List ℕ) → ((v : ℕ) → n ≤ v → times v l ≡ 0) → unknown? n l ≡ false
 unfolding unknown?
@@ -170,7 +163,7 @@ module _ (c : Content) where
   accepted-sound e =
       let p = accepted-passes c e in
       let s = or-neither (some m (strange? n (c .tails) (c .heads))) (c .given && unknown? n (verticesOf (c .field))) (p .stranger) in
-      let z = sized n m (p .size) in
+      let z = outsized-back n m (p .size) in
       let small : n ≤ 128 = z .1 in
       let accepted = graph-accepted (p .size) (s .0) in record {
         size = z;

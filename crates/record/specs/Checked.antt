@@ -7,15 +7,16 @@ use Prim.Native.Nat.{ℕ, _≤_, _<_}
 use lib.ListN.{length}
 use Rattle.specification.specs.Count.{choose}
 use Rattle.counting.specs.Quads.{quad}
-use Rattle.specification.specs.Graph.{tailsOf, headsOf}
+use Rattle.specification.specs.Graph.{tailsOf, headsOf, sizeRefusal}
 use Rattle.descent.specs.Promise.{Sized, Descended}
 use Rattle.specification.specs.Planning.{planned}
-use Rattle.search.specs.Table.{leadsIn}
+use Rattle.specification.specs.Sets.{has?}
 use Rattle.specification.specs.Channels.{linesOf}
-use Rattle.channels.specs.Promise.{planRefusal, givenRefusal}
+use Rattle.channels.specs.Promise.{givenRefusal}
 use Rattle.planning.specs.Arranged.{Arranged}
 use Rattle.record.specs.declared.checks.Checked.{Checked}
 use Rattle.specification.specs.Checks.{content, refusalOf}
+use Rattle.specification.specs.Lent.{Untouched}
 
 -- a refusal with no count
 abbrev pub uncheckedBy : ℕ → Checked
@@ -24,10 +25,10 @@ uncheckedBy k = record { refusal = k; used = 0; channels = 0 }
 -- ---- the channels: the given ones, or those planned by the table t
 
 abbrev pub channelsRefusal : ℕ → List ℕ → Bool → List ℕ → ℕ
-channelsRefusal n t given field = choose given (λ _. givenRefusal (leadsIn t) n field) (λ _. planRefusal n)
+channelsRefusal n t given field = choose given (λ _. givenRefusal (has? 2 t) n field) (λ _. sizeRefusal n)
 
 abbrev pub channelsBy : ℕ → List ℕ → Bool → List ℕ → List (List ℕ)
-channelsBy n t given field = choose given (λ _. linesOf field) (λ _. planned (leadsIn t) n)
+channelsBy n t given field = choose given (λ _. linesOf field) (λ _. planned (has? 2 t) n)
 
 -- ---- the whole
 
@@ -41,7 +42,8 @@ pub record Passes (n : ℕ) (ends : List ℕ) (given : Bool) (field : List ℕ) 
 -- vertices stay
 pub record Checks (n : ℕ) (ends : List ℕ) (given : Bool) (field e b t l p : List ℕ) (r : Checked) (e′ b′ t′ l′ p′ : List ℕ) : Type 0 where
   pub answer : Sized n e b t l p → r .refusal ≡ refusalOf (content n (tailsOf ends) (headsOf ends) given field)
-  pub short : (Sized n e b t l p → ⊥) → (r .refusal ≡ 8) × (e′ ≡ e) × (b′ ≡ b) × (t′ ≡ t) × (l′ ≡ l) × (p′ ≡ p)
+  pub short : (Sized n e b t l p → ⊥)
+      → (r .refusal ≡ 8) × Untouched e e′ × Untouched b b′ × Untouched t t′ × Untouched l l′ × Untouched p p′
   pub none : r .refusal ≢ 0 → r ≡ uncheckedBy (r .refusal)
   pub passes : r .refusal ≡ 0 → Passes n ends given field r e′ b′ t′ l′ p′
   pub past : (k v : ℕ) → k < 4 → n ≤ v → quad k p′ v ≡ quad k p v

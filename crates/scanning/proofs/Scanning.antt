@@ -1,5 +1,5 @@
 -- The pass over the edges' bytes, one edge after the other. Assumes nothing.
-use Rattle.counting.proofs.Prelude.{_≡_, refl, sym, ap, ap₂, _∙_, subst, _⊎_, ⊎-elim, Bool, true, false, true≢false, _||_, List, ℕ, _+_, _*_, _/_, _%_, _≤_, _<_, min, arith, eqb, leb, ltb, length, getD, eqb-true, eqb-false, ltb-false, le-leb, lt-leb}
+use Rattle.counting.proofs.Prelude.{_≡_, refl, sym, ap, ap₂, _∙_, subst, _⊎_, ⊎-elim, Bool, true, false, true≢false, _||_, List, ℕ, _+_, _*_, _/_, _%_, _≤_, _<_, min, arith, eqb, leb, length, getD, eqb-true, eqb-false, le-leb, lt-leb}
 use native.Mathlib.Nat.{not-suc-le-zero, lt-of-lt-of-le}
 use native.Mathlib.Numerals.{add-one}
 use borrow.Author.Count.{below-more}
@@ -7,7 +7,7 @@ use lib.Seq.{getD-set-other}
 use Rattle.specification.specs.Count.{choose, some}
 use Rattle.specification.specs.Sets.{bit, at, member, member?, inserted}
 use Rattle.specification.specs.Graph.{edgeCount, Edge, outsized?, strange?, tailsOf, headsOf, alike?, duplicate?}
-use Rattle.counting.proofs.Truth.{or-left, or-right, or-neither}
+use Rattle.counting.proofs.Truth.{or-left, or-right}
 use Rattle.counting.proofs.Choosing.{choose-yes, choose-no}
 use Rattle.counting.proofs.Somes.{some-found, some-none}
 use Rattle.masks.proofs.Bits.{bit-of-zero}
@@ -17,14 +17,6 @@ use Rattle.reach.proofs.Marking.{marked-more}
 use Rattle.reach.proofs.Ends.{tail-at, head-at, ends-counted}
 use Rattle.scanning.specs.Scanned.{Blank, endsRefusal, Scanned, Scans}
 use Rattle.scanning.proofs.Duplicates.{seen-before, not-seen}
-
--- a number of vertices that is not refused
-pub outsized-positive : (n m : ℕ) → outsized? n m ≡ false → (0 < n) × (n ≤ 128)
-unfolding outsized?
-outsized-positive n m e =
-    let p = or-neither (eqb n 0) (ltb 128 n) (or-neither (eqb n 0 || ltb 128 n) (ltb 4096 m) e .0) in
-    let z = eqb-false n 0 (p .0) in
-    (omega arith, ltb-false 128 n (p .1))
 
 more-edges : (tails heads : List ℕ) (i : ℕ)
     → duplicate? (i + 1) tails heads ≡ (duplicate? i tails heads || some i (alike? tails heads i))

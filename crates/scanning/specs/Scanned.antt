@@ -5,9 +5,11 @@ use mathlib.Core.Bool.{true, false}
 use mathlib.Core.List.{List}
 use Prim.Native.Nat.{ℕ, _*_, _≤_, _<_, min}
 use lib.ListN.{length, getD}
+use Rattle.specification.specs.Limits.{mostVertices}
 use Rattle.specification.specs.Count.{choose, some}
 use Rattle.specification.specs.Sets.{at}
 use Rattle.specification.specs.Graph.{edgeCount, Edge, outsized?, strange?, tailsOf, headsOf, duplicate?}
+use Rattle.specification.specs.Lent.{Untouched}
 
 -- masks with no bit set
 pub record Blank (t : List ℕ) : Type 0 where
@@ -23,13 +25,13 @@ endsRefusal n tails heads =
 -- past those of n vertices are 0. After 3 what t holds is left free
 pub record Scanned (n : ℕ) (ends t : List ℕ) (r : ℕ) : Type 0 where
   pub answer : r ≡ endsRefusal n (tailsOf ends) (headsOf ends)
-  pub bits : r ≢ 3 → (u v : ℕ) → u < 128 → v < 128 → at 2 t u v ≡ 1 ↔ Edge (tailsOf ends) (headsOf ends) u v
+  pub bits : r ≢ 3 → (u v : ℕ) → u < mostVertices → v < mostVertices → at 2 t u v ≡ 1 ↔ Edge (tailsOf ends) (headsOf ends) u v
   pub others : r ≢ 3 → (i : ℕ) → 2 * n ≤ i → getD t i 0 ≡ 0
 
 -- n vertices and edges of bytes, checked: r is 8 where the table e lacks room, else 2 where they are too few or too many, and nothing
 -- changed; else it is 3, 4 or 0, and e′ is the table after it. What e′ holds after 3 is left free
 pub record Scans (n : ℕ) (ends e : List ℕ) (r : ℕ) (e′ : List ℕ) : Type 0 where
-  pub short : length e < 2 * min n 128 → (r ≡ 8) × (e′ ≡ e)
-  pub outsized : 2 * min n 128 ≤ length e → outsized? n (edgeCount (tailsOf ends) (headsOf ends)) ≡ true → (r ≡ 2) × (e′ ≡ e)
-  pub checked : 2 * min n 128 ≤ length e → outsized? n (edgeCount (tailsOf ends) (headsOf ends)) ≡ false → Scanned n ends e′ r
+  pub short : length e < 2 * min n mostVertices → (r ≡ 8) × Untouched e e′
+  pub outsized : 2 * min n mostVertices ≤ length e → outsized? n (edgeCount (tailsOf ends) (headsOf ends)) ≡ true → (r ≡ 2) × Untouched e e′
+  pub checked : 2 * min n mostVertices ≤ length e → outsized? n (edgeCount (tailsOf ends) (headsOf ends)) ≡ false → Scanned n ends e′ r
   pub long : length e′ ≡ length e

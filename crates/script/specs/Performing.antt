@@ -6,7 +6,8 @@ use Prim.Native.Nat.{ℕ}
 use Rattle.editing.specs.declared.Session.{Session}
 use Rattle.editing.specs.declared.Changed.{Changed}
 use Rattle.editing.specs.declared.Reply.{Reply}
-use Rattle.specification.specs.Machine.{Graph, Call, Answer, Turn, step, startRefusal, fresh}
+use Rattle.specification.specs.Machine.{Graph, Call, Answer, Turn, step, fresh}
+use Rattle.specification.specs.Graph.{sizeRefusal}
 use Rattle.editing.specs.Promise.{Represents, changeAnswer, replyAnswer, StartPromise, AddPromise, LeadsPromise}
 use Rattle.script.specs.declared.Command.{Command}
 use Rattle.script.specs.declared.Outcome.{Outcome}
@@ -31,7 +32,7 @@ answered t = record { graph = t .graph; outcome = outcomeOf (t .answer) }
 
 -- `words` starts afresh; a line that is no order changes nothing
 unfoldable pub obey : Graph → Order → Obeyed
-obey g (Order.words n) = record { graph = fresh n; outcome = outcomeOf (changeAnswer (startRefusal n)) }
+obey g (Order.words n) = record { graph = fresh n; outcome = outcomeOf (changeAnswer (sizeRefusal n)) }
 obey g (Order.add u v) = answered (step g (Call.add u v))
 obey g (Order.leads u v) = answered (step g (Call.leads u v))
 obey g Order.unreadable = record { graph = g; outcome = Outcome.Unreadable }

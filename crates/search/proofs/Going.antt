@@ -3,13 +3,10 @@ use Rattle.counting.proofs.Prelude.{_≡_, refl, sym, ap, _∙_, _≢_, ⊎-eli
 use native.Mathlib.Nat.{not-suc-le-zero, add-suc, add-zero}
 use native.Mathlib.Decide.{decLt, ℕ-discrete}
 use Rattle.counting.proofs.Truth.{lt-or-le}
-use Rattle.specification.specs.Sets.{member?, inserted}
-use Rattle.masks.proofs.Members.{length-inserted}
-use Rattle.specification.specs.Planning.{State, nobody, seen, unvisited, scan, augment, candidate, predecessorOf, marked, taken, missed}
-use Rattle.matching.proofs.Scan.{scan-end, scan-pass, scan-free, scan-moved, scan-stuck, candidate-fact}
-use Rattle.matching.proofs.Kept.{Sized, marked-fewer, marked-seen, marked-mono, kept-augment}
-use Rattle.search.specs.Table.{leadsIn}
-use Rattle.search.specs.Search.{state, open?, NextOpen, Augments}
+use Rattle.specification.specs.Sets.{member?, inserted, has?}
+use Rattle.search.specs.Steps.Coded.{State, nobody, seen, unvisited, scan, augment, candidate, predecessorOf, marked, taken, missed}
+use Rattle.search.specs.Steps.Search.{state, open?, NextOpen, Augments}
+use Rattle.search.proofs.Steps.{scan-end, scan-pass, scan-free, scan-moved, scan-stuck, candidate-fact, marked-seen, marked-mono, marked-fewer}
 
 -- vertices that are no candidates are passed over
 module _ (leads : ℕ → ℕ → Bool) (n : ℕ) (again : ℕ → State → State) (h : ℕ) (s : State) where
@@ -47,11 +44,12 @@ pub record Going (table : List ℕ) (n h : ℕ) (P₀ T₀ P T : List ℕ) (v : 
   pub long-p : length P ≡ 128
   pub long-v : length T ≡ 2
   pub fewer : unvisited n (state P T false) ≤ unvisited n (state P₀ T₀ false)
+  pub mono : (u : ℕ) → member? T₀ 0 u ≡ true → member? T 0 u ≡ true
   -- nothing below v is left to try
   pub passed : (u : ℕ) → u < v → open? table h T u ≡ false
-  pub next : v < n → candidate (leadsIn table) h v (state P T false) ≡ true
+  pub next : v < n → candidate (has? 2 table) h v (state P T false) ≡ true
   pub on : (k : ℕ) → unvisited n (state P₀ T₀ false) < suc k
-      → augment (leadsIn table) n (suc k) h (state P₀ T₀ false) ≡ scan (leadsIn table) n (augment (leadsIn table) n k) h (n - v) v (state P T false)
+      → augment (has? 2 table) n (suc k) h (state P₀ T₀ false) ≡ scan (has? 2 table) n (augment (has? 2 table) n k) h (n - v) v (state P T false)
 
 -- a depth above a number is one more than some depth
 deep : (Q : ℕ → Type 0) (m : ℕ) → ((k : ℕ) → m < suc k → Q (suc k)) → (k : ℕ) → m < k → Q k
@@ -60,22 +58,24 @@ deep Q m f (suc k) l = f k l
 
 module _ (table : List ℕ) (n h : ℕ) where
   abbrev leads : ℕ → ℕ → Bool
-  leads = leadsIn table
+  leads = has? 2 table
 
   abbrev go : ℕ → ℕ → State → State
   go k = augment leads n k
 
   -- the next vertex to try, as the code found it
   going-to : {P₀ T₀ : List ℕ} (P T : List ℕ) (a r : ℕ) → n ≤ 128 → length P ≡ 128 → length T ≡ 2 → unvisited n (state P T false) ≤ unvisited n (state P₀ T₀ false)
-      → a ≤ 128 → ((u : ℕ) → u < a → open? table h T u ≡ false) → NextOpen table h T a r
+      → ((u : ℕ) → member? T₀ 0 u ≡ true → member? T 0 u ≡ true) → a ≤ 128 → ((u : ℕ) → u < a → open? table h T u ≡ false)
+      → NextOpen table h T a r
       → ((k : ℕ) → unvisited n (state P₀ T₀ false) < suc k → go (suc k) h (state P₀ T₀ false) ≡ scan leads n (go k) h (n - a) a (state P T false))
       → Going table n h P₀ T₀ P T r
   unfolding open? candidate seen
-  going-to {P₀} {T₀} P T a r few lp lv fw small below p on = record {
+  going-to {P₀} {T₀} P T a r few lp lv fw mono small below p on = record {
     few = few;
     long-p = lp;
     long-v = lv;
     fewer = fw;
+    mono = mono;
     passed = λ u l. ⊎-elim (λ m. below u m) (λ m. p .skipped u m l) (lt-or-le u a);
     next = λ l. p .found (omega arith) .1;
     on = λ k u. on k u ∙ scan-to leads n (go k) h (state P T false) a r (upto (decLt r 128)) (λ v m b. p .skipped v m b);
@@ -88,7 +88,7 @@ module _ (table : List ℕ) (n h : ℕ) where
   pub going-start : (P T : List ℕ) (r : ℕ) → n ≤ 128 → length P ≡ 128 → length T ≡ 2 → NextOpen table h T 0 r → Going table n h P T P T r
   unfolding augment
   going-start P T r few lp lv p =
-      going-to P T 0 r few lp lv (omega arith) (omega arith) (λ u l. absurd (not-suc-le-zero l)) p
+      going-to P T 0 r few lp lv (omega arith) (λ u e. e) (omega arith) (λ u l. absurd (not-suc-le-zero l)) p
       (λ k u. ap (λ j. scan leads n (go k) h j 0 (state P T false)) (let e : n ≡ n - 0 = omega arith in e))
 
   -- h leads to no vertex that is not visited: its search fails, and changes nothing
@@ -103,6 +103,7 @@ module _ (table : List ℕ) (n h : ℕ) where
             ∙ ap (λ j. scan leads n (go k) h j n s) (let e : n - n ≡ 0 = omega arith in e)
             ∙ scan-end leads n (go k) h 0 n s);
         fewer = omega arith;
+        mono = λ u e. e;
       }
 
   module _ {P₀ T₀ P T : List ℕ} {v : ℕ} (g : Going table n h P₀ T₀ P T v) where
@@ -113,11 +114,12 @@ module _ (table : List ℕ) (n h : ℕ) where
     s = state P T false
 
     pub gives-missed : n ≤ v → Augments leads n h s₀ s
-    unfolding missed
+    unfolding missed seen
     gives-missed l = record {
       same = deep (λ k. s ≡ go k h s₀) (unvisited n s₀) λ k u.
           sym (g .on k u ∙ ap (λ j. scan leads n (go k) h j v s) (let e : n - v ≡ 0 = omega arith in e) ∙ scan-end leads n (go k) h 0 v s);
       fewer = g .fewer;
+      mono = g .mono;
     }
 
     module _ (l : v < n) (T₁ : List ℕ) (m : T₁ ≡ inserted T 0 v) where
@@ -132,7 +134,16 @@ module _ (table : List ℕ) (n h : ℕ) where
       unfolding marked
       one-fewer =
           ap (λ x. unvisited n (state P x false) + 1) m
-          ∙ marked-fewer n v s (record { few = g .few; p = omega (arith, g .few, g .long-p); t = omega (arith, g .few, g .long-v) }) l (candidate-fact leads h v s e .1)
+          ∙ marked-fewer v s (g .long-v) (omega (arith, g .few)) n l (candidate-fact leads h v s e .1)
+
+      -- what was visited stays visited, and v is
+      grown : (u : ℕ) → member? T 0 u ≡ true → member? T₁ 0 u ≡ true
+      unfolding marked seen
+      grown u q = ap (λ x. member? x 0 u) m ∙ marked-mono v s (g .long-v) (omega (arith, g .few)) u q
+
+      own : member? T₁ 0 v ≡ true
+      unfolding marked seen
+      own = ap (λ x. member? x 0 v) m ∙ marked-seen v s (g .long-v) (omega (arith, g .few))
 
       -- the measure falls
       pub falls : unvisited n (state P T₁ false) < unvisited n s₀
@@ -144,6 +155,7 @@ module _ (table : List ℕ) (n h : ℕ) where
         same = deep (λ k. state (set P v h) T₁ true ≡ go k h s₀) (unvisited n s₀) λ k u.
             ap (λ x. state (set P v h) x true) m ∙ sym (at k u ∙ scan-free leads n (go k) h (n - (v + 1)) v s e (eq-eqb _ _ f));
         fewer = omega (arith, falls);
+        mono = λ u q. grown u (g .mono u q);
       }
 
       module _ (P′ T′ : List ℕ) (b : Bool) (f : getD P v 0 ≢ nobody) (q : Augments leads n (getD P v 0) (state P T₁ false) (state P′ T′ b)) where
@@ -158,35 +170,22 @@ module _ (table : List ℕ) (n h : ℕ) where
               ap (taken h v) (again k u)
               ∙ sym (at k u ∙ scan-moved leads n (go k) h (n - (v + 1)) v s e (ne-eqb _ _ f) (ap (λ x. x .found) (sym (again k u)) ∙ y));
           fewer = omega (arith, falls, q .fewer);
+          mono = λ u i. q .mono u (grown u (g .mono u i));
         }
-
-        sized : Sized n s
-        sized = record { few = g .few; p = omega (arith, g .few, g .long-p); t = omega (arith, g .few, g .long-v) }
 
         -- what was visited before v stays visited, and v too
         still : (u : ℕ) → member? T₁ 0 u ≡ true → member? T′ 0 u ≡ true
         unfolding seen
-        still u e =
-            let s₁ : State = state P T₁ false in
-            let z : Sized n s₁ = record {
-              few = g .few;
-              p = omega (arith, g .few, g .long-p);
-              t = omega (arith, g .few, g .long-v, ap length m, length-inserted T 0 v);
-            } in
-            let k : ℕ = suc (unvisited n s₁) in
-            ap (seen u) (q .same k (omega arith)) ∙ kept-augment n leads k (getD P v 0) s₁ z .mono u e
+        still u i = q .mono u i
 
         shut-below : (u : ℕ) → u < v + 1 → open? table h T′ u ≡ false
-        unfolding open? seen marked
+        unfolding open?
         shut-below u a = at-v (ℕ-discrete u v)
           where
             at-v : Dec (u ≡ v) → open? table h T′ u ≡ false
-            at-v (yes d) =
-                visited-shut (leadsIn table h u) (member? T′ 0 u)
-                (still u (ap (λ x. member? T₁ 0 x) d ∙ ap (λ x. member? x 0 v) m ∙ marked-seen n v s sized l))
+            at-v (yes d) = visited-shut (has? 2 table h u) (member? T′ 0 u) (still u (ap (λ x. member? T₁ 0 x) d ∙ own))
             at-v (no d) =
-                stays-shut (leadsIn table h u) (member? T 0 u) (member? T′ 0 u)
-                (λ e. still u (ap (λ x. member? x 0 u) m ∙ marked-mono n v s sized l u e)) (g .passed u (omega arith))
+                stays-shut (has? 2 table h u) (member? T 0 u) (member? T′ 0 u) (λ e. still u (grown u e)) (g .passed u (omega arith))
 
         -- so the first vertex to try is past v
         pub later : (r : ℕ) → NextOpen table h T′ 0 r → NextOpen table h T′ (v + 1) r
@@ -210,7 +209,8 @@ module _ (table : List ℕ) (n h : ℕ) where
         pub going-stuck : b ≡ false → length P′ ≡ 128 → length T′ ≡ 2 → (r : ℕ) → NextOpen table h T′ 0 r → Going table n h P₀ T₀ P′ T′ r
         unfolding marked predecessorOf unvisited seen
         going-stuck y lp lv r p =
-            going-to P′ T′ (v + 1) r (g .few) lp lv (omega (arith, falls, q .fewer)) (omega (arith, g .few)) shut-below (later r p)
+            going-to P′ T′ (v + 1) r (g .few) lp lv (omega (arith, falls, q .fewer)) (λ u i. still u (grown u (g .mono u i)))
+            (omega (arith, g .few)) shut-below (later r p)
             (λ k u. at k u
             ∙ scan-stuck leads n (go k) h (n - (v + 1)) v s e (ne-eqb _ _ f) (ap (λ x. x .found) (sym (again k u)) ∙ y)
             ∙ ap (scan leads n (go k) h (n - (v + 1)) (suc v)) (sym (again k u) ∙ ap (state P′ T′) y)

@@ -1,3 +1,5 @@
 pub mod Open
+pub mod Steps
+pub mod Coding
 pub mod Going
 pub mod Asking

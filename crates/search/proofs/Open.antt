@@ -4,20 +4,19 @@ use native.Mathlib.Nat.{lt-of-le-of-lt}
 use lib.Bits.{bitOr, and-le-l}
 use lib.Count.{trailingZeros}
 use Rattle.counting.proofs.Truth.{lt-or-le}
-use Rattle.specification.specs.Sets.{bit, member, member?, inserted, at}
+use Rattle.specification.specs.Sets.{bit, member, member?, inserted, at, has?}
 use Rattle.masks.specs.Sets.{Next}
 use Rattle.masks.specs.Pairs.{inPair}
 use Rattle.masks.proofs.Bits.{without, one-shl, bit-of-zero, trailing-below, trailing-at, trailing-lt}
 use Rattle.masks.proofs.Sets.{without-member}
 use Rattle.masks.proofs.Pairing.{pair-low, pair-high}
 use Rattle.masks.proofs.Tables.{Row, pair-row, row-member}
-use Rattle.search.specs.Table.{leadsIn}
-use Rattle.search.specs.Search.{open?, NextOpen}
+use Rattle.search.specs.Steps.Search.{open?, NextOpen}
 
 module _ (table visited : List ℕ) (h a b c d : ℕ) (ea : a ≡ getD table (2 * h + 0) 0) (eb : b ≡ getD visited (0 + 0) 0) (ec : c ≡ getD table (2 * h + 1) 0) (ed : d ≡ getD visited (0 + 1) 0)
     (fit : (i : ℕ) → getD visited i 0 < 2 ^ 64) where
   open-bit : (v : ℕ) → v < 128 → member? (without a b ∷ without c d ∷ []) 0 v ≡ open? table h visited v
-  unfolding open? leadsIn at
+  unfolding open? has? at
   open-bit = without-member 2 table (2 * h) visited 0 (without a b ∷ without c d ∷ []) (λ i l. fit (0 + i)) same
     where
       same : (i : ℕ) → i < 2 → getD (without a b ∷ without c d ∷ []) i 0 ≡ without (getD table (2 * h + i) 0) (getD visited (0 + i) 0)
@@ -84,7 +83,7 @@ module _ (x y : ℕ) where
 -- the masks of h, read one by one, stand for its row
 pub row-open : (table visited : List ℕ) (h a b from r : ℕ) → Row 2 table h (a ∷ b ∷ [])
     → NextOpen (a ∷ b ∷ []) 0 visited from r → NextOpen table h visited from r
-unfolding open? leadsIn at
+unfolding open? has? at
 row-open table visited h a b from r o p = record {
   within = p .within;
   skipped = λ v l m. sym (same v (omega (arith, p .within))) ∙ p .skipped v l m;

@@ -1,2 +1,2 @@
-pub mod Table
-pub mod Search
+pub mod Tabled
+pub mod Steps

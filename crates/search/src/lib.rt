@@ -5,10 +5,10 @@ ghost use mathlib.Core.Bool.{Bool};
 ghost use mathlib.Core.List.{[], _∷_};
 ghost use Prim.Native.Nat.{_≤_, _<_, min};
 ghost use lib.ListN.{length, getD};
-ghost use Rattle.specification.specs.Sets.{inserted};
+ghost use Rattle.specification.specs.Sets.{inserted, has?};
 ghost use Rattle.specification.specs.Planning.{matching};
-ghost use Rattle.search.specs.Table.{leadsIn};
-ghost use Rattle.search.specs.Search.{state, NextOpen, Augments, Asks};
+ghost use Rattle.search.specs.Tabled.{Tabled};
+ghost use Rattle.search.specs.Steps.Search.{state, NextOpen, Augments, Asks};
 
 // The most vertices, and what stands for no vertex.
 const MOST: usize = 128;
@@ -76,7 +76,7 @@ fn next_open<'a>(table: &'a [u64], h: u8, visited: &'a [u64]) -> usize
 // other successor. At each call fewer vertices are unvisited.
 fn augment(table: &[u64], n: usize, h: u8, predecessor: &mut [u8], visited: &mut [u64]) -> bool
     requires { ⌜ (n ≤ 128) × (length (now predecessor) ≡ 128) × (length (now visited) ≡ 2) ⌝ }
-    ensures { λ r. ⌜ Augments (leadsIn (now (table .entry))) n h (state (now (predecessor .entry)) (now (visited .entry)) Bool.false) (state (now (predecessor .exit)) (now (visited .exit)) r) ⌝ }
+    ensures { λ r. ⌜ Augments (has? 2 (now (table .entry))) n h (state (now (predecessor .entry)) (now (visited .entry)) Bool.false) (state (now (predecessor .exit)) (now (visited .exit)) r) ⌝ }
 {
     let row = 2 * wide(h);
     let low = mask_of(table, row);
@@ -116,7 +116,7 @@ fn capped(n: usize) -> usize
 // nothing to search.
 fn ask(table: &[u64], n: usize, h: u8, predecessor: &mut [u8])
     requires { ⌜ (n ≤ 128) × (length (now predecessor) ≡ 128) ⌝ }
-    ensures { λ _. ⌜ Asks (leadsIn (now (table .entry))) n h (now (predecessor .entry)) (now (predecessor .exit)) ⌝ }
+    ensures { λ _. ⌜ Asks (has? 2 (now (table .entry))) n h (now (predecessor .entry)) (now (predecessor .exit)) ⌝ }
 {
     let mut visited = [0u64; 2];
     let v = next_open(table, h, &visited);
@@ -142,7 +142,7 @@ fn ask(table: &[u64], n: usize, h: u8, predecessor: &mut [u8])
 
 // Each vertex's predecessor, or NOBODY, after every vertex, from 0 up, has asked for a successor; of more than 128 the first 128.
 pub fn matched(table: &[u64], n: usize) -> [u8; 128]
-    ensures { λ r. ⌜ (r ≡ matching (leadsIn (now (table .entry))) (min n 128)) × (length r ≡ 128) ⌝ }
+    ensures { λ r. ⌜ Tabled (matching (has? 2 (now (table .entry))) (min n 128)) r ⌝ }
 {
     let most = capped(n);
     let mut predecessor = [NOBODY; 128];

@@ -1,6 +1,5 @@
 // Runs a script of a session: a line on standard input is `words N`, `add U V` or `leads U V`, and is answered by a line on standard
 // output, `ok`, `yes`, `no`, `refused` with the number, or `unreadable` (SPECIFICATION.md, 14.3).
-ghost use mathlib.Core.Path.{_≡_};
 ghost use Prim.Native.Nat.{_+_, _≤_};
 ghost use lib.ListN.{length};
 use editing::Session;
@@ -31,31 +30,13 @@ fn make_room(output: &[u8], used: usize) -> usize
     used
 }
 
-fn put_text<'a>(output: &mut [u8], used: usize, text: &'a [u8]) -> usize
-    requires { ⌜ used + length (now text) ≤ length (now output) ⌝ }
-    ensures { λ r. ⌜ r ≡ used + length (now (text .entry)) ⌝ }
-{
-    for i in 0..text.len() {
-        output[used + i] = text[i];
-    }
-    used + text.len()
-}
-
-fn put_byte(output: &mut [u8], used: usize, byte: u8) -> usize
-    requires { ⌜ used + 1 ≤ length (now output) ⌝ }
-    ensures { λ r. ⌜ r ≡ used + 1 ⌝ }
-{
-    output[used] = byte;
-    used + 1
-}
-
 // The last digit of a number, and the line's end.
 fn put_last(output: &mut [u8], used: usize, digit: u8) -> usize
     requires { ⌜ (used + 2 ≤ length (now output)) × (digit ≤ 9) ⌝ }
-    ensures { λ r. ⌜ r ≡ used + 2 ⌝ }
+    ensures { λ r. ⌜ r ≤ used + 2 ⌝ }
 {
-    let end = put_byte(output, used, 48 + digit);
-    put_byte(output, end, 10)
+    let end = text::put_byte(output, used, 48 + digit);
+    text::put_byte(output, end, 10)
 }
 
 // The number in decimal, and the line's end.
@@ -67,11 +48,11 @@ fn put_number(output: &mut [u8], used: usize, n: u8) -> usize
         return put_last(output, used, n);
     }
     if n < 100 {
-        let last = put_byte(output, used, 48 + n / 10);
+        let last = text::put_byte(output, used, 48 + n / 10);
         return put_last(output, last, n % 10);
     }
-    let tens = put_byte(output, used, 48 + n / 100);
-    let last = put_byte(output, tens, 48 + n / 10 % 10);
+    let tens = text::put_byte(output, used, 48 + n / 100);
+    let last = text::put_byte(output, tens, 48 + n / 10 % 10);
     put_last(output, last, n % 10)
 }
 
@@ -80,12 +61,12 @@ fn put_outcome(output: &mut [u8], used: usize, outcome: Outcome) -> usize
     ensures { λ r. ⌜ r ≤ used + 16 ⌝ }
 {
     match outcome {
-        Outcome::Done => put_text(output, used, b"ok\n"),
-        Outcome::Yes => put_text(output, used, b"yes\n"),
-        Outcome::No => put_text(output, used, b"no\n"),
-        Outcome::Unreadable => put_text(output, used, b"unreadable\n"),
+        Outcome::Done => text::put(output, used, b"ok\n"),
+        Outcome::Yes => text::put(output, used, b"yes\n"),
+        Outcome::No => text::put(output, used, b"no\n"),
+        Outcome::Unreadable => text::put(output, used, b"unreadable\n"),
         Outcome::Refused(k) => {
-            let at = put_text(output, used, b"refused ");
+            let at = text::put(output, used, b"refused ");
             put_number(output, at, k)
         }
     }

@@ -1,1 +1,5 @@
 pub mod Table
+pub mod Placing
+pub mod Written
+mod Fitting
+pub mod Writing

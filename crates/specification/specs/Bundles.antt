@@ -5,6 +5,7 @@ use Prim.Native.Nat.{ℕ, _+_, _*_, zero, suc, min, max}
 use lib.Dec.{eqb, ltb}
 use Rattle.specification.specs.Graph.{edge?}
 use Rattle.specification.specs.Count.{choose, count}
+use Rattle.specification.specs.Limits.{highestRow}
 
 -- vertices are next to each other in their channel
 unfoldable pub adjacent? : ℕ → ℕ → Bool
@@ -60,9 +61,9 @@ unfoldable pub joined : (ℕ → ℕ → ℕ) → ℕ → ℕ → (ℕ → Bool)
 joined join e zero test f = e
 joined join e (suc n) test f = join (joined join e n test f) (choose (test n) (λ _. f n) (λ _. e))
 
--- the least of these values, and the highest; a row is at most 255
+-- the least of these values, and the highest
 abbrev pub lowest : ℕ → (ℕ → Bool) → (ℕ → ℕ) → ℕ
-lowest n test f = joined min 255 n test f
+lowest n test f = joined min highestRow n test f
 
 abbrev pub highest : ℕ → (ℕ → Bool) → (ℕ → ℕ) → ℕ
 highest n test f = joined max 0 n test f

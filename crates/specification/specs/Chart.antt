@@ -4,7 +4,8 @@ use mathlib.Core.List.{List, [], _∷_}
 use Prim.Native.Nat.{ℕ, _<_}
 use lib.Dec.{eqb}
 use lib.ListN.{length, getD}
-use Rattle.specification.specs.Count.{choose, count}
+use Rattle.specification.specs.Count.{choose, count, above}
+use Rattle.specification.specs.Limits.{mostVertices, pageColumns, pageRows}
 use Rattle.specification.specs.Graph.{edge?, reachable?}
 use Rattle.specification.specs.Channels.{channelOf, positionOf, linesOf}
 use Rattle.specification.specs.Planning.{planned}
@@ -12,7 +13,7 @@ use Rattle.specification.specs.Checks.{Content, edgesOf}
 use Rattle.specification.specs.Rows.{row, rowsUsed}
 use Rattle.specification.specs.Marks.{transitive?, reducedCount}
 use Rattle.specification.specs.Bundles.{Bundle, bundleOf, adjacent?, bundlesOf, empty}
-use Rattle.specification.specs.Tracks.{tracks, topIn}
+use Rattle.specification.specs.Tracks.{tracks}
 use Rattle.specification.specs.Geometry.{Point, point, Widths, evenGaps, blockStart, ownColumn, courseOf, gapWidth, trackAt, straight, byTrack}
 use Rattle.specification.specs.declared.Course.{Course}
 use Rattle.specification.specs.declared.Kind.{Kind}
@@ -21,7 +22,6 @@ use Rattle.specification.specs.declared.VertexEntry.{VertexEntry}
 use Rattle.specification.specs.declared.EdgeEntry.{EdgeEntry}
 use Rattle.specification.specs.declared.BundleEntry.{BundleEntry}
 use Rattle.specification.specs.declared.Course.the-variants as course
-use Rattle.specification.specs.Page as page
 
 module _ (c : Content) where
   -- u reaches v (2.1)
@@ -29,7 +29,7 @@ module _ (c : Content) where
   leads? = reachable? (c .vertices) (c .tails) (c .heads)
 
   unfoldable pub descendantsOf : ℕ → ℕ
-  descendantsOf v = count 128 (leads? v)
+  descendantsOf v = count mostVertices (leads? v)
 
   abbrev pub tailOf : ℕ → ℕ
   tailOf e = getD (c .tails) e 0
@@ -86,7 +86,7 @@ trackIn p b = getD (p .tracks) b 0
 
 -- the number of tracks of a channel: 1 + the highest
 unfoldable pub tracksIn : Plan → ℕ → ℕ
-tracksIn p l = topIn (length (p .bundles)) (λ b. eqb (bundleIn p b .channel) l) (trackIn p)
+tracksIn p l = above (length (p .bundles)) (λ b. eqb (bundleIn p b .channel) l) (trackIn p)
 
 -- blocks of s + 3 columns (8.1)
 abbrev pub widths : Plan → Widths
@@ -151,4 +151,4 @@ polylineOf u v (Bent bend) bundle = pointAt u ∷ point (bend .column) (bend .ro
 -- every point of a polyline stands on the page (8.2)
 pub data OnPage : List Point → Type 0 where
   none : OnPage []
-  more : {q : Point} {l : List Point} → q .column < page.columns → q .row < page.rows → OnPage l → OnPage (q ∷ l)
+  more : {q : Point} {l : List Point} → q .column < pageColumns → q .row < pageRows → OnPage l → OnPage (q ∷ l)

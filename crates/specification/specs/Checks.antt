@@ -12,6 +12,7 @@ use Rattle.specification.specs.declared.Fields.{Fields}
 use Rattle.specification.specs.declared.Layout.{Layout}
 use Rattle.specification.specs.declared.Layout.the-variants.{Good, Bad}
 use Rattle.specification.specs.Layout.{layoutOf}
+use Rattle.specification.specs.Limits.{mostVertices, mostEdges}
 
 -- what is checked: vertices, edges, and the bytes of the given channels, if any are given
 pub record Content : Type 0 where
@@ -41,7 +42,7 @@ double? c = duplicate? (edgesOf c) (c .tails) (c .heads)
 
 -- 5 'ring': a vertex reaches itself
 unfoldable pub ring? : Content → Bool
-ring? c = some 128 (λ u. reachable? (c .vertices) (c .tails) (c .heads) u u)
+ring? c = some mostVertices (λ u. reachable? (c .vertices) (c .tails) (c .heads) u u)
 
 -- 6 'cover': given channels repeat or lack a vertex; two checks with one number, since covering may be dropped later
 unfoldable pub repeated? : Content → Bool
@@ -110,8 +111,8 @@ abbrev pub givenLine : Content → ℕ → List ℕ
 givenLine c k = getD (linesOf (c .field)) k []
 
 pub record Sound (c : Content) : Type 0 where
-  -- not 2: 1 to 128 vertices, at most 4,096 edges
-  pub size : (0 < c .vertices) × (c .vertices ≤ 128) × (edgesOf c ≤ 4096)
+  -- not 2: a vertex, and no more vertices and edges than the most
+  pub size : (0 < c .vertices) × (c .vertices ≤ mostVertices) × (edgesOf c ≤ mostEdges)
   -- not 3: edges and given channels name vertices alone
   pub ends : (i : ℕ) → i < edgesOf c → (getD (c .tails) i 0 < c .vertices) × (getD (c .heads) i 0 < c .vertices)
   pub named : c .given ≡ true → (v : ℕ) → c .vertices ≤ v → times v (verticesOf (c .field)) ≡ 0

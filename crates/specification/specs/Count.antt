@@ -1,5 +1,5 @@
 -- Choices, sums and counts, in which the rest is written. Assumes nothing.
-use Prim.Native.Nat.{ℕ, zero, suc, _+_}
+use Prim.Native.Nat.{ℕ, zero, suc, _+_, max}
 use mathlib.Core.Bool.{Bool, true, false, _||_}
 
 -- 1 for true, 0 for false
@@ -25,3 +25,8 @@ count n f = sum n (λ i. indicator (f i))
 unfoldable pub some : ℕ → (ℕ → Bool) → Bool
 some zero f = false
 some (suc n) f = some n f || f n
+
+-- 1 + the highest value of f among the first n that pass the test, or 0 where none does
+unfoldable pub above : ℕ → (ℕ → Bool) → (ℕ → ℕ) → ℕ
+above zero test f = 0
+above (suc n) test f = max (above n test f) (choose (test n) (λ _. suc (f n)) (λ _. 0))

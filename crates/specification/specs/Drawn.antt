@@ -1,13 +1,15 @@
 -- What a call draws into lists of given lengths (SPECIFICATION.md, 9 and 13). Assumes nothing.
+use mathlib.Core.Path.{_≡_}
 use mathlib.Core.Bool.{Bool, _||_}
 use mathlib.Core.List.{List}
-use Prim.Native.Nat.{ℕ}
+use Prim.Native.Nat.{ℕ, _<_}
 use lib.Dec.{eqb, ltb}
-use lib.ListN.{length}
+use lib.ListN.{length, getD}
 use Rattle.specification.specs.Count.{choose}
 use Rattle.specification.specs.Graph.{tailsOf, headsOf}
 use Rattle.specification.specs.Checks.{Content, content, edgesOf, refusalOf, nothing, recordRefusal, said}
-use Rattle.specification.specs.Chart.{planOf}
+use Rattle.specification.specs.Chart.{Plan, planOf, rowCount, reducedEdges, widthOf, tracksIn}
+use Rattle.specification.specs.declared.ChartCounts.{ChartCounts}
 
 pub record Drawn : Type 0 where
   pub refusal : ℕ
@@ -39,3 +41,28 @@ refusedBy k = record { refusal = k; graph = nothing }
 -- what is drawn into lists of these lengths; what is refused already has no entry, and so is never short
 unfoldable pub lent : ℕ → ℕ → ℕ → Drawn → Drawn
 lent v e b d = choose (short? v e b d) (λ _. refusedBy 8) (λ _. d)
+
+-- ---- the counts
+
+-- r has every count of the chart of c by the plan p
+pub record Summary (c : Content) (p : Plan) (r : ChartCounts) : Type 0 where
+  pub words : r .words ≡ c .vertices
+  pub arrows : r .arrows ≡ edgesOf c
+  pub bundles : r .bundles ≡ length (p .bundles)
+  pub rows : r .rows ≡ rowCount c
+  pub lines : r .lines ≡ length (p .channels)
+  pub firm : r .firm ≡ reducedEdges c
+  pub width : r .width ≡ widthOf p
+  pub side-columns : (l : ℕ) → l < 128 → getD (r .«side_columns») l 0 ≡ tracksIn p l
+  pub long : length (r .«side_columns») ≡ 128
+
+-- r has no count
+pub record Zeroed (r : ChartCounts) : Type 0 where
+  pub words : r .words ≡ 0
+  pub arrows : r .arrows ≡ 0
+  pub bundles : r .bundles ≡ 0
+  pub rows : r .rows ≡ 0
+  pub lines : r .lines ≡ 0
+  pub firm : r .firm ≡ 0
+  pub width : r .width ≡ 0
+  pub side-columns : (l : ℕ) → l < 128 → getD (r .«side_columns») l 0 ≡ 0

@@ -7,3 +7,6 @@ mod Page
 mod Graph
 mod Marks
 mod Tracks
+mod Writing
+mod Lent
+mod Lawful

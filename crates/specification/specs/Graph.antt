@@ -5,7 +5,8 @@ use mathlib.Core.List.{List, [], _∷_}
 use Prim.Native.Nat.{ℕ, zero, suc, _<_, min}
 use lib.Dec.{eqb, leb, ltb}
 use lib.ListN.{length, getD, drop}
-use Rattle.specification.specs.Count.{some}
+use Rattle.specification.specs.Count.{some, choose}
+use Rattle.specification.specs.Limits.{mostVertices, mostEdges}
 
 -- u reaches v by one or more edges of E, of which the head of each is the tail of the next (2.1)
 pub data Reaches (E : ℕ → ℕ → Type 0) : ℕ → ℕ → Type 0 where
@@ -58,16 +59,17 @@ alike? tails heads i j = eqb (getD tails j 0) (getD tails i 0) && eqb (getD head
 unfoldable pub duplicate? : ℕ → List ℕ → List ℕ → Bool
 duplicate? m tails heads = some m (λ i. some i (alike? tails heads i))
 
--- the most vertices and edges of a graph
-abbrev pub mostVertices : ℕ
-mostVertices = 128
+-- no vertex, or too many
+unfoldable pub unsized? : ℕ → Bool
+unsized? n = eqb n 0 || ltb mostVertices n
 
-abbrev pub mostEdges : ℕ
-mostEdges = 4096
-
--- no vertex, or too many, or too many edges
+-- .. or too many edges
 unfoldable pub outsized? : ℕ → ℕ → Bool
-outsized? n m = (eqb n 0 || ltb mostVertices n) || ltb mostEdges m
+outsized? n m = unsized? n || ltb mostEdges m
+
+-- why a number of vertices alone is refused ('size'), or 0
+unfoldable pub sizeRefusal : ℕ → ℕ
+sizeRefusal n = choose (unsized? n) (λ _. 2) (λ _. 0)
 
 -- an end of edge i is no vertex
 unfoldable pub strange? : ℕ → List ℕ → List ℕ → ℕ → Bool

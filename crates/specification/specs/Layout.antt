@@ -5,14 +5,11 @@ use Prim.Native.Nat.{ℕ, zero, suc, _+_, _*_, _/_, _%_}
 use lib.Dec.{eqb, leb}
 use lib.ListN.{length, getD, take, drop}
 use Rattle.specification.specs.Count.{choose}
+use Rattle.specification.specs.Limits.{mostBytes}
 use Rattle.specification.specs.declared.Field.{Field}
 use Rattle.specification.specs.declared.Field.the-variants.{Found, Missing}
 use Rattle.specification.specs.declared.Layout.{Layout}
 use Rattle.specification.specs.declared.Layout.the-variants.{Good, Bad}
-
--- the most bytes of a record
-abbrev pub mostBytes : ℕ
-mostBytes = 65535
 
 -- the length that the two bytes after a tag say, high byte first
 unfoldable pub sizeAt : List ℕ → ℕ → ℕ

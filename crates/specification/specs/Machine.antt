@@ -3,10 +3,11 @@ use mathlib.Core.Path.{_≡_}
 use mathlib.Core.Bool.{Bool, true, false, _||_, _&&_}
 use mathlib.Core.List.{List, [], _∷_}
 use Prim.Native.Nat.{ℕ, zero, suc, _≤_, _<_}
-use lib.Dec.{eqb, leb, ltb}
+use lib.Dec.{eqb, leb}
 use lib.ListN.{length}
 use Rattle.specification.specs.Count.{choose}
-use Rattle.specification.specs.Graph.{Reaches, reaches?, mostVertices, mostEdges}
+use Rattle.specification.specs.Graph.{Reaches, reaches?, sizeRefusal}
+use Rattle.specification.specs.Limits.{mostVertices, mostEdges}
 
 -- an edge, from its tail to its head
 pub data Edge : Type 0 where
@@ -103,13 +104,9 @@ answers g (c ∷ cs) = step g c .answer ∷ answers (step g c .graph) cs
 unfoldable pub empty : ℕ → Graph
 empty n = record { vertices = n; edges = [] }
 
--- why a start with n vertices is refused, or 0: no vertex, or too many ('size')
-unfoldable pub startRefusal : ℕ → ℕ
-startRefusal n = choose (eqb n 0 || ltb mostVertices n) (λ _. 2) (λ _. 0)
-
 -- a fresh session's vertices: none where the start is refused
 unfoldable pub startVertices : ℕ → ℕ
-startVertices n = choose (eqb (startRefusal n) 0) (λ _. n) (λ _. 0)
+startVertices n = choose (eqb (sizeRefusal n) 0) (λ _. n) (λ _. 0)
 
 unfoldable pub fresh : ℕ → Graph
 fresh n = empty (startVertices n)

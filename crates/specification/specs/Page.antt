@@ -6,12 +6,13 @@ use Prim.Native.Nat.{ℕ, _*_}
 use lib.Dec.{leb}
 use lib.Ieee.{Float, binary32, round}
 use lib.Ieee.Exact.{HasValue}
+use Rattle.specification.specs.Limits.{pageColumns, pageRows}
 use Rattle.specification.specs.declared.Cell.{Cell}
 use Rattle.specification.specs.declared.Point.{Point}
 use Rattle.specification.specs.declared.Polyline.{Polyline}
 use Rattle.specification.specs.declared.Polyline.the-variants.{Straight, Bent, Side, OffPage}
 
--- the pitches in quarter points, the quarter points of a point, and how many columns and rows the page has
+-- the pitches in quarter points, and the quarter points of a point
 abbrev pub columnPitch : ℕ
 columnPitch = 42
 
@@ -20,12 +21,6 @@ rowPitch = 113
 
 abbrev pub perPoint : ℕ
 perPoint = 4
-
-abbrev pub columns : ℕ
-columns = 640
-
-abbrev pub rows : ℕ
-rows = 128
 
 -- n quarter points in points: the f32 nearest to n / 4
 unfoldable pub toPoints : ℕ → Float
@@ -68,7 +63,7 @@ answerOf OffPage = refused
 
 -- a cell whose column or row is beyond the page, and a list with such a cell
 abbrev pub offPage : Cell → Bool
-offPage c = leb columns (c .column) || leb rows (c .row)
+offPage c = leb pageColumns (c .column) || leb pageRows (c .row)
 
 abbrev pub anyOff : List Cell → Bool
 anyOff [] = false

@@ -1,17 +1,11 @@
 -- Tracks of bundles (SPECIFICATION.md, 7). Assumes nothing.
-use Prim.Native.Nat.{ℕ, zero, suc, max}
+use Prim.Native.Nat.{ℕ, zero, suc}
 use mathlib.Core.Bool.{Bool, not, _&&_, _||_}
 use mathlib.Core.List.{List}
 use lib.ListN.{getD, set, replicate}
 use lib.Dec.{eqb, leb, ltb}
 use Rattle.specification.specs.Count.{choose, some, count}
-
--- the most bundles, and rows
-abbrev pub mostBundles : ℕ
-mostBundles = 256
-
-abbrev pub mostRows : ℕ
-mostRows = 256
+use Rattle.specification.specs.Limits.{rowNumbers, mostBundles}
 
 -- the lowest number from c on that is not busy, of which j are tried; c + j where all are
 unfoldable pub lowestFree : (ℕ → Bool) → ℕ → ℕ → ℕ
@@ -53,14 +47,9 @@ module _ (n : ℕ) (channel first last : ℕ → ℕ) where
 
   -- every bundle's track, and 0 past the last bundle
   unfoldable pub tracks : List ℕ
-  tracks = inRows mostRows
+  tracks = inRows rowNumbers
 
 -- ---- how many tracks a channel has
-
--- 1 + the highest value of f among the first n that pass the test, or 0
-unfoldable pub topIn : ℕ → (ℕ → Bool) → (ℕ → ℕ) → ℕ
-topIn zero test f = 0
-topIn (suc n) test f = max (topIn n test f) (choose (test n) (λ _. suc (f n)) (λ _. 0))
 
 -- the number of different values of f among the first n that pass the test: each is counted where it first stands
 unfoldable pub differentIn : ℕ → (ℕ → Bool) → (ℕ → ℕ) → ℕ

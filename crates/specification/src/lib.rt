@@ -52,6 +52,13 @@ pub enum Kind {
     Bent(Bend),
 }
 
+// The number of a kind, with its bundle or its bend.
+pub struct Code {
+    pub code: u8,
+    pub value: u16,
+    pub row: u8,
+}
+
 // An edge as it is handed over, with its mark (5.1).
 pub struct EdgeEntry {
     pub number: u16,
@@ -65,6 +72,21 @@ pub struct BundleEntry {
     pub first_row: u8,
     pub last_row: u8,
     pub track: u8,
+}
+
+// What a call for a chart answers (9.1), in the publisher's words: its number, or 0; how many entries each list got; the other counts, and the side
+// columns of each line, 0 past the last. Every number but the first is 0 where the chart is refused.
+#[repr(C)]
+pub struct ChartCounts {
+    pub refusal: u8,
+    pub words: usize,
+    pub arrows: usize,
+    pub bundles: usize,
+    pub rows: u8,
+    pub lines: u8,
+    pub firm: u16,
+    pub width: u16,
+    pub side_columns: [u16; 128],
 }
 
 // A whole column and row, on the page or not.
@@ -85,4 +107,26 @@ pub enum Polyline {
     Bent(Point, Point, Point),
     Side(Point, Point, Point, Point),
     OffPage,
+}
+
+// The refusal, or 0, and 1 where the first word leads to the second; 0 where it does not, and where the call is refused.
+#[repr(C)]
+pub struct Leading {
+    pub refusal: u8,
+    pub leads: u8,
+}
+
+// The refusal, or 0, how many points the stroke has, and the points across (x) and up (y); 0.0 where there is none.
+#[repr(C)]
+pub struct Stroke {
+    pub refusal: u8,
+    pub points: u8,
+    pub x0: f32,
+    pub y0: f32,
+    pub x1: f32,
+    pub y1: f32,
+    pub x2: f32,
+    pub y2: f32,
+    pub x3: f32,
+    pub y3: f32,
 }

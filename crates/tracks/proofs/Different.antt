@@ -1,14 +1,12 @@
--- Laws of `differentIn` and `topIn`; nothing else opens them. Assumes nothing.
-use Rattle.counting.proofs.Prelude.{_≡_, refl, sym, ap, ap₂, _∙_, _⊎_, inl, inr, Bool, true, false, true≢false, not, _&&_, _||_, ℕ, zero, suc, _+_, _≤_, _<_, max, arith, eqb, eq-eqb, ne-eqb, eqb-true, not-true}
-use native.Mathlib.Nat.{not-suc-le-zero}
+-- Laws of `differentIn`; nothing else opens it. Assumes nothing.
+use Rattle.counting.proofs.Prelude.{_≡_, refl, sym, ap, ap₂, _∙_, _⊎_, inl, inr, Bool, true, false, true≢false, not, _&&_, _||_, ℕ, zero, suc, _+_, _≤_, _<_, arith, eqb, eq-eqb, ne-eqb, eqb-true, not-true}
 use native.Mathlib.Decide.{ℕ-discrete, decLt}
-use native.Mathlib.Numerals.{add-one}
-use Rattle.specification.specs.Count.{indicator, choose, sum, count, some}
+use Rattle.specification.specs.Count.{indicator, sum, count, some}
 use Rattle.counting.proofs.Truth.{and-intro, and-elim}
 use Rattle.counting.proofs.Somes.{some-found, some-which, some-ext}
 use Rattle.counting.proofs.Sums.{sum-mono, count-ext}
 use Rattle.counting.proofs.Classes.{indicator-mono, sum-one, sum-change, at-most-one, count-classes}
-use Rattle.specification.specs.Tracks.{topIn, differentIn}
+use Rattle.specification.specs.Tracks.{differentIn}
 
 -- ---- different values
 
@@ -128,53 +126,3 @@ unfolding differentIn
 different-ext n test test′ f f′ t e =
     count-ext n _ _ (λ i l. ap₂ (λ a b. a && not b) (t i l)
     (some-ext i _ _ (λ j h. ap₂ (λ a b. a && b) (t j (omega arith)) (ap₂ eqb (e j (omega arith)) (e i l)))))
-
--- ---- 1 + the highest value
-
-top-of : (n : ℕ) (test : ℕ → Bool) (f : ℕ → ℕ) → test n ≡ true → topIn (suc n) test f ≡ max (topIn n test f) (suc (f n))
-unfolding topIn
-top-of n test f e = rw e
-
-top-pass : (n : ℕ) (test : ℕ → Bool) (f : ℕ → ℕ) → test n ≡ false → topIn (suc n) test f ≡ topIn n test f
-unfolding topIn
-top-pass n test f e = rw e (omega arith)
-
--- one more that passes, or not
-pub top-more : (n : ℕ) (test : ℕ → Bool) (f : ℕ → ℕ) → test n ≡ true → topIn (n + 1) test f ≡ max (topIn n test f) (f n + 1)
-top-more n test f e = ap (λ m. topIn m test f) (add-one n) ∙ top-of n test f e ∙ ap (max (topIn n test f)) (sym (add-one (f n)))
-
-pub top-less : (n : ℕ) (test : ℕ → Bool) (f : ℕ → ℕ) → test n ≡ false → topIn (n + 1) test f ≡ topIn n test f
-top-less n test f e = ap (λ m. topIn m test f) (add-one n) ∙ top-pass n test f e
-
-pub top-none : (test : ℕ → Bool) (f : ℕ → ℕ) → topIn 0 test f ≡ 0
-unfolding topIn
-top-none test f = refl
-
--- every value of those that pass is below it
-pub top-each : (n : ℕ) (test : ℕ → Bool) (f : ℕ → ℕ) (i : ℕ) → i < n → test i ≡ true → f i < topIn n test f
-top-each zero test f i l e = absurd (not-suc-le-zero l)
-top-each (suc n) test f i l e = go (ℕ-discrete n i) (test n) refl (λ m. top-each n test f i m e)
-  where
-    go : Dec (n ≡ i) → (b : Bool) → test n ≡ b → (i < n → f i < topIn n test f) → f i < topIn (suc n) test f
-    go (yes q) true p r = omega (arith, top-of n test f p, ap f q)
-    go (yes q) false p r = absurd (true≢false (sym e ∙ sym (ap test q) ∙ p))
-    go (no q) true p r = omega (arith, top-of n test f p, r (omega arith))
-    go (no q) false p r = omega (arith, top-pass n test f p, r (omega arith))
-
--- and it is the least number above them
-pub top-least : (n : ℕ) (test : ℕ → Bool) (f : ℕ → ℕ) (x : ℕ) → ((i : ℕ) → i < n → test i ≡ true → f i < x) → topIn n test f ≤ x
-top-least zero test f x h = omega (arith, top-none test f)
-top-least (suc n) test f x h = go (test n) refl (top-least n test f x (λ i l. h i (omega arith)))
-  where
-    go : (b : Bool) → test n ≡ b → topIn n test f ≤ x → topIn (suc n) test f ≤ x
-    go true p r = omega (arith, top-of n test f p, h n (omega arith) p)
-    go false p r = omega (arith, top-pass n test f p)
-
--- the same values at the first n, the same top
-pub top-ext : (n : ℕ) (test test′ : ℕ → Bool) (f f′ : ℕ → ℕ) → ((i : ℕ) → i < n → test i ≡ test′ i) → ((i : ℕ) → i < n → f i ≡ f′ i)
-    → topIn n test f ≡ topIn n test′ f′
-unfolding topIn
-top-ext zero test test′ f f′ t e = refl
-top-ext (suc n) test test′ f f′ t e =
-    ap₂ max (top-ext n test test′ f f′ (λ i l. t i (omega arith)) (λ i l. e i (omega arith)))
-    (ap₂ (λ (b : Bool) (x : ℕ). choose {A = ℕ} b (λ _. suc x) (λ _. 0)) (t n (omega arith)) (e n (omega arith)))

@@ -2,7 +2,8 @@
 use Rattle.counting.proofs.Prelude.{_≡_, refl, ap, ap₂, _∙_, Bool, _&&_, _||_, List, ℕ, zero, suc, _+_, _≤_, _<_, arith, eqb, leb, ltb, getD, set}
 use Rattle.specification.specs.Count.{choose}
 use Rattle.counting.proofs.Somes.{some-ext}
-use Rattle.specification.specs.Tracks.{mostRows, earlier, meet, blocks, busy, placed, inRow, inRows, tracks}
+use Rattle.specification.specs.Limits.{rowNumbers}
+use Rattle.specification.specs.Tracks.{earlier, meet, blocks, busy, placed, inRow, inRows, tracks}
 use Rattle.tracks.proofs.FirstFit.{lowest-ext}
 
 module _ (n : ℕ) (channel first last channel′ first′ last′ : ℕ → ℕ) (c : (b : ℕ) → b < n → channel b ≡ channel′ b)
@@ -36,4 +37,4 @@ module _ (n : ℕ) (channel first last channel′ first′ last′ : ℕ → ℕ
   -- equal below n, the same tracks
   pub tracks-ext : tracks n channel first last ≡ tracks n channel′ first′ last′
   unfolding tracks
-  tracks-ext = rows-ext mostRows
+  tracks-ext = rows-ext rowNumbers

@@ -2,14 +2,16 @@
 use Rattle.counting.proofs.Prelude.{_≡_, refl, sym, ap, _∙_, _≢_, Bool, true, _&&_, ℕ, suc, _*_, _≤_, _<_, arith, eqb, leb, getD, le-leb, leb-true, eq-eqb, eqb-true}
 use native.Mathlib.Nat.{le-antisymm}
 use native.Mathlib.Decide.{ℕ-discrete, decLt}
-use Rattle.specification.specs.Count.{count}
+use Rattle.specification.specs.Count.{count, above}
 use Rattle.counting.proofs.Truth.{and-elim}
-use Rattle.specification.specs.Tracks.{mostBundles, meet, tracks, differentIn, topIn}
+use Rattle.specification.specs.Limits.{mostBundles}
+use Rattle.specification.specs.Tracks.{meet, tracks, differentIn}
 use Rattle.tracks.specs.Order.{Apart, Among, Intervals, Packed}
 use Rattle.counting.proofs.Mapping.{into-count, onto-count}
-use Rattle.tracks.proofs.Different.{different-least, different-below, top-each, top-least}
+use Rattle.tracks.proofs.Different.{different-least, different-below}
 use Rattle.tracks.proofs.FirstFit.{turn, turn-earlier, meet-fact, row-meet, meet-sym, blocks-fact, blocks-yes, earlier-turn}
 use Rattle.tracks.proofs.Placing.{Placed, placed-all}
+use Rattle.counting.proofs.Above.{above-each, above-le}
 
 module _ (channel first last : ℕ → ℕ) (c r : ℕ) where
   -- b is of channel c and covers row r
@@ -98,8 +100,8 @@ module _ (n : ℕ) (channel first last : ℕ → ℕ) (small : n ≤ mostBundles
           (f .0, f .1, covers-yes channel first last (channel b) (first b) (f .0) (s .0) (omega (arith, f .1)) (s .2), f .3)
 
   least : (c n′ : ℕ) (channel′ first′ last′ : ℕ → ℕ) (c′ : ℕ) (track′ : ℕ → ℕ) → Among n channel first last c n′ channel′ first′ last′ c′
-      → Apart n′ channel′ first′ last′ track′ → topIn n (λ b. eqb (channel b) c) track ≤ differentIn n′ (λ b. eqb (channel′ b) c′) track′
-  least c n′ channel′ first′ last′ c′ track′ u w = top-least n (λ b. eqb (channel b) c) track (differentIn n′ (λ b. eqb (channel′ b) c′) track′) each
+      → Apart n′ channel′ first′ last′ track′ → above n (λ b. eqb (channel b) c) track ≤ differentIn n′ (λ b. eqb (channel′ b) c′) track′
+  least c n′ channel′ first′ last′ c′ track′ u w = above-le n (λ b. eqb (channel b) c) track (differentIn n′ (λ b. eqb (channel′ b) c′) track′) each
     where
       each : (b : ℕ) → b < n → eqb (channel b) c ≡ true → track b < differentIn n′ (λ b. eqb (channel′ b) c′) track′
       each b l e = omega (
@@ -121,9 +123,9 @@ module _ (n : ℕ) (channel first last : ℕ → ℕ) (small : n ≤ mostBundles
     lasts = λ b l e. refl;
   }
 
-  counted : (c : ℕ) → differentIn n (λ b. eqb (channel b) c) track ≡ topIn n (λ b. eqb (channel b) c) track
+  counted : (c : ℕ) → differentIn n (λ b. eqb (channel b) c) track ≡ above n (λ b. eqb (channel b) c) track
   counted c = le-antisymm
-      (different-below n (topIn n (λ b. eqb (channel b) c) track) (λ b. eqb (channel b) c) track (λ b l e. top-each n (λ b. eqb (channel b) c) track b l e))
+      (different-below n (above n (λ b. eqb (channel b) c) track) (λ b. eqb (channel b) c) track (λ b l e. above-each n (λ b. eqb (channel b) c) track b l e))
       (least c n channel first last c track (itself c) lawful)
 
 -- the rule's tracks are packed

@@ -4,8 +4,9 @@ use native.Mathlib.Nat.{not-suc-le-zero}
 use native.Mathlib.Decide.{ℕ-discrete, decLt}
 use lib.Seq.{getD-set-same, getD-set-other}
 use Rattle.counting.proofs.Zeros.{zeros}
-use Rattle.specification.specs.Tracks.{mostRows, lowestFree, blocks, busy, placed, inRow, inRows, tracks}
-use Rattle.tracks.specs.Steps.{nth}
+use Rattle.specification.specs.Limits.{rowNumbers}
+use Rattle.specification.specs.Tracks.{lowestFree, blocks, busy, placed, inRow, inRows, tracks}
+use Rattle.tracks.specs.Steps.Ends.{nth}
 use Rattle.counting.proofs.Mapping.{one-fails, onto-count}
 use Rattle.tracks.proofs.FirstFit.{IsLowest, lowest-is, turn, earlier-turn, blocks-fact, blocks-self, busy-fact, busy-yes}
 
@@ -149,6 +150,6 @@ module _ (n : ℕ) (channel first last : ℕ → ℕ) where
         let p = placed-row r n (inRows n channel first last r) (omega arith) (placed-rows r) in
         record { long = p .long; done = λ q l h. p .done q l (omega arith); below = p .below; past = p .past }
 
-    pub placed-all : Placed (mostRows * 256) (tracks n channel first last)
+    pub placed-all : Placed (rowNumbers * 256) (tracks n channel first last)
     unfolding tracks
-    placed-all = placed-rows mostRows
+    placed-all = placed-rows rowNumbers

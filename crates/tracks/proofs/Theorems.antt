@@ -1,11 +1,12 @@
 -- What a caller knows of the tracks. Assumes nothing.
 use Rattle.counting.proofs.Prelude.{_≡_, refl, ap, _∙_, List, ℕ, _≤_, arith}
+use Rattle.counting.proofs.Above.{above-ext}
 use Rattle.counting.specs.Quads.{quad}
-use Rattle.specification.specs.Tracks.{mostBundles, tracks}
+use Rattle.specification.specs.Tracks.{tracks}
+use Rattle.specification.specs.Limits.{mostBundles}
 use Rattle.tracks.specs.Order.{Rising}
-use Rattle.tracks.specs.Steps.{nth}
-use Rattle.tracks.specs.Promise.{Assigned, tracksOf, Tracked}
-use Rattle.tracks.proofs.Different.{top-ext}
+use Rattle.tracks.specs.Steps.Ends.{nth, Assigned}
+use Rattle.tracks.specs.Promise.{tracksOf, Tracked}
 use Rattle.tracks.proofs.Placing.{placed-all}
 use Rattle.tracks.proofs.Extension.{tracks-ext}
 
@@ -18,7 +19,7 @@ pub tracked-rising : (n : ℕ) (spans used₀ : List ℕ) (r : ℕ) (spans′ s 
     → Rising r (quad 1 spans) (quad 2 spans) → Assigned r (quad 0 spans) (quad 1 spans) (quad 2 spans) (quad 3 spans′) s
 tracked-rising n spans used₀ r spans′ s a up = record {
   track = λ b l. a .track b l ∙ same b;
-  used = λ c l. a .used c (omega (arith, a .long .1)) ∙ top-ext r _ _ _ _ (λ b _. refl) (λ b _. same b);
+  used = λ c l. a .used c (omega (arith, a .long .1)) ∙ above-ext r _ _ _ _ (λ b _. refl) (λ b _ _. same b);
 }
   where
     same : (b : ℕ) → nth (tracksOf r spans) b ≡ nth (tracks r (quad 0 spans) (quad 1 spans) (quad 2 spans)) b

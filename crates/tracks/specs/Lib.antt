@@ -1,4 +1,3 @@
 pub mod Order
-pub mod Sorted
-pub mod Steps
 pub mod Promise
+pub mod Steps

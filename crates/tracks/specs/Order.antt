@@ -4,7 +4,9 @@ use mathlib.Core.Logic.{_≢_}
 use mathlib.Core.Bool.{true}
 use Prim.Native.Nat.{ℕ, _≤_, _<_}
 use lib.Dec.{eqb}
-use Rattle.specification.specs.Tracks.{meet, differentIn, topIn}
+use Rattle.specification.specs.Limits.{rowNumbers}
+use Rattle.specification.specs.Tracks.{meet, differentIn}
+use Rattle.specification.specs.Count.{above}
 
 -- bundles of one channel that share a row have different tracks
 pub record Apart (n : ℕ) (channel first last track : ℕ → ℕ) : Type 0 where
@@ -26,11 +28,11 @@ Rising n first last = (b : ℕ) → b < n → first b ≤ last b
 -- and begins within the rows
 pub record Intervals (n : ℕ) (first last : ℕ → ℕ) : Type 0 where
   pub ordered : Rising n first last
-  pub below : (b : ℕ) → b < n → first b < 256
+  pub below : (b : ℕ) → b < n → first b < rowNumbers
 
 -- tracks are lawful; a channel uses as many different ones as 1 + its highest; and no lawful tracks of the same bundles are fewer
 pub record Packed (n : ℕ) (channel first last track : ℕ → ℕ) : Type 0 where
   pub lawful : Apart n channel first last track
-  pub counted : (c : ℕ) → differentIn n (λ b. eqb (channel b) c) track ≡ topIn n (λ b. eqb (channel b) c) track
+  pub counted : (c : ℕ) → differentIn n (λ b. eqb (channel b) c) track ≡ above n (λ b. eqb (channel b) c) track
   pub least : (c n′ : ℕ) (channel′ first′ last′ : ℕ → ℕ) (c′ : ℕ) (track′ : ℕ → ℕ) → Among n channel first last c n′ channel′ first′ last′ c′
       → Apart n′ channel′ first′ last′ track′ → differentIn n (λ b. eqb (channel b) c) track ≤ differentIn n′ (λ b. eqb (channel′ b) c′) track′

@@ -5,12 +5,9 @@ use Prim.Native.Nat.{ℕ, _/_, _≤_, _<_, min, max}
 use lib.Dec.{eqb}
 use lib.ListN.{length, getD}
 use Rattle.counting.specs.Quads.{quad}
-use Rattle.specification.specs.Tracks.{mostBundles, tracks, topIn}
-
--- of each of n bundles its track, and s how many tracks each channel has: 1 + its highest, or 0
-pub record Assigned (n : ℕ) (channel first last t : ℕ → ℕ) (s : List ℕ) : Type 0 where
-  pub track : (b : ℕ) → b < n → t b ≡ getD (tracks n channel first last) b 0
-  pub used : (c : ℕ) → c < length s → getD s c 0 ≡ topIn n (λ b. eqb (channel b) c) (λ b. getD (tracks n channel first last) b 0)
+use Rattle.specification.specs.Limits.{mostBundles}
+use Rattle.specification.specs.Tracks.{tracks}
+use Rattle.specification.specs.Count.{above}
 
 -- the row in which a bundle ends: its first, where its last is below that
 abbrev pub endOf : (ℕ → ℕ) → (ℕ → ℕ) → ℕ → ℕ
@@ -31,5 +28,5 @@ pub record Tracked (n : ℕ) (spans used₀ : List ℕ) (r : ℕ) (spans′ used
   pub past : (b : ℕ) → r ≤ b → quad 3 spans′ b ≡ quad 3 spans b
   pub kept : (k b : ℕ) → k < 3 → quad k spans′ b ≡ quad k spans b
   pub used : (c : ℕ) → c < length used₀
-      → getD used′ c 0 ≡ topIn r (λ b. eqb (quad 0 spans b) c) (λ b. getD (tracksOf r spans) b 0)
+      → getD used′ c 0 ≡ above r (λ b. eqb (quad 0 spans b) c) (λ b. getD (tracksOf r spans) b 0)
   pub long : (length spans′ ≡ length spans) × (length used′ ≡ length used₀)

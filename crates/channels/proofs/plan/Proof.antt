@@ -1,6 +1,7 @@
 -- `channels::plan` meets its contract. Assumes nothing.
 use Rattle.counting.proofs.Prelude.{refl, needs}
-use Rattle.channels.proofs.Answers.{answers-sized, sized, plan-answers}
+use Rattle.counting.proofs.Sizes.{sized}
+use Rattle.channels.proofs.Answers.{answers-sized, plan-answers}
 use Rattle.channels.proofs.plan.Statement.{statement}
 use Rattle.channels.proofs.plan.Tie as tie
 

@@ -1,6 +1,6 @@
 -- `channels::sized` meets its contract, return by return. Assumes nothing.
 use Rattle.counting.proofs.Prelude.{sym, arith, needs}
-use Rattle.channels.proofs.Answers.{none-outsized, many-outsized, sized, plan-outsized, plan-taken}
+use Rattle.counting.proofs.Sizes.{none-unsized, many-unsized, size-refused, size-taken, sized}
 use Rattle.channels.proofs.sized.Statement.{statement}
 use Rattle.channels.proofs.sized.Tie as tie
 
@@ -8,13 +8,13 @@ returns-2 : tie.Need-returns-2
 returns-2 c =
     let many = c .before .if1 .taken in
     let room = c .if2 .left in
-    record { short = λ l. absurd (omega arith); size = λ _. sym (plan-outsized _ (many-outsized _ many)); fits = λ z. absurd (omega arith) }
+    record { short = λ l. absurd (omega arith); size = λ _. sym (size-refused _ (many-unsized _ many)); fits = λ z. absurd (omega arith) }
 
 returns-4 : tie.Need-returns-4
 returns-4 c =
     let room = c .before .if3 .left in record {
       short = λ l. absurd (omega arith);
-      size = λ _. sym (plan-outsized _ (none-outsized _ (c .if4 .taken)));
+      size = λ _. sym (size-refused _ (none-unsized _ (c .if4 .taken)));
       fits = λ z. absurd (omega arith);
     }
 
@@ -23,7 +23,7 @@ returns-5 c =
     let some = c .if4 .left in
     let few = c .before .before .if1 .left in
     let room = c .before .if3 .left in
-    record { short = λ l. absurd (omega arith); size = λ _. sym (plan-taken _ (sized _ some few)); fits = λ _. (some, few, room) }
+    record { short = λ l. absurd (omega arith); size = λ _. sym (size-taken _ (sized _ some few)); fits = λ _. (some, few, room) }
 
 pub sized-spec : {M : Type 1} → statement M
 sized-spec = tie.close (tie.spec (λ c. search needs) (λ c. search needs) returns-2 (λ c. search needs) (λ c. search needs) returns-4 returns-5)

@@ -1,6 +1,6 @@
 -- `channels::walk` meets its contract: the bytes before i are looked at, and their channels laid. Assumes nothing.
 use Rattle.counting.proofs.Prelude.{refl, _∙_, _-_, _≤_, arith, length, needs}
-use Rattle.search.specs.Table.{leadsIn}
+use Rattle.specification.specs.Sets.{has?}
 use Rattle.planning.specs.Arranged.{Kept}
 use Rattle.planning.proofs.Laying.{kept-same, kept-on}
 use Rattle.channels.proofs.Walking.{Walking, walking-none, walking-length, walked-unknown, walking-more, walked-all}
@@ -11,7 +11,7 @@ use Rattle.channels.proofs.walk.Tie as tie
 abbrev Inv-loop : tie.InvT-loop
 Inv-loop n table field places₀ seen₀ fault₀ count₀ vertices₀ p₀ last₀ left₀ i₀
     places seen fault count vertices p last left i =
-    (i ≤ length field) × Walking (leadsIn table) n field i left last seen vertices fault
+    (i ≤ length field) × Walking (has? 2 table) n field i left last seen vertices fault
     × Tabling n field i left p vertices count places × Kept n places₀ places
 
 abbrev μ-loop : tie.MeasureT-loop

@@ -1,6 +1,6 @@
 use Rattle.counting.proofs.Prelude.{sym, _∙_, not-true, not-false, needs}
 use Rattle.descent.specs.Promise.{Sized}
-use Rattle.descent.proofs.Answering.{fits-sized, descends-misfit, descends-ends, descends-ready, descends-layered}
+use Rattle.descent.proofs.Answering.{fits-sized, descends-misfit, descends-ends, descends-ready, descends-ranked}
 use Rattle.descent.proofs.descend.Statement.{statement}
 use Rattle.descent.proofs.descend.Tie as tie
 
@@ -26,8 +26,8 @@ returns-2 c =
     descends-ends (a .n) (a .ends .now) (a .edges .now) (a .below .now) (a .table .now) (a .longer .now) (a .places .now) (sized right)
     (s .scanned .result) _ (s .scanned .ensures) _ (c .no-descent2 .ensures) (c .before .if2 .taken)
 
-layered-requires : tie.Need-layered-requires
-layered-requires c κs =
+ranked-requires : tie.Need-ranked-requires
+ranked-requires c κs =
     let good = c .before .before .before .before .before in
     let s = good .before .before .before in
     let right = s .before .before in
@@ -42,9 +42,9 @@ returns-3 c =
     let s = good .before .before .before in
     let right = s .before .before in
     let a = start (right .before) .args in
-    descends-layered (a .n) (a .ends .now) (a .edges .now) (a .below .now) (a .table .now) (a .longer .now) (a .places .now) (sized right)
-    (s .scanned .result) _ (s .scanned .ensures) (good .if2 .left) _ _ _ _ _ (l .layered .ensures)
-    (s .scanned .kept .1 .1 .0, l .layered .kept .1 .1 .0, l .layered .kept .1 .1 .1 .0, l .layered .kept .1 .1 .1 .1 .0, l .layered .kept .1 .1 .1 .1 .1 .0)
+    descends-ranked (a .n) (a .ends .now) (a .edges .now) (a .below .now) (a .table .now) (a .longer .now) (a .places .now) (sized right)
+    (s .scanned .result) _ (s .scanned .ensures) (good .if2 .left) _ _ _ _ _ (l .ranked .ensures)
+    (s .scanned .kept .1 .1 .0, l .ranked .kept .1 .1 .0, l .ranked .kept .1 .1 .1 .0, l .ranked .kept .1 .1 .1 .1 .0, l .ranked .kept .1 .1 .1 .1 .1 .0)
 
 pub descend-spec : {M : Type 1} → statement M
 descend-spec =
@@ -57,7 +57,7 @@ descend-spec =
     (λ c κs. search needs)
     (λ c. search needs)
     returns-2
-    layered-requires
+    ranked-requires
     (λ c. search needs)
     (λ c. search needs)
     (λ c. search needs)

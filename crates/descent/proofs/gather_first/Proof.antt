@@ -1,7 +1,7 @@
 use Rattle.counting.proofs.Prelude.{_≡_, refl, ℕ, _+_, _*_, _≤_, _<_, arith, length, getD, needs}
 use lib.Count.{trailingZeros}
 use Rattle.masks.proofs.Visiting.{lowest-lt, lowest-in, visited-less}
-use Rattle.descent.specs.Members.{Long}
+use Rattle.descent.specs.Steps.Members.{Long}
 use Rattle.descent.proofs.Gathering.{Gathering, gathering-none, gathering-more, gathering-all}
 use Rattle.descent.proofs.gather_first.Statement.{statement}
 use Rattle.descent.proofs.gather_first.Tie as tie

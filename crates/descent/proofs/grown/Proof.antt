@@ -1,5 +1,5 @@
 use Rattle.counting.proofs.Prelude.{_≡_, refl, _∙_, subst, ℕ, _+_, _-_, _*_, _≤_, zero-le, arith, length, length-set, needs}
-use Rattle.descent.specs.Members.{Below}
+use Rattle.descent.specs.Steps.Members.{Below}
 use Rattle.descent.proofs.Descending.{stored-law}
 use Rattle.descent.proofs.Rounding.{Round, round-none, round-long, round-room, round-more, round-over, round-refused}
 use Rattle.descent.proofs.grown.Statement.{statement}

@@ -1,7 +1,7 @@
 use Rattle.counting.proofs.Prelude.{_≡_, refl, _∙_, _+_, _*_, _≤_, _<_, arith, length, length-set, needs}
 use lib.Count.{trailingZeros}
 use Rattle.masks.proofs.Visiting.{lowest-lt, lowest-in, visited-less}
-use Rattle.descent.specs.Members.{Long}
+use Rattle.descent.specs.Steps.Members.{Long}
 use Rattle.descent.proofs.Rowing.{Writing, writing-none, writing-more, writing-all}
 use Rattle.descent.proofs.set_rows.Statement.{statement}
 use Rattle.descent.proofs.set_rows.Tie as tie

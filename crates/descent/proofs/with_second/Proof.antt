@@ -1,7 +1,7 @@
 use Rattle.counting.proofs.Prelude.{_+_, _*_, _≤_, _<_, arith, length, needs}
 use lib.Count.{trailingZeros}
 use Rattle.masks.proofs.Visiting.{lowest-lt, lowest-in}
-use Rattle.descent.specs.Members.{Long}
+use Rattle.descent.specs.Steps.Members.{Long}
 use Rattle.descent.proofs.Gathering.{gathering-all}
 use Rattle.descent.proofs.Skipping.{Second, second-none, second-more, skip-less}
 use Rattle.descent.proofs.with_second.Statement.{statement}

@@ -1,5 +1,5 @@
-use Rattle.counting.proofs.Prelude.{_≡_, sym, _∙_, false, _<_, arith, eqb, le-leb, lt-leb, needs}
-use Rattle.specification.specs.Sets.{at}
+use Rattle.counting.proofs.Prelude.{_≡_, sym, _∙_, false, _<_, arith, le-leb, lt-leb, needs}
+use Rattle.specification.specs.Sets.{at, has?}
 use Rattle.editing.specs.Promise.{outside?, refusalOf}
 use Rattle.editing.proofs.Machines.{verdict-unknown, verdict-duplicate, verdict-cycle, verdict-full, verdict-none}
 use Rattle.editing.proofs.Sessions.{outside-tail, outside-head, inside}
@@ -28,7 +28,7 @@ mul-contains : tie.Need-mul-contains
 mul-contains c = omega (arith, ends (c .before .before) .1)
 
 returns-3 : tie.Need-returns-3
-unfolding refusalOf at
+unfolding refusalOf at has?
 returns-3 c = (
   sym (verdict-duplicate _ _ _ _ (ends (c .before .before .before .before) .0) (sym (c .before .contains .ensures) ∙ c .if3 .taken)),
   λ e. absurd (omega arith),
@@ -38,8 +38,8 @@ comes-requires : tie.Need-comes-requires
 comes-requires c κs = ends (c .before .before .before .before .before .before) .2
 
 -- the edge is not in
-new : (c : tie.Else3) → let a = c .before .before .before .before .before .before .before .args in eqb (at 2 (a .s .edges) (a .tail) (a .head)) 1 ≡ false
-unfolding at
+new : (c : tie.Else3) → let a = c .before .before .before .before .before .before .before .args in has? 2 (a .s .edges) (a .tail) (a .head) ≡ false
+unfolding at has?
 new c = sym (c .before .contains .ensures) ∙ c .if3 .left
 
 returns-4 : tie.Need-returns-4

@@ -2,7 +2,7 @@ use Rattle.counting.proofs.Prelude.{_≡_, sym, ap, _∙_, ℕ, _+_, arith, get
 use Rattle.specification.specs.declared.Field.the-variants.{Found}
 use Rattle.specification.specs.declared.Layout.the-variants.{Bad}
 use Rattle.specification.specs.Layout.{fieldAt, withEdges, withVertices, layoutOf}
-use Rattle.fields.proofs.Placing.{Inside, found-inside}
+use Rattle.specification.proofs.Placing.{Inside, found-inside}
 use Rattle.fields.proofs.layout_of.Statement.{statement}
 use Rattle.fields.proofs.layout_of.Tie as tie
 
@@ -14,7 +14,9 @@ returns c = simp (lt-leb _ _ (c .if1 .taken))
 found : (c : tie.After-known-told) → fieldAt 1 (c .before .before .before .before .before .before .args .b .now) 0 ≡ Found (c .before .field .given .0 .0) (c .before .field .given .0 .1 .0)
 found c = sym (c .before .before .before .field-at .ensures) ∙ c .before .field .given .1
 
-inside : (c : tie.After-known-told) → Inside (c .before .before .before .before .before .before .args .b .now) 0 (c .before .field .given .0 .0) (c .before .field .given .0 .1 .0)
+inside : (c : tie.After-known-told)
+    → Inside 1 (c .before .before .before .before .before .before .args .b .now) 0
+    (c .before .field .given .0 .0) (c .before .field .given .0 .1 .0)
 inside c = found-inside 1 _ _ _ _ (found c)
 
 enum-told : tie.Need-enum-told

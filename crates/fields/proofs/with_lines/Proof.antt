@@ -2,7 +2,7 @@ use Rattle.counting.proofs.Prelude.{_≡_, sym, ap, _∙_, true, false, ℕ, _+
 use Rattle.specification.specs.declared.Field.the-variants.{Found}
 use Rattle.specification.specs.declared.Layout.the-variants.{Good, Bad}
 use Rattle.specification.specs.Layout.{fieldAt, lined, withLines}
-use Rattle.fields.proofs.Placing.{Inside, found-inside}
+use Rattle.specification.proofs.Placing.{Inside, found-inside}
 use Rattle.fields.proofs.with_lines.Statement.{statement}
 use Rattle.fields.proofs.with_lines.Tie as tie
 
@@ -10,7 +10,9 @@ use Rattle.fields.proofs.with_lines.Tie as tie
 found : (c : tie.After-known-told) → fieldAt 3 (c .before .before .before .before .before .args .b .now) (c .before .before .before .before .before .args .at) ≡ Found (c .before .field .given .0 .0) (c .before .field .given .0 .1 .0)
 found c = sym (c .before .before .before .field-at .ensures) ∙ c .before .field .given .1
 
-inside : (c : tie.After-known-told) → Inside (c .before .before .before .before .before .args .b .now) (c .before .before .before .before .before .args .at) (c .before .field .given .0 .0) (c .before .field .given .0 .1 .0)
+inside : (c : tie.After-known-told)
+    → Inside 3 (c .before .before .before .before .before .args .b .now) (c .before .before .before .before .before .args .at)
+    (c .before .field .given .0 .0) (c .before .field .given .0 .1 .0)
 inside c = found-inside 3 _ _ _ _ (found c)
 
 enum-told : tie.Need-enum-told

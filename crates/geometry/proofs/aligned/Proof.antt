@@ -3,7 +3,7 @@ use Rattle.counting.proofs.Prelude.{ℕ, _+_, _*_, _<_, arith, lit<, needs}
 use lib.IntN.{ℤ, _*ℤ_}
 use mir.Syntax.{w32}
 use mir.Val.{SFits, toZ, ofZ}
-use Rattle.geometry.specs.Signed.{Diff}
+use Rattle.geometry.specs.Steps.{Diff}
 use Rattle.geometry.proofs.Differences.{product-diff, product-fits, bits-equal}
 use Rattle.geometry.proofs.aligned.Statement.{statement}
 use Rattle.geometry.proofs.aligned.Tie as tie

@@ -1,7 +1,7 @@
 -- `kinds::crossed` meets its contract. Assumes nothing.
 use Rattle.counting.proofs.Prelude.{sym, ap, needs}
 use Rattle.specification.specs.Chart.{crossing}
-use Rattle.kinds.specs.Codes.{codeOf}
+use Rattle.specification.specs.Numbers.{codeOf}
 use Rattle.kinds.proofs.crossed.Statement.{statement}
 use Rattle.kinds.proofs.crossed.Tie as tie
 

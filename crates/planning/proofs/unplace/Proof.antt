@@ -1,12 +1,12 @@
 -- `planning::unplace` meets its contract: the first v vertices have no channel. Assumes nothing.
 use Rattle.counting.proofs.Prelude.{refl, [], _-_, _/_, _≤_, arith, length, length-set, needs}
 use Rattle.planning.specs.Arranged.{Arranged, Kept}
-use Rattle.planning.proofs.Laying.{kept-same, kept-placed, none-more}
+use Rattle.planning.proofs.Laying.{kept-same, kept-wider, kept-placed, none-more}
 use Rattle.planning.proofs.unplace.Statement.{statement}
 use Rattle.planning.proofs.unplace.Tie as tie
 
 abbrev Inv-loop : tie.InvT-loop
-Inv-loop n places₀ room v₀ places v = Arranged v [] 0 places × Kept n places₀ places × (v ≤ n) × (v ≤ length places₀ / 4)
+Inv-loop n places₀ room v₀ places v = Arranged v [] 0 places × Kept v places₀ places × (v ≤ n) × (v ≤ length places₀ / 4)
 
 abbrev μ-loop : tie.MeasureT-loop
 μ-loop n places₀ room v₀ places v = n - v
@@ -34,8 +34,12 @@ loop-again : tie.Need-loop-again Inv-loop μ-loop
 loop-again c =
     let i = c .before .before .loop .inv in
     let l = c .before .loop-test .taken in
-    let r = c .if1 .left in
-    (none-more _ _ (omega (arith, r, i .1 .long)) (i .0), kept-placed _ _ _ (i .1) _ 0 0 l, omega arith, omega arith)
+    let r = c .if1 .left in (
+      none-more _ _ (omega (arith, r, i .1 .long)) (i .0),
+      kept-placed _ _ _ (kept-wider _ _ _ (i .1) _ (omega arith)) _ 0 0 (omega arith),
+      omega arith,
+      omega arith,
+    )
 
 same-length-2 : tie.Need-same-length-2 Inv-loop μ-loop
 same-length-2 c = c .before .loop .inv .1 .long

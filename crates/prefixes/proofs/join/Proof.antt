@@ -1,6 +1,6 @@
 -- `prefixes::join` meets its contract: the sets passed have all they are to have. Assumes nothing.
 use Rattle.counting.proofs.Prelude.{_≡_, refl, _∙_, subst, ℕ, _+_, _-_, _*_, _≤_, zero-le, arith, length, getD, length-set, needs}
-use Rattle.prefixes.specs.Prefixes.{Stage}
+use Rattle.prefixes.specs.Steps.{Stage}
 use Rattle.prefixes.proofs.Stages.{stage-pair, stage-all, twice-length}
 use Rattle.prefixes.proofs.join.Statement.{statement}
 use Rattle.prefixes.proofs.join.Tie as tie

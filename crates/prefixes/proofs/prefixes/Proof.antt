@@ -1,7 +1,7 @@
 -- `prefixes::prefixes` meets its contract: the vertices passed stand in the sets after their keys. Assumes nothing.
 use Rattle.counting.proofs.Prelude.{_≡_, refl, _∙_, _-_, _/_, _≤_, min, zero-le, arith, length, needs}
 use Rattle.counting.specs.Quads.{quad}
-use Rattle.prefixes.specs.Prefixes.{Stage}
+use Rattle.prefixes.specs.Steps.{Stage}
 use Rattle.prefixes.proofs.Stages.{stage-start, put-step, stage-joined}
 use Rattle.prefixes.proofs.prefixes.Statement.{statement}
 use Rattle.prefixes.proofs.prefixes.Tie as tie

@@ -1,6 +1,7 @@
 use Rattle.counting.proofs.Prelude.{_≡_, sym, _∙_, false, _*_, _/_, _≤_, min, arith, length, needs}
+use Rattle.counting.proofs.Sizes.{outsized-back}
 use Rattle.specification.specs.Graph.{outsized?}
-use Rattle.scanning.proofs.Scanning.{outsized-positive, scans-short, scans-outsized, scans-checked}
+use Rattle.scanning.proofs.Scanning.{scans-short, scans-outsized, scans-checked}
 use Rattle.scanning.proofs.scanned.Statement.{statement}
 use Rattle.scanning.proofs.scanned.Tie as tie
 
@@ -27,7 +28,7 @@ scan-requires : tie.Need-scan-requires
 scan-requires c κs =
     let cleared = c .before .before .before .clear in
     let right = c .before .before .before .before .before in
-    let small = outsized-positive _ _ (within right) .1 in
+    let small = outsized-back _ _ (within right) .1 in
     let room = roomy (right .before .before) in
     let same = cleared .kept .0 in
     (small, omega arith, cleared .ensures)

@@ -2,8 +2,8 @@
 -- Assumes nothing.
 use Rattle.counting.proofs.Prelude.{refl, sym, _∙_, false, [], _∷_, ℕ, _<_, _-_, arith, length-set, needs}
 use Rattle.masks.proofs.Tables.{Row}
-use Rattle.specification.specs.Planning.{unvisited}
-use Rattle.search.specs.Search.{state}
+use Rattle.search.specs.Steps.Coded.{unvisited}
+use Rattle.search.specs.Steps.Search.{state}
 use Rattle.search.proofs.Going.{Going, going-start, gives-missed, gives-free, gives-moved, shut, going-stuck, nearer, falls as measure-falls}
 use Rattle.search.proofs.Open.{row-open, code-row}
 use borrow.Fn.Kinds.{In}

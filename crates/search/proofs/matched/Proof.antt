@@ -1,13 +1,13 @@
 -- `search::matched` meets its contract: what is still to be asked gives what the whole rule gives. Assumes nothing.
-use Rattle.counting.proofs.Prelude.{_≡_, refl, sym, ap, _∙_, _-_, _≤_, arith, length, needs}
-use Rattle.specification.specs.Planning.{asks, matching}
-use Rattle.search.specs.Table.{leadsIn}
+use Rattle.counting.proofs.Prelude.{_≡_, refl, _∙_, _-_, _≤_, arith, length, needs}
+use Rattle.search.specs.Steps.Coded.{asks, matching}
 use Rattle.search.proofs.Asking.{ask-none, ask-more, ask-all}
 use Rattle.search.proofs.matched.Statement.{statement}
 use Rattle.search.proofs.matched.Tie as tie
+use Rattle.specification.specs.Sets.{has?}
 
 abbrev Inv-loop : tie.InvT-loop
-Inv-loop table n most predecessor₀ h₀ predecessor h = (h ≤ most) × (length predecessor ≡ 128) × (matching (leadsIn table) most ≡ asks (leadsIn table) most (most - h) h predecessor)
+Inv-loop table n most predecessor₀ h₀ predecessor h = (h ≤ most) × (length predecessor ≡ 128) × (matching (has? 2 table) most ≡ asks (has? 2 table) most (most - h) h predecessor)
 
 abbrev μ-loop : tie.MeasureT-loop
 μ-loop table n most predecessor₀ h₀ predecessor h = most - h
@@ -28,7 +28,7 @@ loop-again c =
 returns : tie.Need-returns Inv-loop μ-loop
 returns c =
     let o = c .before .before in
-    (sym (o .loop .inv .2 ∙ ask-all _ _ _ _ (omega arith)) ∙ ap (matching _) (o .before .capped .ensures), o .loop .inv .1)
+    ask-all _ _ _ _ _ (omega arith) (o .before .capped .ensures) (o .loop .inv .2)
 
 pub matched-spec : {M : Type 1} → statement M
 matched-spec =

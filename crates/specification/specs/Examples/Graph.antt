@@ -4,7 +4,7 @@ use mathlib.Core.Bool.{true, false}
 use mathlib.Core.List.{List, [], _∷_}
 use Prim.Native.Nat.{ℕ}
 use Rattle.specification.specs.Count.{sum, count, some}
-use Rattle.specification.specs.Graph.{edge?, reaches?, outsized?, strange?, verdict, refusal, reachable?}
+use Rattle.specification.specs.Graph.{edge?, reaches?, outsized?, strange?, verdict, refusal, reachable?, unsized?}
 
 -- P1 (SPECIFICATION.md, 16.1): 0→1, 0→2, 1→3, 2→3, 3→4, 0→3
 unfoldable pub tails : List ℕ
@@ -34,7 +34,7 @@ pub record Worked : Type 0 where
   pub shorter : refusal 1 (0 ∷ 7 ∷ []) (0 ∷ []) ≡ 0
 
 pub worked : Worked
-unfolding reachable? refusal verdict outsized? strange? edge? reaches? count sum some tails heads
+unfolding reachable? refusal verdict outsized? unsized? strange? edge? reaches? count sum some tails heads
 worked = record {
   p1 = (refl, refl, refl, refl);
   four = refl;

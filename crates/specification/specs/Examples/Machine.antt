@@ -3,8 +3,8 @@ use mathlib.Core.Path.{_≡_, refl}
 use mathlib.Core.Bool.{true, false}
 use mathlib.Core.List.{List, [], _∷_}
 use Prim.Native.Nat.{ℕ, zero, suc}
-use Rattle.specification.specs.Graph.{reaches?}
-use Rattle.specification.specs.Machine.{Edge, Graph, contains, unknown?, reached?, cyclic?, full?, verdict, refusal, insert, change, reply, step, run, answers, startRefusal, startVertices, fresh}
+use Rattle.specification.specs.Graph.{reaches?, sizeRefusal, unsized?}
+use Rattle.specification.specs.Machine.{Edge, Graph, contains, unknown?, reached?, cyclic?, full?, verdict, refusal, insert, change, reply, step, run, answers, startVertices, fresh}
 use Rattle.specification.specs.Machine.Edge.{edge}
 use Rattle.specification.specs.Machine.Call.{add, leads}
 use Rattle.specification.specs.Machine.Answer.{refused, added, told}
@@ -23,9 +23,9 @@ pub record Worked : Type 0 where
   pub p9 : answers (fresh 1) (add 0 0 ∷ []) ≡ refused 5 ∷ []
   pub p10 : answers (fresh 2) (add 0 1 ∷ add 0 1 ∷ []) ≡ added ∷ refused 4 ∷ []
   -- a refused start: no vertex is known
-  pub none : startRefusal 0 ≡ 2
-  pub many : startRefusal 129 ≡ 2
-  pub most : startRefusal 128 ≡ 0
+  pub none : sizeRefusal 0 ≡ 2
+  pub many : sizeRefusal 129 ≡ 2
+  pub most : sizeRefusal 128 ≡ 0
   pub empty : answers (fresh 129) (add 0 1 ∷ leads 0 0 ∷ []) ≡ refused 3 ∷ refused 3 ∷ []
   -- a refused edge changes nothing
   pub session : answers (fresh 3) (add 0 1 ∷ add 1 2 ∷ leads 0 2 ∷ add 2 0 ∷ leads 2 0 ∷ add 0 3 ∷ leads 3 0 ∷ add 0 2 ∷ [])
@@ -37,7 +37,7 @@ pub record Worked : Type 0 where
   pub full : refusal crowded 2 3 ≡ 9
 
 pub worked : Worked
-unfolding answers run step change reply insert refusal verdict unknown? reached? cyclic? full? contains reaches? fresh machine.empty startRefusal startVertices crowded copies
+unfolding answers run step change reply insert refusal verdict unknown? reached? cyclic? full? contains reaches? fresh machine.empty sizeRefusal unsized? startVertices crowded copies
 worked = record {
   p9 = refl;
   p10 = refl;

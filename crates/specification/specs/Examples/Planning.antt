@@ -2,11 +2,11 @@
 use mathlib.Core.Path.{_≡_, refl}
 use mathlib.Core.Bool.{Bool}
 use mathlib.Core.List.{List, [], _∷_}
+use mathlib.Core.Option.{some}
 use Prim.Native.Nat.{ℕ}
 use lib.Dec.{ltb}
 use lib.ListN.{getD}
-use Rattle.specification.specs.Sets.{bit, member, inserted}
-use Rattle.specification.specs.Planning.{seen, candidate, predecessorOf, marked, taken, missed, scan, augment, asks, matching, successorFrom, successor, chain, begins, begun, planned}
+use Rattle.specification.specs.Planning.{predecessorOf, none?, is?, candidate, marked, taken, answered, freed, scan, augment, asks, matchingTo, matching, successorFrom, successor, chain, begins, begun, plannedTo, planned}
 use Rattle.specification.specs.Channels.{has, placeFrom, channelFrom, channelOf, positionOf}
 
 -- the relation in which u leads to the vertices of the list at u
@@ -55,19 +55,26 @@ unfoldable pub round : ℕ → ℕ → Bool
 unfolding related
 round = related ((0 ∷ 1 ∷ 2 ∷ []) ∷ (1 ∷ 2 ∷ []) ∷ (0 ∷ []) ∷ [])
 
+-- at last 4 takes 0 from 3, that takes 2 from 1, and that takes 3: in one search nobody tries again what was tried
+unfoldable pub once : ℕ → ℕ → Bool
+unfolding related
+once = related ([] ∷ (0 ∷ 2 ∷ 3 ∷ 4 ∷ []) ∷ [] ∷ (0 ∷ 2 ∷ 4 ∷ []) ∷ (0 ∷ 2 ∷ []) ∷ [])
+
 pub record Worked : Type 0 where
-  pub tried-once : (getD (matching round 3) 0 0 ≡ 2) × (getD (matching round 3) 1 0 ≡ 0) × (getD (matching round 3) 2 0 ≡ 1)
+  pub tried-once :
+      (predecessorOf (matching round 3) 0 ≡ some 2) × (predecessorOf (matching round 3) 1 ≡ some 0) × (predecessorOf (matching round 3) 2 ≡ some 1)
   pub proof-table : planned p2 5 ≡ (0 ∷ 1 ∷ 4 ∷ []) ∷ (2 ∷ 3 ∷ []) ∷ []
   pub moved : planned keep 4 ≡ (0 ∷ 3 ∷ []) ∷ (1 ∷ 2 ∷ []) ∷ []
   pub by-routes : planned routes 5 ≡ (0 ∷ 2 ∷ 3 ∷ []) ∷ (1 ∷ 4 ∷ []) ∷ []
   pub by-arrows : planned arrows 5 ≡ (0 ∷ 2 ∷ 3 ∷ []) ∷ (1 ∷ []) ∷ (4 ∷ []) ∷ []
   pub ascending : planned lower 5 ≡ (0 ∷ 4 ∷ []) ∷ (1 ∷ 2 ∷ []) ∷ (3 ∷ []) ∷ []
+  pub not-again : planned once 5 ≡ (1 ∷ 3 ∷ 2 ∷ []) ∷ (4 ∷ 0 ∷ []) ∷ []
   pub single : planned all 4 ≡ (0 ∷ 1 ∷ 2 ∷ 3 ∷ []) ∷ []
   pub none : planned ring 2 ≡ []
   pub places : (channelOf (planned p2 5) 3 ≡ 1) × (positionOf (planned p2 5) 4 ≡ 2)
 
 pub worked : Worked
-unfolding planned begun begins chain successor successorFrom matching asks augment scan candidate seen predecessorOf marked taken missed inserted member bit has channelFrom channelOf positionOf placeFrom p2 keep arrows routes lower all ring round related among
+unfolding planned plannedTo begun begins chain successor successorFrom matching matchingTo asks augment scan freed candidate marked taken answered predecessorOf none? is? has channelFrom channelOf positionOf placeFrom p2 keep arrows routes lower all ring round once related among
 worked = record {
   tried-once = (refl, refl, refl);
   proof-table = refl;
@@ -75,6 +82,7 @@ worked = record {
   by-routes = refl;
   by-arrows = refl;
   ascending = refl;
+  not-again = refl;
   single = refl;
   none = refl;
   places = (refl, refl);

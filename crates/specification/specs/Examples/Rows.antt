@@ -2,8 +2,9 @@
 use mathlib.Core.Path.{_≡_, refl}
 use mathlib.Core.List.{List, [], _∷_}
 use Prim.Native.Nat.{ℕ}
+use Rattle.specification.specs.Count.{above}
 use Rattle.specification.specs.Graph.{edge?}
-use Rattle.specification.specs.Rows.{above, rowWithin, row, rowsUsed}
+use Rattle.specification.specs.Rows.{rowWithin, row, rowsUsed}
 
 -- P3 (SPECIFICATION.md, 16.1): 0→1, 0→2, 1→3, 2→3, 3→4, 0→3 have rows 0 1 1 2 3
 unfoldable pub tails : List ℕ

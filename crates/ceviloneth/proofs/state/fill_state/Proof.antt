@@ -1,7 +1,7 @@
 -- `ceviloneth::state::fill_state` meets its contract: the invariant is a fill up to i. Assumes nothing.
 use Rattle.counting.proofs.Prelude.{_-_, _≤_, arith, needs}
-use Rattle.lists.specs.Filled.{Filled}
-use Rattle.ceviloneth.specs.State.{sessionBy, stateNumber}
+use Rattle.specification.specs.Lent.{Filled}
+use Rattle.ceviloneth.specs.Steps.{sessionBy, stateNumber}
 use Rattle.lists.proofs.Stores.{filled-none, filled-more, filled-all}
 use Rattle.ceviloneth.proofs.Spelling.{stored}
 use Rattle.ceviloneth.proofs.state.fill_state.Statement.{statement}

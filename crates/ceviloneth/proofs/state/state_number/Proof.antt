@@ -1,6 +1,6 @@
 -- `ceviloneth::state::state_number` meets its contract: each return rewrites with the tests that led there. Assumes nothing.
 use Rattle.counting.proofs.Prelude.{eq-eqb, ne-eqb, lt-ltb, le-ltb, needs}
-use Rattle.ceviloneth.specs.State.{sessionBy, stateNumber}
+use Rattle.ceviloneth.specs.Steps.{sessionBy, stateNumber}
 use Rattle.ceviloneth.proofs.state.state_number.Statement.{statement}
 use Rattle.ceviloneth.proofs.state.state_number.Tie as tie
 

@@ -1,5 +1,5 @@
 use Rattle.counting.proofs.Prelude.{arith, needs}
-use Rattle.specification.specs.Sets.{at}
+use Rattle.specification.specs.Sets.{at, has?}
 use Rattle.editing.proofs.Sessions.{outside-tail, outside-head, inside, leads-outside, leads-inside}
 use Rattle.editing.proofs.Session.leads.Statement.{statement}
 use Rattle.editing.proofs.Session.leads.Tie as tie
@@ -20,7 +20,7 @@ mul-contains : tie.Need-mul-contains
 mul-contains c = let k = c .before .before .before .before .capped .ensures in omega arith
 
 returns-3 : tie.Need-returns-3
-unfolding at
+unfolding at has?
 returns-3 c =
     let a = c .before .before .before .before .before .before .args in
     let k = c .before .before .before .before .before .capped .ensures in

@@ -1,0 +1,61 @@
+-- `chart_entries::sheet_of_graph` meets its contract: each return by the law of its case (`Sheets.antt`). Assumes nothing.
+use Rattle.chart_entries.proofs.Sheets.{graph-unplanned, vertices-short, edges-short, bundles-short, graph-drafted}
+use borrow.Author.Needs.{needs}
+use Rattle.chart_entries.proofs.sheet_of_graph.Statement.{statement}
+use Rattle.chart_entries.proofs.sheet_of_graph.Tie as tie
+
+returns : tie.Need-returns
+returns c =
+    let st = c .before in
+    let q = st .before .before .before .before .before .before .before .before .before .before .before .planned .ensures in
+    graph-unplanned _ _ _ _ _ _ q _ _ _ _ (st .if1 .taken) (c .blank .ensures)
+
+returns-2 : tie.Need-returns-2
+returns-2 c =
+    let st = c .before .before in
+    let q = st .before .before .before .before .before .before .before .before .before .before .before .planned .ensures in
+    vertices-short _ _ _ _ _ _ q _ _ _ _ (st .if1 .left) (c .before .if2 .taken) (c .blank2 .ensures)
+
+returns-3 : tie.Need-returns-3
+returns-3 c =
+    let st = c .before .before .before in
+    let q = st .before .before .before .before .before .before .before .before .before .before .before .planned .ensures in
+    edges-short _ _ _ _ _ _ q _ _ _ _ (st .if1 .left) (c .before .if3 .taken) (c .blank3 .ensures)
+
+returns-4 : tie.Need-returns-4
+returns-4 c =
+    let st = c .before .before .before .before .before in
+    let q = st .before .before .before .before .before .before .before .before .before .before .before .planned .ensures in
+    bundles-short _ _ _ _ _ _ q _ _ _ _ (st .if1 .left) (c .before .if4 .taken) (c .blank4 .ensures)
+
+returns-5 : tie.Need-returns-5
+returns-5 c =
+    let st = c .before .before .before .before .before in
+    let q = st .before .before .before .before .before .before .before .before .before .before .before .planned .ensures in
+    graph-drafted _ _ _ _ _ _ q _ _ _ _ (st .if1 .left) (c .before .before .before .before .if2 .left)
+    (c .before .before .before .if3 .left) (c .before .if4 .left) (c .drafted .ensures _ _)
+
+pub sheet-of-graph-spec : {M : Type 1} → statement M
+sheet-of-graph-spec =
+    tie.close
+    (tie.spec
+    (λ c. search needs)
+    (λ c. search needs)
+    (λ c. search needs)
+    (λ c. search needs)
+    (λ c. search needs)
+    (λ c. search needs)
+    (λ c. search needs)
+    (λ c. search needs)
+    (λ c. search needs)
+    (λ c κs. search needs)
+    (λ c κs. search needs)
+    returns
+    (λ c κs. search needs)
+    returns-2
+    (λ c κs. search needs)
+    returns-3
+    (λ c κs. search needs)
+    returns-4
+    (λ c κs. search needs)
+    returns-5)

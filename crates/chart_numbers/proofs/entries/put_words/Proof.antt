@@ -1,0 +1,78 @@
+-- `chart_numbers::entries::put_words` meets its contract. The invariant: the first v entries stand in the list. Assumes nothing.
+use Rattle.counting.proofs.Prelude.{_≡_, _∙_, _+_, _-_, _*_, _≤_, arith, needs}
+use Rattle.specification.specs.Numbers.{wordNumber}
+use Rattle.chart_numbers.specs.Steps.Numbers.{wordFrom}
+use Rattle.chart_numbers.proofs.Blocks.{entered, entered-none, entered-more, entered-long, entered-all}
+use Rattle.chart_numbers.proofs.Passing.{word-stored}
+use Rattle.chart_numbers.proofs.entries.put_words.Statement.{statement}
+use Rattle.chart_numbers.proofs.entries.put_words.Tie as tie
+
+abbrev Inv-loop : tie.InvT-loop
+Inv-loop out₀ places column n v₀ out v =
+    (v ≤ n) × (out ≡ entered 5 (λ w. wordNumber (wordFrom places column w)) out₀ v)
+
+abbrev μ-loop : tie.MeasureT-loop
+μ-loop out₀ places column n v₀ out v = n - v
+
+loop-holds : tie.Need-loop-holds Inv-loop μ-loop
+loop-holds c = (omega arith, entered-none _ _ _)
+
+cast-put-five : tie.Need-cast-put-five Inv-loop μ-loop
+cast-put-five c = let fit = c .shared-slice-known3 .given (4 * c .before .before .before .loop .v) .fits in record { fits = omega arith }
+
+cast-put-five-2 : tie.Need-cast-put-five-2 Inv-loop μ-loop
+cast-put-five-2 c = let fit = c .shared-slice-known4 .given (4 * c .before .before .before .before .loop .v + 1) .fits in record { fits = omega arith }
+
+cast-put-five-3 : tie.Need-cast-put-five-3 Inv-loop μ-loop
+cast-put-five-3 c = let fit = c .shared-slice-known6 .given (4 * c .before .before .before .before .before .before .loop .v + 2) .fits in record { fits = omega arith }
+
+cast-put-five-4 : tie.Need-cast-put-five-4 Inv-loop μ-loop
+cast-put-five-4 c = let fit = c .shared-slice-known7 .given (4 * c .before .before .before .before .before .before .before .loop .v + 3) .fits in record { fits = omega arith }
+
+put-five-requires : tie.Need-put-five-requires Inv-loop μ-loop
+put-five-requires c κs = omega (arith, entered-long _ _ _ _ _ (c .before .before .before .before .before .before .before .loop .inv .1))
+
+loop-again : tie.Need-loop-again Inv-loop μ-loop
+loop-again c = (
+  omega arith,
+  entered-more _ _ _ _ _ _ (c .before .before .before .before .before .before .before .before .before
+      .before .loop .inv .1) (c .before .before .put-five .ensures ∙ word-stored _ _ _ _),
+)
+
+same-length : tie.Need-same-length Inv-loop μ-loop
+same-length c = entered-long _ _ _ _ _ (c .before .loop .inv .1)
+
+returns : tie.Need-returns Inv-loop μ-loop
+returns c = entered-all _ _ _ _ _ _ (omega arith) (omega arith) (omega arith) (c .before .loop .inv .1)
+
+pub put-words-spec : {M : Type 1} → statement M
+put-words-spec =
+    tie.close
+    (tie.spec
+    Inv-loop
+    μ-loop
+    loop-holds
+    (λ c. search needs)
+    (λ c. search needs)
+    (λ c. search needs)
+    cast-put-five
+    (λ c. search needs)
+    (λ c. search needs)
+    (λ c. search needs)
+    cast-put-five-2
+    (λ c. search needs)
+    (λ c. search needs)
+    (λ c. search needs)
+    (λ c. search needs)
+    (λ c. search needs)
+    cast-put-five-3
+    (λ c. search needs)
+    (λ c. search needs)
+    (λ c. search needs)
+    cast-put-five-4
+    put-five-requires
+    (λ c. search needs)
+    (λ c. search needs)
+    loop-again
+    same-length
+    returns)

@@ -1,0 +1,92 @@
+-- `chart_numbers::recorded` meets its contract: a record is its parts, or refused with 1 (`Leaving.antt`). Assumes nothing.
+use Rattle.counting.proofs.Prelude.{sym, _∙_, arith, needs}
+use Rattle.counting.proofs.Clearing.{cleared-length}
+use Rattle.fields.proofs.Standing.{layout-good}
+use Rattle.chart_plan.proofs.Judging.{record-bad}
+use Rattle.chart_numbers.proofs.Leaving.{refused-left, record-left}
+use Rattle.chart_numbers.proofs.recorded.Statement.{statement}
+use Rattle.chart_numbers.proofs.recorded.Tie as tie
+
+-- from where the record's parts are known back to the start
+abbrev start : tie.After-struct-known → tie.Start
+start c = c .before .before .before .before .before .before .before .before .before .before
+
+enum-told : tie.Need-enum-told
+enum-told c = search needs
+
+returns : tie.Need-returns
+returns c =
+    let st = c .before .before .before .before .before .before .before .before .before in
+    refused-left _ _ _ _ _ _ _ (record-bad _ (sym (c .before .before .before .layout-of .ensures) ∙ c .before .enum-told .given .1))
+    (c .refused .ensures) (st .pre)
+
+mul-to : tie.Need-mul-to
+mul-to c =
+    let good = sym (c .before .before .before .before .layout-of .ensures) ∙ c .before .before .layout .given .1 in
+    let k = layout-good (start c .args .bytes .now) _ good in
+    let known = start c .good .0 in
+    record { fits = omega arith }
+
+add-to : tie.Need-add-to
+add-to c =
+    let good = sym (c .before .before .before .before .layout-of .ensures) ∙ c .before .before .layout .given .1 in
+    let k = layout-good (start c .args .bytes .now) _ good in
+    let known = start c .good .0 in
+    record { fits = omega arith }
+
+add-end : tie.Need-add-end
+add-end c =
+    let e = c .before in
+    let good = sym (e .before .before .before .before .layout-of .ensures) ∙ e .before .before .layout .given .1 in
+    let k = layout-good (start e .args .bytes .now) _ good in
+    let known = start e .good .0 in
+    record { fits = omega arith }
+
+part-graphed-end : tie.Need-part-graphed-end
+part-graphed-end c =
+    let e = c .before in
+    let good = sym (e .before .before .before .before .layout-of .ensures) ∙ e .before .before .layout .given .1 in
+    let k = layout-good (start e .args .bytes .now) _ good in
+    omega arith
+
+part-graphed-end-2 : tie.Need-part-graphed-end-2
+part-graphed-end-2 c =
+    let e = c .before .before in
+    let good = sym (e .before .before .before .before .layout-of .ensures) ∙ e .before .before .layout .given .1 in
+    let k = layout-good (start e .args .bytes .now) _ good in
+    omega arith
+
+graphed-requires : tie.Need-graphed-requires
+graphed-requires c κs = cleared-length 0 _ 128 (start (c .before .before .before .before .before .before .before) .pre)
+
+returns-2 : tie.Need-returns-2
+returns-2 c =
+    let called = c .before .before .before .before .before .before .before .before in
+    let e = called .before .before .before .before .before .before .before .before in
+    let good = sym (e .before .before .before .before .layout-of .ensures) ∙ e .before .before .layout .given .1 in
+    record-left (start e .args .bytes .now) _ good _ _ _ _ _ _ _ (called .graphed .ensures)
+
+pub recorded-spec : {M : Type 1} → statement M
+recorded-spec =
+    tie.close
+    (tie.spec
+    (λ c κs. search needs)
+    (λ c. search needs)
+    enum-told
+    (λ c κs. search needs)
+    returns
+    mul-to
+    add-to
+    add-end
+    (λ c. search needs)
+    (λ c. search needs)
+    part-graphed-end
+    (λ c. search needs)
+    (λ c. search needs)
+    part-graphed-end-2
+    graphed-requires
+    (λ c. search needs)
+    (λ c. search needs)
+    (λ c. search needs)
+    (λ c. search needs)
+    returns-2)

@@ -1,0 +1,27 @@
+-- What the call promises: the chart by its definitions, in the answer and in every number of the lists that are
+-- lent, or a refusal and nothing. Assumes nothing.
+use mathlib.Core.Path.{_≡_}
+use mathlib.Core.List.{List}
+use Prim.Native.Nat.{ℕ, _*_, _/_}
+use lib.ListN.{length}
+use Rattle.specification.specs.Checks.{Content, edgesOf}
+use Rattle.specification.specs.Chart.{Plan, planOf, vertexEntry, edgeEntry, bundleEntry}
+use Rattle.specification.specs.Drawn.{Drawn, recordDrawn, lent, Summary}
+use Rattle.specification.specs.Lent.{Filled}
+use Rattle.specification.specs.declared.ChartCounts.{ChartCounts}
+use Rattle.specification.specs.Numbers.{words, arrows, bundles}
+
+-- every count of the chart of c, and its entries in the lists: r is the answer, ws′, es′ and bs′ are the lists ws, es and bs afterwards
+pub record Numbered (c : Content) (p : Plan) (ws es bs : List ℕ) (r : ChartCounts) (ws′ es′ bs′ : List ℕ) : Type 0 where
+  pub summary : Summary c p r
+  pub word-list : Filled ws (words (vertexEntry c p)) (c .vertices * 5) ws′
+  pub arrow-list : Filled es (arrows (edgeEntry c p)) (edgesOf c * 5) es′
+  pub bundle-list : Filled bs (bundles (bundleEntry p)) (length (p .bundles) * 4) bs′
+
+pub record Left (d : Drawn) (ws es bs : List ℕ) (r : ChartCounts) (ws′ es′ bs′ : List ℕ) : Type 0 where
+  pub refusal : r .refusal ≡ d .refusal
+  pub numbered : Numbered (d .graph) (planOf (d .graph)) ws es bs r ws′ es′ bs′
+
+-- the record's chart, or 8 where a list has room for fewer entries (`lent`)
+abbrev pub HandedFlat : List ℕ → List ℕ → List ℕ → List ℕ → ChartCounts → List ℕ → List ℕ → List ℕ → Type 0
+HandedFlat b ws es bs = Left (lent (length ws / 5) (length es / 5) (length bs / 4) (recordDrawn b)) ws es bs

@@ -1,0 +1,4 @@
+pub mod Blocks
+pub mod Hand
+pub mod Numbers
+pub mod Pass

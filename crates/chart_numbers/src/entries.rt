@@ -1,0 +1,161 @@
+// The entries of the lists, from tables: the edges in one pass over the bytes of their ends.
+ghost use mathlib.Core.Path.{_≡_};
+ghost use mathlib.Core.Bool.{not};
+ghost use Prim.Native.Nat.{ℕ, _+_, _*_, _≤_, _<_};
+ghost use lib.ListN.{length, getD, set};
+ghost use Rattle.specification.specs.Count.{indicator};
+ghost use Rattle.counting.specs.Quads.{quad};
+ghost use Rattle.specification.specs.Sets.{member?};
+ghost use Rattle.specification.specs.Numbers.{codeOf};
+ghost use Rattle.kinds.specs.Kinds.{kindAmong};
+ghost use Rattle.specification.specs.Lent.{Filled};
+ghost use Rattle.chart_numbers.specs.Steps.Blocks.{stored};
+ghost use Rattle.specification.specs.Numbers.{words, bundles};
+ghost use Rattle.chart_numbers.specs.Steps.Numbers.{given, implied?, wordFrom, bundleFrom};
+ghost use Rattle.chart_numbers.specs.Steps.Pass.{arrowAt, Ready, Passed};
+use crate::wide;
+use specification::Code;
+
+// How many numbers an entry has.
+pub(crate) const WORD_NUMBERS: usize = 5;
+
+pub(crate) const ARROW_NUMBERS: usize = 5;
+
+pub(crate) const BUNDLE_NUMBERS: usize = 4;
+
+// ---- an entry's numbers, from place i on
+
+fn put_five(out: &mut [u16], i: usize, a: u16, b: u16, c: u16, d: u16, e: u16)
+    requires { ⌜ i + 5 ≤ length (now out) ⌝ }
+    ensures { λ _. ⌜ now (out .exit) ≡ set (set (set (set (set (now (out .entry)) i a) (i + 1) b) (i + 2) c) (i + 3) d) (i + 4) e ⌝ }
+{
+    out[i] = a;
+    out[i + 1] = b;
+    out[i + 2] = c;
+    out[i + 3] = d;
+    out[i + 4] = e;
+}
+
+// ---- edges
+
+// 1 where the edge from u to v is transitive, else 0.
+fn mark_of(longer: &[u64], u: usize, v: usize) -> u16
+    requires { ⌜ (2 * u + 2 ≤ length (now longer)) × (u < 128) × (v < 128) ⌝ }
+    ensures { λ r. ⌜ (r ≡ indicator (member? (now (longer .entry)) (2 * u) v)) × (r < 2) ⌝ }
+{
+    ((longer[2 * u + v / 64] >> (v % 64)) & 1) as u16
+}
+
+// The kind of the edge from u to v as three numbers, from the places and the bundles of its ends.
+fn kind_at<'a>(
+    places: &'a [u8],
+    number: &'a [u16],
+    columns: &'a [u16],
+    below: &'a [u64],
+    left: &'a [u64],
+    u: u8,
+    v: u8,
+) -> Code
+    requires { ⌜ (4 * u + 4 ≤ length (now places)) × (4 * v + 4 ≤ length (now places)) × (2 * u + 2 ≤ length (now number)) × (2 * v + 2 ≤ length (now number)) ⌝ }
+    ensures { λ r. ⌜ r ≡ codeOf (kindAmong (quad 0 (now (places .entry)) u) (quad 0 (now (places .entry)) v) (quad 1 (now (places .entry)) u) (quad 1 (now (places .entry)) v) (getD (now (number .entry)) (2 * v) 0) (getD (now (number .entry)) (2 * u + 1) 0) (now (columns .entry)) (now (places .entry)) (now (below .entry)) (now (left .entry)) u v) ⌝ }
+{
+    let i = wide(u);
+    let j = wide(v);
+    kinds::kind_of(
+        places[4 * i],
+        places[4 * j],
+        places[4 * i + 1],
+        places[4 * j + 1],
+        number[2 * j],
+        number[2 * i + 1],
+        columns,
+        places,
+        below,
+        left,
+        u,
+        v,
+    )
+}
+
+// Puts edge e at its place; 1 if it is reduced, else 0.
+fn put_arrow<'e, 'l, 'a>(
+    out: &mut [u16],
+    ends: &'e [u8],
+    longer: &'l [u64],
+    places: &'a [u8],
+    number: &'a [u16],
+    columns: &'a [u16],
+    below: &'a [u64],
+    left: &'a [u64],
+    e: usize,
+) -> u16
+    requires { ⌜ (e * 5 + 5 ≤ length (now out)) × Ready (given (now ends) (now longer) (now places) (now number) (now columns) (now below) (now left)) e ⌝ }
+    ensures { λ r. ⌜ (now (out .exit) ≡ stored (arrowAt (given (now (ends .entry)) (now (longer .entry)) (now (places .entry)) (now (number .entry)) (now (columns .entry)) (now (below .entry)) (now (left .entry))) e) (e * 5) 5 (now (out .entry))) × (r ≡ indicator (not (implied? (given (now (ends .entry)) (now (longer .entry)) (now (places .entry)) (now (number .entry)) (now (columns .entry)) (now (below .entry)) (now (left .entry))) e))) × (r < 2) ⌝ }
+{
+    let u = ends[2 * e];
+    let v = ends[2 * e + 1];
+    let mark = mark_of(longer, wide(u), wide(v));
+    let k = kind_at(places, number, columns, below, left, u, v);
+    put_five(
+        out,
+        e * ARROW_NUMBERS,
+        e as u16,
+        k.code as u16,
+        k.value,
+        k.row as u16,
+        mark,
+    );
+    1 - mark
+}
+
+// Puts the first m edges; how many of them are reduced.
+pub(crate) fn put_arrows<'e, 'l, 'a>(
+    out: &mut [u16],
+    ends: &'e [u8],
+    longer: &'l [u64],
+    places: &'a [u8],
+    number: &'a [u16],
+    columns: &'a [u16],
+    below: &'a [u64],
+    left: &'a [u64],
+    m: usize,
+) -> u16
+    requires { ⌜ (m * 5 ≤ length (now out)) × (m ≤ 4096) × ((e : ℕ) → e < m → Ready (given (now ends) (now longer) (now places) (now number) (now columns) (now below) (now left)) e) ⌝ }
+    ensures { λ r. ⌜ Passed (given (now (ends .entry)) (now (longer .entry)) (now (places .entry)) (now (number .entry)) (now (columns .entry)) (now (below .entry)) (now (left .entry))) (now (out .entry)) m (now (out .exit)) r ⌝ }
+{
+    let mut firm: u16 = 0;
+    for e in 0..m {
+        firm += put_arrow(out, ends, longer, places, number, columns, below, left, e);
+    }
+    firm
+}
+
+// ---- vertices and bundles
+
+pub(crate) fn put_words<'p, 'c>(out: &mut [u16], places: &'p [u8], column: &'c [u16], n: usize)
+    requires { ⌜ (n * 5 ≤ length (now out)) × (n ≤ 128) × (4 * n ≤ length (now places)) × (n ≤ length (now column)) ⌝ }
+    ensures { λ _. ⌜ Filled (now (out .entry)) (words (wordFrom (now (places .entry)) (now (column .entry)))) (n * 5) (now (out .exit)) ⌝ }
+{
+    for v in 0..n {
+        put_five(
+            out,
+            v * WORD_NUMBERS,
+            places[4 * v] as u16,
+            places[4 * v + 1] as u16,
+            column[v],
+            places[4 * v + 2] as u16,
+            places[4 * v + 3] as u16,
+        );
+    }
+}
+
+// A bundle's four numbers stand in `spans` as in the list.
+pub(crate) fn put_bundles<'s>(out: &mut [u16], spans: &'s [u8], count: usize)
+    requires { ⌜ (count ≤ 256) × (count * 4 ≤ length (now out)) × (count * 4 ≤ length (now spans)) ⌝ }
+    ensures { λ _. ⌜ Filled (now (out .entry)) (bundles (bundleFrom (now (spans .entry)))) (count * 4) (now (out .exit)) ⌝ }
+{
+    let top = count * BUNDLE_NUMBERS;
+    for i in 0..top {
+        out[i] = spans[i] as u16;
+    }
+}

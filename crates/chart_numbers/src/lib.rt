@@ -1,0 +1,295 @@
+// The chart as three lent lists of numbers (SPECIFICATION.md, 9.4), straight from what is planned: no table of edges between.
+ghost use mathlib.Core.Path.{_≡_};
+ghost use Prim.Native.Nat.{_+_, _*_, _/_, _≤_, _<_, min};
+ghost use lib.ListN.{length, replicate};
+ghost use Rattle.specification.specs.Drawn.{graphDrawn, lent};
+ghost use Rattle.chart_plan.specs.Laid.{lists, Roomy};
+ghost use Rattle.chart_numbers.specs.Chart.{Left, HandedFlat};
+ghost use Rattle.chart_numbers.specs.Steps.Hand.{noCounts, whole};
+use hand::hand_over;
+use specification::ChartCounts;
+use specification::Layout;
+
+mod entries;
+mod hand;
+
+// For so many vertices there are smaller work lists: none is longer than 256 bytes, which the compiler clears without a call.
+const FEW: usize = 15;
+
+// `ChartCounts` without the side columns: these are lent down from the public calls, so that they are copied once.
+pub(crate) struct Counts {
+    pub refusal: u8,
+    pub words: usize,
+    pub arrows: usize,
+    pub bundles: usize,
+    pub rows: u8,
+    pub lines: u8,
+    pub firm: u16,
+    pub width: u16,
+}
+
+// A byte as a usize: asks nothing of the byte, where a cast of an element asks that it fits.
+pub(crate) fn wide(x: u8) -> usize
+    ensures { λ r. ⌜ (r ≡ x) × (r < 256) ⌝ }
+{
+    x as usize
+}
+
+// No count.
+pub(crate) fn refused(refusal: u8) -> Counts
+    ensures { λ r. ⌜ r ≡ noCounts refusal ⌝ }
+{
+    Counts {
+        refusal,
+        words: 0,
+        arrows: 0,
+        bundles: 0,
+        rows: 0,
+        lines: 0,
+        firm: 0,
+        width: 0,
+    }
+}
+
+// The chart of a neutral graph into three lists and its side columns into `used`, by work lists that have room for its vertices.
+fn drawn<'g, 'f, 'e, 'b, 't, 'l, 'p, 's, 'n, 'c, 'u>(
+    n: usize,
+    ends: &'g [u8],
+    given: bool,
+    field: &'f [u8],
+    words: &mut [u16],
+    arrows: &mut [u16],
+    bundles: &mut [u16],
+    edges: &'e mut [u64],
+    below: &'b mut [u64],
+    table: &'t mut [u64],
+    longer: &'l mut [u64],
+    places: &'p mut [u8],
+    spans: &'s mut [u8],
+    number: &'n mut [u16],
+    column: &'c mut [u16],
+    used: &'u mut [u16],
+) -> Counts
+    requires { ⌜ Roomy n (lists (now edges) (now below) (now table) (now longer) (now places) (now spans) (now number) (now used) (now column)) × (2 * min n 128 + 2 ≤ length (now table)) × (length (now used) ≡ 128) ⌝ }
+    ensures { λ r. ⌜ Left (lent (length (now (words .entry)) / 5) (length (now (arrows .entry)) / 5) (length (now (bundles .entry)) / 4) (graphDrawn n (now (ends .entry)) given (now (field .entry)))) (now (words .entry)) (now (arrows .entry)) (now (bundles .entry)) (whole r (now (used .exit))) (now (words .exit)) (now (arrows .exit)) (now (bundles .exit)) ⌝ }
+{
+    let p = chart_plan::planned(
+        n,
+        ends,
+        given,
+        field,
+        edges,
+        below,
+        table,
+        longer,
+        places,
+        spans,
+        number,
+        used,
+        column,
+    );
+    // what reaches what is not read any more: its list takes the sets left of channels
+    hand_over(
+        words,
+        arrows,
+        bundles,
+        ends,
+        longer,
+        below,
+        table,
+        places,
+        spans,
+        number,
+        column,
+        used,
+        n,
+        p,
+    )
+}
+
+// The same with work lists for at most 15 vertices: clearing larger ones would take most of the time of a small chart.
+fn few<'g, 'f, 'u>(
+    n: usize,
+    ends: &'g [u8],
+    given: bool,
+    field: &'f [u8],
+    words: &mut [u16],
+    arrows: &mut [u16],
+    bundles: &mut [u16],
+    used: &'u mut [u16],
+) -> Counts
+    requires { ⌜ (n ≤ 15) × (length (now used) ≡ 128) ⌝ }
+    ensures { λ r. ⌜ Left (lent (length (now (words .entry)) / 5) (length (now (arrows .entry)) / 5) (length (now (bundles .entry)) / 4) (graphDrawn n (now (ends .entry)) given (now (field .entry)))) (now (words .entry)) (now (arrows .entry)) (now (bundles .entry)) (whole r (now (used .exit))) (now (words .exit)) (now (arrows .exit)) (now (bundles .exit)) ⌝ }
+{
+    let mut edges = [0; 30];
+    let mut below = [0; 32];
+    let mut table = [0; 32];
+    let mut longer = [0; 30];
+    let mut places = [0; 60];
+    let mut spans = [0; 120];
+    let mut number = [0; 30];
+    let mut column = [0; 15];
+    drawn(
+        n,
+        ends,
+        given,
+        field,
+        words,
+        arrows,
+        bundles,
+        &mut edges,
+        &mut below,
+        &mut table,
+        &mut longer,
+        &mut places,
+        &mut spans,
+        &mut number,
+        &mut column,
+        used,
+    )
+}
+
+// The same with work lists for as many vertices as a graph can have.
+fn many<'g, 'f, 'u>(
+    n: usize,
+    ends: &'g [u8],
+    given: bool,
+    field: &'f [u8],
+    words: &mut [u16],
+    arrows: &mut [u16],
+    bundles: &mut [u16],
+    used: &'u mut [u16],
+) -> Counts
+    requires { ⌜ length (now used) ≡ 128 ⌝ }
+    ensures { λ r. ⌜ Left (lent (length (now (words .entry)) / 5) (length (now (arrows .entry)) / 5) (length (now (bundles .entry)) / 4) (graphDrawn n (now (ends .entry)) given (now (field .entry)))) (now (words .entry)) (now (arrows .entry)) (now (bundles .entry)) (whole r (now (used .exit))) (now (words .exit)) (now (arrows .exit)) (now (bundles .exit)) ⌝ }
+{
+    let mut edges = [0; 256];
+    let mut below = [0; 258];
+    let mut table = [0; 258];
+    let mut longer = [0; 256];
+    let mut places = [0; 512];
+    let mut spans = [0; 1024];
+    let mut number = [0; 256];
+    let mut column = [0; 128];
+    drawn(
+        n,
+        ends,
+        given,
+        field,
+        words,
+        arrows,
+        bundles,
+        &mut edges,
+        &mut below,
+        &mut table,
+        &mut longer,
+        &mut places,
+        &mut spans,
+        &mut number,
+        &mut column,
+        used,
+    )
+}
+
+// The same with the smaller work lists where they are enough.
+fn graphed<'g, 'f, 'u>(
+    n: usize,
+    ends: &'g [u8],
+    given: bool,
+    field: &'f [u8],
+    words: &mut [u16],
+    arrows: &mut [u16],
+    bundles: &mut [u16],
+    used: &'u mut [u16],
+) -> Counts
+    requires { ⌜ length (now used) ≡ 128 ⌝ }
+    ensures { λ r. ⌜ Left (lent (length (now (words .entry)) / 5) (length (now (arrows .entry)) / 5) (length (now (bundles .entry)) / 4) (graphDrawn n (now (ends .entry)) given (now (field .entry)))) (now (words .entry)) (now (arrows .entry)) (now (bundles .entry)) (whole r (now (used .exit))) (now (words .exit)) (now (arrows .exit)) (now (bundles .exit)) ⌝ }
+{
+    if n <= FEW {
+        return few(n, ends, given, field, words, arrows, bundles, used);
+    }
+    many(n, ends, given, field, words, arrows, bundles, used)
+}
+
+// The same of the graph that a record says, into side columns that are 0: where its fields do not stand as they must, they stay.
+fn recorded<'u>(
+    bytes: &[u8],
+    words: &mut [u16],
+    arrows: &mut [u16],
+    bundles: &mut [u16],
+    used: &'u mut [u16],
+) -> Counts
+    requires { ⌜ now used ≡ replicate 128 0 ⌝ }
+    ensures { λ r. ⌜ HandedFlat (now (bytes .entry)) (now (words .entry)) (now (arrows .entry)) (now (bundles .entry)) (whole r (now (used .exit))) (now (words .exit)) (now (arrows .exit)) (now (bundles .exit)) ⌝ }
+{
+    let layout = fields::layout_of(bytes);
+    let Layout::Good(f) = layout else {
+        return refused(1);
+    };
+    let from = f.edges;
+    let to = from + 2 * f.count;
+    let start = f.lines;
+    let end = start + f.size;
+    graphed(
+        f.vertices,
+        &bytes[from..to],
+        f.given,
+        &bytes[start..end],
+        words,
+        arrows,
+        bundles,
+        used,
+    )
+}
+
+// The chart of a neutral graph into three lists: so many vertices, the bytes of its edges' ends, two an edge, and the bytes of its given
+// channels, if any are given. Refused with 8 where a list has no room for all its entries. Numbers past the needed ones stay.
+pub fn of_graph<'g, 'f>(
+    n: usize,
+    ends: &'g [u8],
+    given: bool,
+    field: &'f [u8],
+    words: &mut [u16],
+    arrows: &mut [u16],
+    bundles: &mut [u16],
+) -> ChartCounts
+    ensures { λ r. ⌜ Left (lent (length (now (words .entry)) / 5) (length (now (arrows .entry)) / 5) (length (now (bundles .entry)) / 4) (graphDrawn n (now (ends .entry)) given (now (field .entry)))) (now (words .entry)) (now (arrows .entry)) (now (bundles .entry)) r (now (words .exit)) (now (arrows .exit)) (now (bundles .exit)) ⌝ }
+{
+    let mut used = [0; 128];
+    let c = graphed(n, ends, given, field, words, arrows, bundles, &mut used);
+    ChartCounts {
+        refusal: c.refusal,
+        words: c.words,
+        arrows: c.arrows,
+        bundles: c.bundles,
+        rows: c.rows,
+        lines: c.lines,
+        firm: c.firm,
+        width: c.width,
+        side_columns: used,
+    }
+}
+
+// The same of the graph that a record says. Refused with 1 where the record's fields do not stand as they must.
+pub fn of_record(
+    bytes: &[u8],
+    words: &mut [u16],
+    arrows: &mut [u16],
+    bundles: &mut [u16],
+) -> ChartCounts
+    ensures { λ r. ⌜ HandedFlat (now (bytes .entry)) (now (words .entry)) (now (arrows .entry)) (now (bundles .entry)) r (now (words .exit)) (now (arrows .exit)) (now (bundles .exit)) ⌝ }
+{
+    let mut used = [0; 128];
+    let c = recorded(bytes, words, arrows, bundles, &mut used);
+    ChartCounts {
+        refusal: c.refusal,
+        words: c.words,
+        arrows: c.arrows,
+        bundles: c.bundles,
+        rows: c.rows,
+        lines: c.lines,
+        firm: c.firm,
+        width: c.width,
+        side_columns: used,
+    }
+}

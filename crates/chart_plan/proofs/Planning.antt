@@ -1,0 +1,172 @@
+-- What planning answers, by what the checks hand over. Assumes nothing.
+use Rattle.counting.proofs.Prelude.{_≡_, refl, sym, ap, _∙_, _≢_, Bool, true, false, true≢false, List, ℕ, _*_, _≤_, _<_, min, arith, leb, length, leb-true, le-leb}
+use native.Mathlib.Decide.{decLt}
+use Rattle.counting.proofs.Truth.{and-intro, and-elim}
+use Rattle.descent.specs.Promise.{Sized}
+use Rattle.specification.specs.Checks.{refusalOf}
+use Rattle.record.specs.Checked.{Checks}
+use Rattle.record.specs.declared.checks.Checked.{Checked}
+use Rattle.specification.specs.Drawn.{graphContent}
+use Rattle.chart_plan.specs.Laid.{Lists, lists, Roomy, Plans, unplannedBy}
+use Rattle.chart_plan.specs.Steps.{roomy?, Passed, Filled}
+use Rattle.chart_plan.specs.declared.Plan.{Plan}
+
+-- the test of the lists that are not of masks
+abbrev tested : ℕ → Lists → Bool
+tested n t = roomy? (min n 128) (length (t .spans)) (length (t .number)) (length (t .used)) (length (t .column))
+
+module _ (n : ℕ) (t : Lists) where
+  roomy-tested : Roomy n t → tested n t ≡ true
+  unfolding roomy?
+  roomy-tested r =
+      and-intro _ _ (le-leb _ _ (r .spans))
+      (and-intro _ _ (le-leb _ _ (r .number)) (and-intro _ _ (le-leb _ _ (r .used)) (le-leb _ _ (r .column))))
+
+  tested-roomy : tested n t ≡ true → Sized n (t .edges) (t .below) (t .table) (t .longer) (t .places) → Roomy n t
+  unfolding roomy?
+  tested-roomy h z =
+      let a = and-elim (leb (8 * min n 128) (length (t .spans))) _ h in
+      let b = and-elim (leb (2 * min n 128) (length (t .number))) _ (a .1) in
+      let c = and-elim (leb 128 (length (t .used))) _ (b .1) in
+      record {
+        masks = z;
+        spans = leb-true _ _ (a .0);
+        number = leb-true _ _ (b .0);
+        used = leb-true _ _ (c .0);
+        column = leb-true _ _ (c .1);
+      }
+
+  -- as the code tests it
+  pub tested-so : {m : ℕ} {r s : Bool} → m ≡ min n 128
+      → r ≡ roomy? m (length (t .spans)) (length (t .number)) (length (t .used)) (length (t .column)) → r ≡ s → tested n t ≡ s
+  tested-so e h y = rw (← e) (sym h ∙ y)
+
+  -- lists that have no room
+  pub cramped-plan : (ends : List ℕ) (given : Bool) (field : List ℕ) → tested n t ≡ false → (r : Plan) → r ≡ unplannedBy 8
+      → Plans n ends given field t r t
+  cramped-plan ends given field fails r made =
+      let eight : r .refusal ≡ 8 = ap (λ (x : Plan). x .refusal) made in
+      record {
+        answer = λ h. absurd (true≢false (sym (roomy-tested h) ∙ fails));
+        short = λ h. (eight, refl);
+        laid = λ z. absurd (omega arith);
+        none = λ h. made ∙ ap unplannedBy (sym eight);
+        kept = λ h. refl;
+        places-past = λ i v l h. refl;
+        column-past = λ v h. refl;
+        long = record { edges = refl; below = refl; table = refl; longer = refl; places = refl; spans = refl; number = refl; used = refl; column = refl };
+      }
+
+-- what is not short is long enough
+stable : (a b : ℕ) → ((a ≤ b → ⊥) → ⊥) → a ≤ b
+stable a b h = go (decLt b a)
+  where
+    go : Dec (b < a) → a ≤ b
+    go (yes l) = absurd (h (λ m. omega arith))
+    go (no g) = omega (arith, g)
+
+module _ {n : ℕ} {ends : List ℕ} {given : Bool} {field : List ℕ} (t : Lists) (fine : tested n t ≡ true)
+    {k : Checked} {e′ b′ t′ l′ p′ : List ℕ}
+    (p : Checks n ends given field (t .edges) (t .below) (t .table) (t .longer) (t .places) k e′ b′ t′ l′ p′) where
+  answer : Roomy n t → k .refusal ≡ refusalOf (graphContent n ends given field)
+  unfolding graphContent
+  answer r = p .answer (r .masks)
+
+  -- where lists of masks have no room
+  cramped : (Roomy n t → ⊥) → Sized n (t .edges) (t .below) (t .table) (t .longer) (t .places) → ⊥
+  cramped h z = h (tested-roomy n t fine z)
+
+  abbrev masked : Lists
+  masked = lists e′ b′ t′ l′ p′ (t .spans) (t .number) (t .used) (t .column)
+
+  untouched : (e′ ≡ t .edges) × (b′ ≡ t .below) × (t′ ≡ t .table) × (l′ ≡ t .longer) × (p′ ≡ t .places) → masked ≡ t
+  untouched s = rw (s .0, s .1, s .2, s .3, s .4) refl
+
+  -- a check fails
+  pub refused-plan : k .refusal ≢ 0 → (r : Plan) → r ≡ unplannedBy (k .refusal) → Plans n ends given field t r masked
+  refused-plan ne r made =
+      let same : r .refusal ≡ k .refusal = ap (λ (x : Plan). x .refusal) made in
+      record {
+        answer = λ h. same ∙ answer h;
+        short = λ h. let s = p .short (cramped h) in (same ∙ s .0, untouched (s .1, s .2, s .3, s .4, s .5));
+        laid = λ z. absurd (ne (sym same ∙ z));
+        none = λ h. made ∙ ap unplannedBy (sym same);
+        kept = λ h. refl;
+        places-past = p .past;
+        column-past = λ v h. refl;
+        long = record {
+          edges = p .long .0;
+          below = p .long .1;
+          table = p .long .2;
+          longer = p .long .3;
+          places = p .long .4;
+          spans = refl;
+          number = refl;
+          used = refl;
+          column = refl;
+        };
+      }
+
+  -- nothing is refused
+  module _ (z : k .refusal ≡ 0) where
+    fits : (Sized n (t .edges) (t .below) (t .table) (t .longer) (t .places) → ⊥) → ⊥
+    fits h = let s = p .short h .0 in absurd (omega arith)
+
+    roomy : Roomy n t
+    roomy = tested-roomy n t fine (record {
+      edges = stable _ _ (λ h. fits (λ w. h (w .edges)));
+      below = stable _ _ (λ h. fits (λ w. h (w .below)));
+      table = stable _ _ (λ h. fits (λ w. h (w .table)));
+      longer = stable _ _ (λ h. fits (λ w. h (w .longer)));
+      places = stable _ _ (λ h. fits (λ w. h (w .places)));
+    })
+
+    pub passed : Passed n k e′ p′ (t .spans) (t .number) (t .used) (t .column)
+    passed = record {
+      ends = ends;
+      given = given;
+      field = field;
+      below = b′;
+      table = t′;
+      longer = l′;
+      accepted = sym (answer roomy) ∙ z;
+      passes = p .passes z;
+      room = record {
+        masks = record {
+          edges = omega (arith, p .long .0, roomy .masks .edges);
+          below = omega (arith, p .long .1, roomy .masks .below);
+          table = omega (arith, p .long .2, roomy .masks .table);
+          longer = omega (arith, p .long .3, roomy .masks .longer);
+          places = omega (arith, p .long .4, roomy .masks .places);
+        };
+        spans = roomy .spans;
+        number = roomy .number;
+        used = roomy .used;
+        column = roomy .column;
+      };
+    }
+
+    pub laid-plan : {r : Plan} {spans′ number′ used′ column′ : List ℕ}
+        → Filled n k e′ p′ (t .spans) (t .number) (t .used) (t .column) r spans′ number′ used′ column′
+        → Plans n ends given field t r (lists e′ b′ t′ l′ p′ spans′ number′ used′ column′)
+    unfolding passed
+    laid-plan f = record {
+      answer = λ h. f .refusal ∙ sym z ∙ answer h;
+      short = λ h. absurd (h roomy);
+      laid = λ _. f .laid passed;
+      none = λ h. absurd (h (f .refusal));
+      kept = λ h. absurd (h (f .refusal));
+      places-past = p .past;
+      column-past = f .past;
+      long = record {
+        edges = p .long .0;
+        below = p .long .1;
+        table = p .long .2;
+        longer = p .long .3;
+        places = p .long .4;
+        spans = f .long .0;
+        number = f .long .1;
+        used = f .long .2;
+        column = f .long .3;
+      };
+    }

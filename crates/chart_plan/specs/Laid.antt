@@ -1,0 +1,110 @@
+-- What is planned of a sound graph. Assumes nothing.
+use mathlib.Core.Path.{_≡_}
+use mathlib.Core.Logic.{_≢_, _↔_}
+use mathlib.Core.Bool.{Bool}
+use mathlib.Core.List.{List}
+use Prim.Native.Nat.{ℕ, _*_, _≤_, _<_, min}
+use lib.ListN.{length, getD}
+use Rattle.counting.specs.Quads.{quad}
+use Rattle.specification.specs.Limits.{mostVertices}
+use Rattle.specification.specs.Sets.{member?, at}
+use Rattle.specification.specs.Channels.{channelOf, positionOf}
+use Rattle.specification.specs.Checks.{Content, refusalOf, Sound}
+use Rattle.specification.specs.Marks.{transitive?}
+use Rattle.specification.specs.Chart.{leads?, rowOf, rowCount, descendantsOf, planOf, tracksIn, columnIn, widthOf}
+use Rattle.specification.specs.Drawn.{graphContent}
+use Rattle.specification.specs.Lent.{Untouched}
+use Rattle.descent.specs.Promise.{Sized}
+use Rattle.bundles.specs.Promise.{Listed}
+use Rattle.chart_plan.specs.declared.Plan.{Plan}
+
+-- the lists that are lent: four of masks; of each vertex the channel, its position there, its row and how many vertices it reaches, in turn; of
+-- each bundle the channel, the first row, the last row and the track; the bundle at each end of a vertex; how many tracks each channel has; the
+-- column of each vertex
+pub record Lists : Type 0 where
+  pub edges : List ℕ
+  pub below : List ℕ
+  pub table : List ℕ
+  pub longer : List ℕ
+  pub places : List ℕ
+  pub spans : List ℕ
+  pub number : List ℕ
+  pub used : List ℕ
+  pub column : List ℕ
+
+abbrev pub lists : List ℕ → List ℕ → List ℕ → List ℕ → List ℕ → List ℕ → List ℕ → List ℕ → List ℕ → Lists
+lists edges below table longer places spans number used column = record {
+  edges = edges;
+  below = below;
+  table = table;
+  longer = longer;
+  places = places;
+  spans = spans;
+  number = number;
+  used = used;
+  column = column;
+}
+
+-- the lists have room for n vertices, 128 at most
+pub record Roomy (n : ℕ) (t : Lists) : Type 0 where
+  pub masks : Sized n (t .edges) (t .below) (t .table) (t .longer) (t .places)
+  pub spans : 8 * min n mostVertices ≤ length (t .spans)
+  pub number : 2 * min n mostVertices ≤ length (t .number)
+  pub used : mostVertices ≤ length (t .used)
+  pub column : min n mostVertices ≤ length (t .column)
+
+-- p and t have the rows, channels, bundles, tracks and columns of the graph's chart, 0 past the last bundle; `below` has, for each k up
+-- to the rows used, the set of the vertices whose row is below k, and `longer` the pairs of vertices with a vertex between. Left free,
+-- since nobody reads it, is what `below` has past the rows used, `longer` past the vertices, `used` past 128 channels, and what `edges`
+-- and `table` have
+pub record Laid (c : Content) (p : Plan) (t : Lists) : Type 0 where
+  pub sound : Sound c
+  pub row-count : p .rows ≡ rowCount c
+  pub rows : (v : ℕ) → v < c .vertices → quad 2 (t .places) v ≡ rowOf c v
+  pub descendants : (v : ℕ) → v < c .vertices → quad 3 (t .places) v ≡ descendantsOf c v
+  pub channel-count : p .channels ≡ length (planOf c .channels)
+  pub channels : (v : ℕ) → v < c .vertices → quad 0 (t .places) v ≡ channelOf (planOf c .channels) v
+  pub positions : (v : ℕ) → v < c .vertices → quad 1 (t .places) v ≡ positionOf (planOf c .channels) v
+  pub bundles : Listed (c .vertices) (planOf c .bundles) (p .bundles) (t .spans) (t .number)
+  pub track : (b : ℕ) → quad 3 (t .spans) b ≡ getD (planOf c .tracks) b 0
+  pub used : (l : ℕ) → l < mostVertices → getD (t .used) l 0 ≡ tracksIn (planOf c) l
+  pub column : (v : ℕ) → v < c .vertices → getD (t .column) v 0 ≡ columnIn (planOf c) v
+  pub width : p .width ≡ widthOf (planOf c)
+  pub longer-pairs : (u v : ℕ) → u < c .vertices → v < c .vertices → member? (t .longer) (2 * u) v ≡ transitive? (leads? c) (c .vertices) u v
+  pub below-rows : (k v : ℕ) → k ≤ rowCount c → v < mostVertices → at 2 (t .below) k v ≡ 1 ↔ ((v < c .vertices) × (rowOf c v < k))
+  pub room : Roomy (c .vertices) t
+
+-- a refusal, with nothing planned
+abbrev pub unplannedBy : ℕ → Plan
+unplannedBy k = record {
+  refusal = k;
+  rows = 0;
+  channels = 0;
+  bundles = 0;
+  width = 0;
+}
+
+-- every list is as long as it was
+pub record Long (t s : Lists) : Type 0 where
+  pub edges : length (s .edges) ≡ length (t .edges)
+  pub below : length (s .below) ≡ length (t .below)
+  pub table : length (s .table) ≡ length (t .table)
+  pub longer : length (s .longer) ≡ length (t .longer)
+  pub places : length (s .places) ≡ length (t .places)
+  pub spans : length (s .spans) ≡ length (t .spans)
+  pub number : length (s .number) ≡ length (t .number)
+  pub used : length (s .used) ≡ length (t .used)
+  pub column : length (s .column) ≡ length (t .column)
+
+-- the first check that fails, or 0 and what is planned; 8, and nothing changed, where a list has no room. After another refusal it is
+-- left free what the lists of masks and the places of the vertices hold, and the others are as they were. The places and columns past the
+-- vertices always stay
+pub record Plans (n : ℕ) (ends : List ℕ) (given : Bool) (field : List ℕ) (t : Lists) (p : Plan) (s : Lists) : Type 0 where
+  pub answer : Roomy n t → p .refusal ≡ refusalOf (graphContent n ends given field)
+  pub short : (Roomy n t → ⊥) → (p .refusal ≡ 8) × Untouched t s
+  pub laid : p .refusal ≡ 0 → Laid (graphContent n ends given field) p s
+  pub none : p .refusal ≢ 0 → p ≡ unplannedBy (p .refusal)
+  pub kept : p .refusal ≢ 0 → s ≡ lists (s .edges) (s .below) (s .table) (s .longer) (s .places) (t .spans) (t .number) (t .used) (t .column)
+  pub places-past : (k v : ℕ) → k < 4 → n ≤ v → quad k (s .places) v ≡ quad k (t .places) v
+  pub column-past : (v : ℕ) → n ≤ v → getD (s .column) v 0 ≡ getD (t .column) v 0
+  pub long : Long t s

@@ -1,5 +1,0 @@
-pub mod Above
-pub mod Depth
-pub mod Compaction
-pub mod Graphs
-pub mod Same

@@ -1,0 +1,4 @@
+pub mod Depth
+pub mod Compaction
+pub mod Graphs
+pub mod Same

@@ -1,0 +1,46 @@
+-- The limits, each under one name (SPECIFICATION.md, Limits). Assumes nothing.
+use Prim.Native.Nat.{ℕ, _+_, _*_}
+
+-- vertices of a graph
+abbrev pub mostVertices : ℕ
+mostVertices = 128
+
+-- edges of a graph
+abbrev pub mostEdges : ℕ
+mostEdges = 4096
+
+-- bytes of a record
+abbrev pub mostBytes : ℕ
+mostBytes = 65535
+
+-- columns of a page
+abbrev pub pageColumns : ℕ
+pageColumns = 640
+
+-- rows of a page
+abbrev pub pageRows : ℕ
+pageRows = 128
+
+-- vertices of a path, and so rows of a chart; a row that is not below it is that of a vertex that a cycle leads to
+abbrev pub longestPath : ℕ
+longestPath = mostVertices
+
+-- the highest number of a row, which is a byte
+abbrev pub highestRow : ℕ
+highestRow = 255
+
+-- the numbers that a row can have
+abbrev pub rowNumbers : ℕ
+rowNumbers = highestRow + 1
+
+-- bundles: two a vertex
+abbrev pub mostBundles : ℕ
+mostBundles = 2 * mostVertices
+
+-- bits of a mask
+abbrev pub maskBits : ℕ
+maskBits = 64
+
+-- masks of a table by value: two a vertex
+abbrev pub tableMasks : ℕ
+tableMasks = 2 * mostVertices
