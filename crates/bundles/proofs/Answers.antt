@@ -86,16 +86,16 @@ module _ (n channels : ℕ) (edges places : List ℕ) (v : Vertices n channels p
   }
 
   -- the work lists are filled, and the others blank
-  module _ (sets load : List ℕ) (m : Marked n low n 0 sets load) (own order spans number : List ℕ) (owned : Owned channels places n own)
+  module _ (sets load : List ℕ) (m : Marked 2 n low n 0 sets load) (own order spans number : List ℕ) (owned : Owned 2 channels places n own)
       (room : n ≤ length order) (blank : Blank n spans number) where
-    in-masks : Sets n low sets
-    in-masks = marked-all n (v .small) low n sets load (λ a b e. low-within a b e .1) m
+    in-masks : Sets 2 n low sets
+    in-masks = marked-all 2 n (v .small) low n sets load (λ a b e. low-within a b e .1) m
 
     inside : (u v : ℕ) → low u v ≡ true → (u < n) × (v < n)
     inside u v e = let p = low-within u v e in (p .1, p .2)
 
-    edges-own : Sets n (sideIn n sets) sets
-    edges-own = sets-own n (v .small) sets low inside in-masks
+    edges-own : Sets 2 n (sideIn 2 n sets) sets
+    edges-own = sets-own 2 n (v .small) sets low inside in-masks
 
     pub answer-start : Starting channels own sets places order (state 0 spans number load)
     unfolding bundles
@@ -106,13 +106,14 @@ module _ (n channels : ℕ) (edges places : List ℕ) (v : Vertices n channels p
       low = v .low;
       owned = owned;
       planned = record {
-        stands = stands-none n (v .small) (sideIn n sets) (side-inside n (v .small) sets) sets load spans number edges-own (m .loads) blank;
+        stands = stands-none 2 n (v .small) (sideIn 2 n sets) (side-inside 2 n (v .small) sets) sets load spans number edges-own (m .loads)
+            blank;
       };
     }
 
-    masks-same : (d : Bool) (a b : ℕ) → a < n → b < n → along d (sideIn n sets) a b ≡ along d low a b
-    masks-same true a b l k = side-same n (v .small) sets low inside in-masks b a k (let h = v .small in omega arith)
-    masks-same false a b l k = side-same n (v .small) sets low inside in-masks a b l (let h = v .small in omega arith)
+    masks-same : (d : Bool) (a b : ℕ) → a < n → b < n → along d (sideIn 2 n sets) a b ≡ along d low a b
+    masks-same true a b l k = side-same 2 n (v .small) sets low inside in-masks b a k (let h = v .small in omega arith)
+    masks-same false a b l k = side-same 2 n (v .small) sets low inside in-masks a b l (let h = v .small in omega arith)
 
     pub answer-all : (s : State) → ((t : Starting channels own sets places order (state 0 spans number load))
         → Planned (t .n) places sets channels s)
@@ -122,11 +123,11 @@ module _ (n channels : ℕ) (edges places : List ℕ) (v : Vertices n channels p
         let o = planned answer-start .stands .holds in
         record {
           listed = subst (λ (bs : List Bundle). Listed n bs (s .count) (s .spans) (s .number))
-              (bundles-within n (sideIn n sets) low (quad 0 places) (quad 0 places) (quad 1 places)
+              (bundles-within n (sideIn 2 n sets) low (quad 0 places) (quad 0 places) (quad 1 places)
               (quad 1 places) (quad 2 places) (quad 2 places) channels
               (λ d v w l a b. masks-same d v w a b) (λ v l. refl) (λ v l. refl) (λ v l. refl) channels (omega arith) ∙ rule-same)
-              (holds-listed n (rule (sideIn n sets)) s
-              (bundles-few n (sideIn n sets) (quad 0 places) (quad 1 places) (quad 2 places) channels) o);
+              (holds-listed n (rule (sideIn 2 n sets)) s
+              (bundles-few n (sideIn 2 n sets) (quad 0 places) (quad 1 places) (quad 2 places) channels) o);
           fourth = λ b. o .entry 3 b (omega arith);
         }
 
@@ -135,11 +136,11 @@ module _ (n channels : ℕ) (edges places : List ℕ) (v : Vertices n channels p
 module _ (channels : ℕ) (own sets places order : List ℕ) (s : State) (m : Starting channels own sets places order s)
     (c : ℕ) (t : State) (low : c < channels) (p : Planned (m .n) places sets c t) where
   pub lower-part : Part (m .n) places c (getD own (2 * c) 0) 0
-  lower-part = owned-part (m .n) channels (m .ready .small) places own (m .owned) c low 0 (getD own (2 * c) 0) 0 (omega arith)
+  lower-part = owned-part 2 (m .n) channels places own (m .owned) c low 0 (getD own (2 * c) 0) 0 (omega arith)
       (ap (λ (i : ℕ). getD own i 0) (let e : 2 * c ≡ 2 * c + 0 = omega arith in e)) refl
 
   pub upper-part : Part (m .n) places c (getD own (2 * c + 1) 0) 64
-  upper-part = owned-part (m .n) channels (m .ready .small) places own (m .owned) c low 1 (getD own (2 * c + 1) 0) 64 (omega arith)
+  upper-part = owned-part 2 (m .n) channels places own (m .owned) c low 1 (getD own (2 * c + 1) 0) 64 (omega arith)
       refl refl
 
   abbrev pub turn : Turn c (getD own (2 * c) 0) (getD own (2 * c + 1) 0) sets places t

@@ -1,7 +1,7 @@
 -- The masks of each channel's vertices: how they are filled, and which edges out of a vertex they leave; and how a loop finds that there is
 -- none to bundle. Assumes nothing.
 use Rattle.counting.proofs.Prelude.{_≡_, sym, ap, _∙_, subst, ⊎-elim, Bool, true, false, not, _&&_, List, ℕ, _+_, _-_, _*_, _/_, _%_, _^_, _≤_, _<_, min, arith, eqb, ltb, getD, set, replicate, length-replicate, eq-eqb, eqb-true, lt-ltb, le-ltb, ltb-true}
-use native.Mathlib.Nat.{not-suc-le-zero}
+use native.Mathlib.Nat.{not-suc-le-zero, mul-le-mul-left}
 use native.Mathlib.Decide.{ℕ-discrete}
 use lib.Bits.{bitAnd, bitOr}
 use lib.Pow.{pow-pos}
@@ -23,19 +23,23 @@ pub stored : (s : List ℕ) (first v : ℕ) → set s (first + v / 64)
 unfolding inserted
 stored s first v = ap (λ (x : ℕ). set s (first + v / 64) (bitOr (getD s (first + v / 64) 0) x)) (one-shl (v % 64) (omega arith))
 
--- ---- the table is filled
+-- of k sets with m masks each, mask i of set e is one
+pub mask-below : (m e k i : ℕ) → e < k → i < m → m * e + i < m * k
+mask-below m e k i h l = omega (arith, mul-le-mul-left m h)
 
-pub owned-none : (channels : ℕ) (places : List ℕ) (k : ℕ) → 2 * channels ≤ k → Owned channels places 0 (replicate k 0)
+-- ---- the table is filled, with m masks a channel
+
+pub owned-none : (m channels : ℕ) (places : List ℕ) (k : ℕ) → m * channels ≤ k → Owned m channels places 0 (replicate k 0)
 unfolding at
-owned-none channels places k room = record {
+owned-none m channels places k room = record {
   size = let e = length-replicate {A = ℕ} k 0 in omega arith;
-  only = λ c v h l e. absurd (let z = at-zeros 2 k c v in omega arith);
+  only = λ c v h l e. absurd (let z = at-zeros m k c v in omega arith);
   all = λ c v h l. absurd (not-suc-le-zero l);
 }
 
-module _ (channels : ℕ) (places own : List ℕ) (j : ℕ) (o : Owned channels places j own) where
+module _ (m channels : ℕ) (places own : List ℕ) (j : ℕ) (o : Owned m channels places j own) where
   -- the channel of j is not one of these
-  pub owned-skip : channels ≤ quad 0 places j → Owned channels places (j + 1) own
+  pub owned-skip : channels ≤ quad 0 places j → Owned m channels places (j + 1) own
   owned-skip high = record {
     size = o .size;
     only = λ c v h l e. let p = o .only c v h l e in (omega arith, p .1);
@@ -46,10 +50,10 @@ module _ (channels : ℕ) (places own : List ℕ) (j : ℕ) (o : Owned channels 
   }
 
   -- j is put into the masks of its channel
-  pub owned-put : j < 128 → quad 0 places j < channels → Owned channels places (j + 1) (inserted own (2 * quad 0 places j) j)
+  pub owned-put : j < m * 64 → quad 0 places j < channels → Owned m channels places (j + 1) (inserted own (m * quad 0 places j) j)
   unfolding at
   owned-put low small = record {
-    size = let e = length-inserted own (2 * quad 0 places j) j in let h = o .size in omega arith;
+    size = let e = length-inserted own (m * quad 0 places j) j in let h = o .size in omega arith;
     only = λ c v h l e. only c v h l e (ℕ-discrete v j) (ℕ-discrete c (quad 0 places j));
     all = λ c v h l e. ⊎-elim
         (λ k. put .other c v (omega arith) (λ p q. omega arith) ∙ o .all c v h k e)
@@ -57,32 +61,33 @@ module _ (channels : ℕ) (places own : List ℕ) (j : ℕ) (o : Owned channels 
         (lt-or-le v j);
   }
     where
-      put : Put 2 own (quad 0 places j) j (inserted own (2 * quad 0 places j) j)
-      put = put-law 2 own (quad 0 places j) j low (let h = o .size in omega arith)
+      put : Put m own (quad 0 places j) j (inserted own (m * quad 0 places j) j)
+      put = put-law m own (quad 0 places j) j low
+          (let a = mask-below m (quad 0 places j) channels (j / 64) small (omega arith) in let h = o .size in omega arith)
 
-      last : (c v : ℕ) → v ≡ j → quad 0 places v ≡ c → member (inserted own (2 * quad 0 places j) j) (2 * c) v ≡ 1
+      last : (c v : ℕ) → v ≡ j → quad 0 places v ≡ c → member (inserted own (m * quad 0 places j) j) (m * c) v ≡ 1
       last c v z e =
           let q = ap (quad 0 places) z in
           let k : c ≡ quad 0 places j = omega arith in
-          ap (λ (x : ℕ). member (inserted own (2 * quad 0 places j) j) (2 * x) v) k ∙ ap
-          (member (inserted own (2 * quad 0 places j) j) (2 * quad 0 places j)) z ∙ put .here
+          ap (λ (x : ℕ). member (inserted own (m * quad 0 places j) j) (m * x) v) k ∙ ap
+          (member (inserted own (m * quad 0 places j) j) (m * quad 0 places j)) z ∙ put .here
 
-      only : (c v : ℕ) → c < channels → v < 128 → member (inserted own (2 * quad 0 places j) j) (2 * c) v ≡ 1 → Dec (v ≡ j) → Dec
+      only : (c v : ℕ) → c < channels → v < m * 64 → member (inserted own (m * quad 0 places j) j) (m * c) v ≡ 1 → Dec (v ≡ j) → Dec
           (c ≡ quad 0 places j) → (v < j + 1) × (quad 0 places v ≡ c)
       only c v h l e (yes p) (yes q) = (omega arith, ap (quad 0 places) p ∙ sym q)
       only c v h l e (yes p) (no q) = absurd (let k = o .only c v h l (sym (put .other c v l (λ x y. q x)) ∙ e) .0 in omega arith)
       only c v h l e (no p) q = let k = o .only c v h l (sym (put .other c v l (λ x y. p y)) ∙ e) in (omega arith, k .1)
 
   -- the same as the code's loop takes it: k is the number of its channel
-  pub owned-more : (k : ℕ) → j < 128 → k ≡ quad 0 places j → k < channels
-      → Owned channels places (j + 1) (set own (2 * k + j / 64) (bitOr (getD own (2 * k + j / 64) 0) ((1 * 2 ^ (j % 64)) % 2 ^ 64)))
+  pub owned-more : (k : ℕ) → j < m * 64 → k ≡ quad 0 places j → k < channels
+      → Owned m channels places (j + 1) (set own (m * k + j / 64) (bitOr (getD own (m * k + j / 64) 0) ((1 * 2 ^ (j % 64)) % 2 ^ 64)))
   owned-more k low e small =
-      subst (Owned channels places (j + 1)) (sym (stored own (2 * k) j ∙ ap (λ (x : ℕ). inserted own (2 * x) j) e))
+      subst (Owned m channels places (j + 1)) (sym (stored own (m * k) j ∙ ap (λ (x : ℕ). inserted own (m * x) j) e))
       (owned-put low (omega arith))
 
--- ---- a channel's two masks
+-- ---- a channel's masks
 
--- a member of mask i of two
+-- a member of mask i
 pub as-bit : (s : List ℕ) (first i j : ℕ) → j < 64 → member s first (64 * i + j) ≡ bit (getD s (first + i) 0) j
 unfolding member
 as-bit s first i j l =
@@ -90,8 +95,8 @@ as-bit s first i j l =
     let y : (64 * i + j) % 64 ≡ j = omega arith in
     ap (λ (k : ℕ). bit (getD s (first + k) 0) ((64 * i + j) % 64)) x ∙ ap (bit (getD s (first + i) 0)) y
 
-module _ (n channels : ℕ) (small : n ≤ 128) (places own : List ℕ) (o : Owned channels places n own) (c : ℕ) (low : c < channels) where
-  pub owned-part : (i mask base : ℕ) → i < 2 → mask ≡ getD own (2 * c + i) 0 → base ≡ 64 * i → Part n places c mask base
+module _ (m n channels : ℕ) (places own : List ℕ) (o : Owned m channels places n own) (c : ℕ) (low : c < channels) where
+  pub owned-part : (i mask base : ℕ) → i < m → mask ≡ getD own (m * c + i) 0 → base ≡ 64 * i → Part n places c mask base
   owned-part i mask base hi e z =
       subst (Part n places c mask) (sym z)
       (record {
@@ -99,28 +104,28 @@ module _ (n channels : ℕ) (small : n ≤ 128) (places own : List ℕ) (o : Own
         all = λ j l h q. sym (here j l) ∙ o .all c (64 * i + j) low h q;
       })
     where
-      here : (j : ℕ) → j < 64 → member own (2 * c) (64 * i + j) ≡ bit mask j
-      here j l = as-bit own (2 * c) i j l ∙ ap (λ (m : ℕ). bit m j) (sym e)
+      here : (j : ℕ) → j < 64 → member own (m * c) (64 * i + j) ≡ bit mask j
+      here j l = as-bit own (m * c) i j l ∙ ap (λ (x : ℕ). bit x j) (sym e)
 
-  -- the edges out of u to its channel's vertices, without those next to it
-  module _ (edges : List ℕ) (u : ℕ) (below : u < n) (c-is : c ≡ quad 0 places u) (i mask base : ℕ) (hi : i < 2)
-      (mask-is : mask ≡ bitAnd (getD edges (2 * u + i) 0) (getD own (2 * c + i) 0)) (base-is : base ≡ 64 * i) where
+  -- the edges out of u to its channel's vertices, without those next to it; the table of edges has two masks a vertex
+  module _ (edges : List ℕ) (u : ℕ) (below : u < n) (c-is : c ≡ quad 0 places u) (i mask base : ℕ) (hi : i < m)
+      (mask-is : mask ≡ bitAnd (getD edges (2 * u + i) 0) (getD own (m * c + i) 0)) (base-is : base ≡ 64 * i) where
     abbrev far : ℕ → Bool
     far j = not (adjacent? (quad 1 places u) (quad 1 places (base + j)))
 
-    both : (j : ℕ) → j < 64 → bit mask j ≡ min (member edges (2 * u) (base + j)) (member own (2 * c) (base + j))
+    both : (j : ℕ) → j < 64 → bit mask j ≡ min (member edges (2 * u) (base + j)) (member own (m * c) (base + j))
     both j l =
-        ap (λ (m : ℕ). bit m j) mask-is
-        ∙ bit-and (getD edges (2 * u + i) 0) (getD own (2 * c + i) 0) j
-        ∙ sym (ap (λ (b : ℕ). min (member edges (2 * u) (b + j)) (member own (2 * c) (b + j))) base-is ∙ ap
-        (λ (x : ℕ). min x (member own (2 * c) (64 * i + j))) (as-bit edges (2 * u) i j l) ∙ ap
-        (min (bit (getD edges (2 * u + i) 0) j)) (as-bit own (2 * c) i j l))
+        ap (λ (x : ℕ). bit x j) mask-is
+        ∙ bit-and (getD edges (2 * u + i) 0) (getD own (m * c + i) 0) j
+        ∙ sym (ap (λ (b : ℕ). min (member edges (2 * u) (b + j)) (member own (m * c) (b + j))) base-is ∙ ap
+        (λ (x : ℕ). min x (member own (m * c) (64 * i + j))) (as-bit edges (2 * u) i j l) ∙ ap
+        (min (bit (getD edges (2 * u + i) 0) j)) (as-bit own (m * c) i j l))
 
     pub masked-heads : (j : ℕ) → j < 64 → bit mask j ≡ 1 → base + j < n
-    masked-heads j l m =
+    masked-heads j l t =
         let b = both j l in
         let x = member-lt edges (2 * u) (base + j) in
-        let y = member-lt own (2 * c) (base + j) in
+        let y = member-lt own (m * c) (base + j) in
         o .only c (base + j) low (omega arith) (omega arith) .0
 
     pub masked : (j : ℕ) → j < 64 → lowSide n channels edges places u (base + j) ≡ (eqb (bit mask j) 1 && far j)
@@ -138,7 +143,7 @@ module _ (n channels : ℕ) (small : n ≤ 128) (places own : List ℕ) (o : Own
             let s = and-elim (eqb (quad 0 places u) (quad 0 places (base + j))) (far j) (r .1) in
             let h = ltb-true (base + j) n (and-elim (ltb u n) (ltb (base + j) n) (r .0) .1) in
             let e = eqb-true (quad 0 places u) (quad 0 places (base + j)) (s .0) in
-            let m = eqb-true (member edges (2 * u) (base + j)) 1 (q .0) in
+            let f = eqb-true (member edges (2 * u) (base + j)) 1 (q .0) in
             let k = o .all c (base + j) low h (omega arith) in
             let b = both j l in
             and-intro (eqb (bit mask j) 1) (far j) (eq-eqb (bit mask j) 1 (omega arith)) (s .1)
@@ -147,9 +152,9 @@ module _ (n channels : ℕ) (small : n ≤ 128) (places own : List ℕ) (o : Own
         back t =
             let p = and-elim (eqb (bit mask j) 1) (far j) t in
             let b = both j l in
-            let m = eqb-true (bit mask j) 1 (p .0) in
+            let f = eqb-true (bit mask j) 1 (p .0) in
             let x = member-lt edges (2 * u) (base + j) in
-            let y = member-lt own (2 * c) (base + j) in
+            let y = member-lt own (m * c) (base + j) in
             let w = o .only c (base + j) low (omega arith) (omega arith) in
             let w1 = w .1 in
             and-intro _ (ltb (quad 0 places u) channels)

@@ -38,39 +38,39 @@ use Rattle.bundles.proofs.Numbers.{gathered, number-none, number-kept, 
 use Rattle.bundles.proofs.Extremes.{joined-ext, lowest-with, lowest-cut, highest-with, highest-cut}
 use Rattle.bundles.proofs.Waiting.{Of, of-here, of-there, waits-ends, turned, waiting-open, wait-gone, wait-kept, wait-fewer}
 
--- ---- the edges in the masks
+-- ---- the edges in the masks, m an end
 
-module _ (n : ℕ) (small : n ≤ 128) (sets : List ℕ) where
+module _ (m n : ℕ) (small : n ≤ m * 64) (sets : List ℕ) where
   -- an edge of the masks is between two of n vertices
-  pub side-inside : (u v : ℕ) → sideIn n sets u v ≡ true → (u < n) × (v < n)
+  pub side-inside : (u v : ℕ) → sideIn m n sets u v ≡ true → (u < n) × (v < n)
   unfolding sideIn
   side-inside u v e =
-      let a = and-elim (ltb u n && ltb v n) (member? sets (2 * endOf false u) v) e in
+      let a = and-elim (ltb u n && ltb v n) (member? sets (m * endOf false u) v) e in
       let b = and-elim (ltb u n) (ltb v n) (a .0) in
       (ltb-true u n (b .0), ltb-true v n (b .1))
 
-  module _ (side : ℕ → ℕ → Bool) (inside : (u v : ℕ) → side u v ≡ true → (u < n) × (v < n)) (s : Sets n side sets) where
-    pub side-same : (u v : ℕ) → u < n → v < 128 → sideIn n sets u v ≡ side u v
+  module _ (side : ℕ → ℕ → Bool) (inside : (u v : ℕ) → side u v ≡ true → (u < n) × (v < n)) (s : Sets m n side sets) where
+    pub side-same : (u v : ℕ) → u < n → v < m * 64 → sideIn m n sets u v ≡ side u v
     unfolding sideIn
-    side-same u v l m = ap (λ t. (ltb u n && ltb v n) && t) (s .has false u v l m) ∙ go (side u v) refl
+    side-same u v l h = ap (λ t. (ltb u n && ltb v n) && t) (s .has false u v l h) ∙ go (side u v) refl
       where
         go : (t : Bool) → side u v ≡ t → ((ltb u n && ltb v n) && side u v) ≡ side u v
         go true e = let i = inside u v e in ap₂ (λ a b. (a && b) && side u v) (lt-ltb u n (i .0)) (lt-ltb v n (i .1))
         go false e = ap (λ t. (ltb u n && ltb v n) && t) e ∙ and-no (ltb u n && ltb v n) ∙ sym e
 
     -- an edge that neither has
-    both-none : (u v : ℕ) → n ≤ u → sideIn n sets u v ≡ side u v
+    both-none : (u v : ℕ) → n ≤ u → sideIn m n sets u v ≡ side u v
     both-none u v l =
-        not-true (sideIn n sets u v) (λ e. let i = side-inside u v e .0 in omega arith)
+        not-true (sideIn m n sets u v) (λ e. let i = side-inside u v e .0 in omega arith)
         ∙ sym (not-true (side u v) (λ e. let i = inside u v e .0 in omega arith))
 
-    pub sets-own : Sets n (sideIn n sets) sets
+    pub sets-own : Sets m n (sideIn m n sets) sets
     sets-own = record { size = s .size; has = has }
       where
-        has : (d : Bool) (v w : ℕ) → v < n → w < 128 → member? sets (2 * endOf d v) w ≡ along d (sideIn n sets) v w
-        has true v w l m =
-            s .has true v w l m ∙ sym (⊎-elim (λ k. side-same w v k (omega arith)) (both-none w v) (lt-or-le w n))
-        has false v w l m = s .has false v w l m ∙ sym (side-same v w l m)
+        has : (d : Bool) (v w : ℕ) → v < n → w < m * 64 → member? sets (m * endOf d v) w ≡ along d (sideIn m n sets) v w
+        has true v w l h =
+            s .has true v w l h ∙ sym (⊎-elim (λ k. side-same w v k (omega arith)) (both-none w v) (lt-or-le w n))
+        has false v w l h = s .has false v w l h ∙ sym (side-same v w l h)
 
 -- ---- at the start
 
@@ -90,7 +90,7 @@ blank-entry l f k b = quad-zero l (blank-value l f) k b ∙ sym (part-empty k)
 indicator-member : (x : ℕ) → x < 2 → x ≡ indicator (eqb x 1)
 indicator-member x l = ⊎-elim (λ e. rw e) (λ e. rw e) (two-cases x l)
 
-module _ (n : ℕ) (small : n ≤ 128) (side : ℕ → ℕ → Bool) (inside : (u v : ℕ) → side u v ≡ true → (u < n) × (v < n)) where
+module _ (m n : ℕ) (small : n ≤ m * 64) (side : ℕ → ℕ → Bool) (inside : (u v : ℕ) → side u v ≡ true → (u < n) × (v < n)) where
   along-inside : (d : Bool) (v w : ℕ) → n ≤ w → along d side v w ≡ false
   along-inside true v w l = not-true (side w v) (λ e. let i = inside w v e in omega arith)
   along-inside false v w l = not-true (side v w) (λ e. let i = inside v w e in omega arith)
@@ -101,7 +101,7 @@ module _ (n : ℕ) (small : n ≤ 128) (side : ℕ → ℕ → Bool) (inside : (
   nothing-taken false v w = sym (and-yes (side v w))
 
   -- no bundle yet
-  pub stands-none : (sets load spans number : List ℕ) → Sets n side sets → Loaded n sets load → Blank n spans number
+  pub stands-none : (sets load spans number : List ℕ) → Sets m n side sets → Loaded m n sets load → Blank n spans number
       → Stands n side [] (state 0 spans number load)
   unfolding numberFrom count
   stands-none sets load spans number s l b = record {
@@ -113,11 +113,11 @@ module _ (n : ℕ) (small : n ≤ 128) (side : ℕ → ℕ → Bool) (inside : (
       past = λ e h k. b .number .1 .value e k;
     };
     load = λ d v h. l .value d v h
-        ∙ sum-ext 128 (member sets (2 * endOf d v)) (λ w. indicator (along d side v w))
-        (λ w m. indicator-member (member sets (2 * endOf d v) w) (member-lt sets (2 * endOf d v) w) ∙ ap indicator (s .has d v w h m))
-        ∙ sum-less n 128 (λ w. indicator (along d side v w)) small (λ w a b. ap indicator (along-inside d v w a))
+        ∙ sum-ext (m * 64) (member sets (m * endOf d v)) (λ w. indicator (along d side v w))
+        (λ w k. indicator-member (member sets (m * endOf d v) w) (member-lt sets (m * endOf d v) w) ∙ ap indicator (s .has d v w h k))
+        ∙ sum-less n (m * 64) (λ w. indicator (along d side v w)) small (λ w a b. ap indicator (along-inside d v w a))
         ∙ sum-ext n (λ w. indicator (along d side v w)) (λ w. indicator (waitsAt side [] d v w))
-        (λ w m. ap indicator (nothing-taken d v w));
+        (λ w k. ap indicator (nothing-taken d v w));
   }
 
 -- ---- after a bundle
@@ -178,8 +178,8 @@ as-long s = record { spans = refl; number = refl; load = refl }
 pub as-long-then : (s t r : State) → AsLong s t → AsLong t r → AsLong s r
 as-long-then s t r a b = record { spans = b .spans ∙ a .spans; number = b .number ∙ a .number; load = b .load ∙ a .load }
 
-pub added-long : (sets places : List ℕ) (c : ℕ) (d : Bool) (v : ℕ) (s r : State) → Added sets places c d v s r → AsLong s r
-added-long sets places c d v s r a = record {
+pub added-long : (m : ℕ) (sets places : List ℕ) (c : ℕ) (d : Bool) (v : ℕ) (s r : State) → Added m sets places c d v s r → AsLong s r
+added-long m sets places c d v s r a = record {
   spans = ap length (a .spans) ∙ simp length-set;
   number = ap length (a .number) ∙ length-set (s .number) (endOf d v) _;
   load = a .size;
@@ -200,16 +200,18 @@ same-or-not true false = inr refl
 same-or-not false true = inr refl
 same-or-not false false = inl refl
 
-module _ (n : ℕ) (small : n ≤ 128) (side : ℕ → ℕ → Bool) (inside : (u v : ℕ) → side u v ≡ true → (u < n) × (v < n))
-    (sets places : List ℕ) (s : Sets n side sets) (bs : List Bundle) (st : State) (o : Stands n side bs st) (d : Bool) (v : ℕ)
-    (below : v < n) (few : length bs < 2 * n) (some : 0 < count n (waitsAt side bs d v)) where
+-- by m masks an end; the bundles' numbers are below 256, which stands for none
+module _ (m n : ℕ) (small : n ≤ m * 64) (short : 2 * n ≤ 256) (side : ℕ → ℕ → Bool)
+    (inside : (u v : ℕ) → side u v ≡ true → (u < n) × (v < n))
+    (sets places : List ℕ) (s : Sets m n side sets) (bs : List Bundle) (st : State) (o : Stands n side bs st)
+    (d : Bool) (v : ℕ) (below : v < n) (few : length bs < 2 * n) (some : 0 < count n (waitsAt side bs d v)) where
   waits-inside : (w : ℕ) → n ≤ w → waitsAt side bs d v w ≡ false
   waits-inside w l =
       waits-ends side bs d v w
-      ∙ ap (λ t. t && (not (gathered bs d v) && not (gathered bs (not d) w))) (along-inside n small side inside d v w l)
+      ∙ ap (λ t. t && (not (gathered bs d v) && not (gathered bs (not d) w))) (along-inside m n small side inside d v w l)
 
   -- the code's test of an edge is the rule's
-  open-waits : (w : ℕ) → w < 128 → openAt sets (st .number) d v w ≡ waitsAt side bs d v w
+  open-waits : (w : ℕ) → w < m * 64 → openAt m sets (st .number) d v w ≡ waitsAt side bs d v w
   unfolding openAt
   open-waits w l =
       ⊎-elim
@@ -218,10 +220,10 @@ module _ (n : ℕ) (small : n ≤ 128) (side : ℕ → ℕ → Bool) (inside : (
       ∙ ap (λ t. along d side v w && (t && not (gathered bs (not d) w))) (sym (ap not (waiting-open side bs d v n some)))
       ∙ sym (waits-ends side bs d v w))
       (λ k. ap (λ t. t && eqb (getD (st .number) (endOf (not d) w) 0) 256)
-      (s .has d v w below l ∙ along-inside n small side inside d v w k) ∙ sym (waits-inside w k))
+      (s .has d v w below l ∙ along-inside m n small side inside d v w k) ∙ sym (waits-inside w k))
       (lt-or-le w n)
 
-  pub stands-room : 4 * n ≤ length places → Room sets places d v st
+  pub stands-room : 4 * n ≤ length places → Room m sets places d v st
   unfolding count
   stands-room h = record {
     n = n;
@@ -232,7 +234,7 @@ module _ (n : ℕ) (small : n ≤ 128) (side : ℕ → ℕ → Bool) (inside : (
     masks = s .size;
     long = h;
     inside = λ w l t. ⊎-elim (λ k. k)
-        (λ k. absurd (true≢false (sym t ∙ s .has d v w below l ∙ along-inside n small side inside d v w k))) (lt-or-le w n);
+        (λ k. absurd (true≢false (sym t ∙ s .has d v w below l ∙ along-inside m n small side inside d v w k))) (lt-or-le w n);
     counted = λ w l t. ⊎-elim
         (λ k. let e = o .load (not d) w k in
         let i = ap indicator (sym (turned side bs d w v) ∙ sym (open-waits w l) ∙ t) in
@@ -242,7 +244,7 @@ module _ (n : ℕ) (small : n ≤ 128) (side : ℕ → ℕ → Bool) (inside : (
         (lt-or-le w n);
   }
 
-  module _ (channel position : ℕ → ℕ) (c : ℕ) (r : State) (a : Added sets places c d v st r) where
+  module _ (channel position : ℕ → ℕ) (c : ℕ) (r : State) (a : Added m sets places c d v st r) where
     abbrev b : Bundle
     b = made n side channel position (quad 2 places) c bs d v
 
@@ -250,22 +252,22 @@ module _ (n : ℕ) (small : n ≤ 128) (side : ℕ → ℕ → Bool) (inside : (
     unfolding made
     of = record { direction = refl; vertex = refl }
 
-    first-is : min (lowest 128 (openAt sets (st .number) d v) (quad 2 places)) (quad 2 places v) ≡ b .first
+    first-is : min (lowest (m * 64) (openAt m sets (st .number) d v) (quad 2 places)) (quad 2 places v) ≡ b .first
     unfolding made
     first-is =
         ap (λ (x : ℕ). min x (quad 2 places v))
-        (joined-ext min 255 128 (openAt sets (st .number) d v) (waitsAt side bs d v) (quad 2 places) (quad 2 places) open-waits
+        (joined-ext min 255 (m * 64) (openAt m sets (st .number) d v) (waitsAt side bs d v) (quad 2 places) (quad 2 places) open-waits
         (λ w l. refl)
-        ∙ lowest-cut n 128 (waitsAt side bs d v) (quad 2 places) small (λ w l m. waits-inside w l))
+        ∙ lowest-cut n (m * 64) (waitsAt side bs d v) (quad 2 places) small (λ w l h. waits-inside w l))
         ∙ sym (lowest-with n (waitsAt side bs d v) (quad 2 places) v below)
 
-    last-is : max (highest 128 (openAt sets (st .number) d v) (quad 2 places)) (quad 2 places v) ≡ b .last
+    last-is : max (highest (m * 64) (openAt m sets (st .number) d v) (quad 2 places)) (quad 2 places v) ≡ b .last
     unfolding made
     last-is =
         ap (λ (x : ℕ). max x (quad 2 places v))
-        (joined-ext max 0 128 (openAt sets (st .number) d v) (waitsAt side bs d v) (quad 2 places) (quad 2 places) open-waits
+        (joined-ext max 0 (m * 64) (openAt m sets (st .number) d v) (waitsAt side bs d v) (quad 2 places) (quad 2 places) open-waits
         (λ w l. refl)
-        ∙ highest-cut n 128 (waitsAt side bs d v) (quad 2 places) small (λ w l m. waits-inside w l))
+        ∙ highest-cut n (m * 64) (waitsAt side bs d v) (quad 2 places) small (λ w l h. waits-inside w l))
         ∙ sym (highest-with n (waitsAt side bs d v) (quad 2 places) v below)
 
     channel-is : b .channel ≡ c
@@ -309,7 +311,7 @@ module _ (n : ℕ) (small : n ≤ 128) (side : ℕ → ℕ → Bool) (inside : (
       where
         same : (t : Bool) → t ≡ d → Dec (u ≡ v) → getD (r .load) (endOf t u) 0 ≡ count n (waitsAt side (bs ++ (b ∷ [])) t u)
         same t q (yes e) = rw (q, e) (a .gone ∙ sym (wait-gone side bs b d v of n))
-        same t q (no e) = rw q (a .kept u (omega arith) e ∙ o .load d u l ∙ sym (wait-kept side bs b d v of n u e))
+        same t q (no e) = rw q (a .kept u e ∙ o .load d u l ∙ sym (wait-kept side bs b d v of n u e))
 
         other : (t : Bool) → t ≡ not d → getD (r .load) (endOf t u) 0 ≡ count n (waitsAt side (bs ++ (b ∷ [])) t u)
         other t q =
@@ -324,12 +326,12 @@ module _ (n : ℕ) (small : n ≤ 128) (side : ℕ → ℕ → Bool) (inside : (
     past e h k =
         ap (λ (x : List ℕ). getD x e 0) (a .number)
         ∙ getD-set-other (st .number) (endOf d v) e (st .count) 0 (λ z. let q = end-below d n v below in omega arith)
-        ∙ o .holds .past e h (let q = added-long sets places c d v st r a .number in omega arith)
+        ∙ o .holds .past e h (let q = added-long m sets places c d v st r a .number in omega arith)
 
     pub stands-more : Stands n side (bs ++ (b ∷ [])) r
     stands-more =
         let h = o .holds in
-        let l = added-long sets places c d v st r a in
+        let l = added-long m sets places c d v st r a in
         record {
           holds = record {
             sized = record {

@@ -23,14 +23,14 @@ abbrev pub endOf : Bool → ℕ → ℕ
 endOf true v = 2 * v
 endOf false v = 2 * v + 1
 
--- of each end of n vertices, two masks have the vertices at the other ends of its edges
-pub record Sets (n : ℕ) (edge : ℕ → ℕ → Bool) (sets : List ℕ) : Type 0 where
-  pub size : 4 * n ≤ length sets
-  pub has : (into : Bool) (v w : ℕ) → v < n → w < 128 → member? sets (2 * endOf into v) w ≡ along into edge v w
+-- of each end of n vertices, m masks have the vertices at the other ends of its edges
+pub record Sets (m n : ℕ) (edge : ℕ → ℕ → Bool) (sets : List ℕ) : Type 0 where
+  pub size : m * (2 * n) ≤ length sets
+  pub has : (into : Bool) (v w : ℕ) → v < n → w < m * 64 → member? sets (m * endOf into v) w ≡ along into edge v w
 
 -- the edges that the masks have, between two of n vertices
-unfoldable pub sideIn : ℕ → List ℕ → ℕ → ℕ → Bool
-sideIn n sets u v = (ltb u n && ltb v n) && member? sets (2 * endOf false u) v
+unfoldable pub sideIn : ℕ → ℕ → List ℕ → ℕ → ℕ → Bool
+sideIn m n sets u v = (ltb u n && ltb v n) && member? sets (m * endOf false u) v
 
 -- a list has this value below j
 pub record Filled (x j : ℕ) (r : List ℕ) : Type 0 where
@@ -41,20 +41,20 @@ pub record FirstBits (k mask : ℕ) : Type 0 where
   pub only : (j : ℕ) → j < 64 → bit mask j ≡ 1 → j < k
   pub all : (j : ℕ) → j < 64 → j < k → bit mask j ≡ 1
 
--- how many vertices the set of an end has
-abbrev pub loadIn : List ℕ → ℕ → ℕ
-loadIn sets e = sum 128 (member sets (2 * e))
+-- how many vertices the set of an end has, in m masks
+abbrev pub loadIn : ℕ → List ℕ → ℕ → ℕ
+loadIn m sets e = sum (m * 64) (member sets (m * e))
 
 -- these numbers at each end of n vertices
-pub record Loaded (n : ℕ) (sets load : List ℕ) : Type 0 where
+pub record Loaded (m n : ℕ) (sets load : List ℕ) : Type 0 where
   pub size : 2 * n ≤ length load
-  pub value : (d : Bool) (v : ℕ) → v < n → getD load (endOf d v) 0 ≡ loadIn sets (endOf d v)
+  pub value : (d : Bool) (v : ℕ) → v < n → getD load (endOf d v) 0 ≡ loadIn m sets (endOf d v)
 
--- of each of so many channels, two masks have those of the first j vertices that are in it
-pub record Owned (channels : ℕ) (places : List ℕ) (j : ℕ) (own : List ℕ) : Type 0 where
-  pub size : 2 * channels ≤ length own
-  pub only : (c v : ℕ) → c < channels → v < 128 → member own (2 * c) v ≡ 1 → (v < j) × (quad 0 places v ≡ c)
-  pub all : (c v : ℕ) → c < channels → v < j → quad 0 places v ≡ c → member own (2 * c) v ≡ 1
+-- of each of so many channels, m masks have those of the first j vertices that are in it
+pub record Owned (m channels : ℕ) (places : List ℕ) (j : ℕ) (own : List ℕ) : Type 0 where
+  pub size : m * channels ≤ length own
+  pub only : (c v : ℕ) → c < channels → v < m * 64 → member own (m * c) v ≡ 1 → (v < j) × (quad 0 places v ≡ c)
+  pub all : (c v : ℕ) → c < channels → v < j → quad 0 places v ≡ c → member own (m * c) v ≡ 1
 
 -- the path-transitive edges in so many channels
 unfoldable pub lowSide : ℕ → ℕ → List ℕ → List ℕ → ℕ → ℕ → Bool
@@ -64,22 +64,23 @@ lowSide n channels edges places u v = tableSide? n edges (quad 0 places) (quad 1
 unfoldable pub upTo : (ℕ → ℕ → Bool) → ℕ → ℕ → ℕ → ℕ → Bool
 upTo side u k a b = side a b && (ltb a u || (eqb a u && ltb b k))
 
--- these are in the masks, and counted
-pub record Marked (n : ℕ) (side : ℕ → ℕ → Bool) (u k : ℕ) (sets load : List ℕ) : Type 0 where
-  pub sides : Sets n (upTo side u k) sets
-  pub loads : Loaded n sets load
+-- these are in m masks an end, and counted
+pub record Marked (m n : ℕ) (side : ℕ → ℕ → Bool) (u k : ℕ) (sets load : List ℕ) : Type 0 where
+  pub sides : Sets m n (upTo side u k) sets
+  pub loads : Loaded m n sets load
 
--- a mask has the vertices from `base` on that edges lead to from u, with some that are next to it; the edges before these are marked
-pub record Marking (mask base u : ℕ) (places sets load : List ℕ) : Type 0 where
+-- a mask has the vertices from `base` on that edges lead to from u, with some that are next to it; the edges before these are marked, in m
+-- masks an end
+pub record Marking (m mask base u : ℕ) (places sets load : List ℕ) : Type 0 where
   pub n : ℕ
   pub side : ℕ → ℕ → Bool
-  pub low : base ≤ 64
-  pub small : n ≤ 128
+  pub low : base + 64 ≤ m * 64
+  pub small : n ≤ m * 64
   pub tail : u < n
   pub long : 4 * n ≤ length places
   pub heads : (j : ℕ) → j < 64 → bit mask j ≡ 1 → base + j < n
   pub edges : (j : ℕ) → j < 64 → side u (base + j) ≡ (eqb (bit mask j) 1 && not (adjacent? (quad 1 places u) (quad 1 places (base + j))))
-  pub marked : Marked n side u base sets load
+  pub marked : Marked m n side u base sets load
 
 -- ---- the choice
 
@@ -153,7 +154,7 @@ pub record Level (order : List ℕ) (len most : ℕ) (into : Bool) (i : ℕ) (lo
 pub record Ready (n : ℕ) (sets places : List ℕ) : Type 0 where
   pub small : n ≤ 128
   pub long : 4 * n ≤ length places
-  pub masks : Sets n (sideIn n sets) sets
+  pub masks : Sets 2 n (sideIn 2 n sets) sets
 
 -- what stays while bundles of channel c are made: the order has its vertices by position
 pub record Levelling (n : ℕ) (sets places : List ℕ) (c : ℕ) (order : List ℕ) (len : ℕ) : Type 0 where
@@ -163,9 +164,9 @@ pub record Levelling (n : ℕ) (sets places : List ℕ) (c : ℕ) (order : List 
 
 -- ---- a bundle
 
--- an edge at the end that is in no bundle yet, with w at its other end
-unfoldable pub openAt : List ℕ → List ℕ → Bool → ℕ → ℕ → Bool
-openAt sets number into v w = member? sets (2 * endOf into v) w && eqb (getD number (endOf (not into) w) 0) noBundle
+-- an edge at the end, of m masks, that is in no bundle yet, with w at its other end
+unfoldable pub openAt : ℕ → List ℕ → List ℕ → Bool → ℕ → ℕ → Bool
+openAt m sets number into v w = member? sets (m * endOf into v) w && eqb (getD number (endOf (not into) w) 0) noBundle
 
 -- the same for the members of one mask of the end's set
 abbrev pub openIn : ℕ → ℕ → List ℕ → Bool → ℕ → Bool
@@ -182,8 +183,8 @@ pub record Gathered (test : ℕ → Bool) (places : List ℕ) (into : Bool) (row
   pub highest-row : last ≡ max (highest j test (quad 2 places)) row
   pub size : length is ≡ length was
   pub fewer : (w : ℕ) → w < j → getD is (endOf (not into) w) 0 + indicator (test w) ≡ getD was (endOf (not into) w) 0
-  pub from : (w : ℕ) → j ≤ w → w < 128 → getD is (endOf (not into) w) 0 ≡ getD was (endOf (not into) w) 0
-  pub kept : (w : ℕ) → w < 128 → getD is (endOf into w) 0 ≡ getD was (endOf into w) 0
+  pub from : (w : ℕ) → j ≤ w → getD is (endOf (not into) w) 0 ≡ getD was (endOf (not into) w) 0
+  pub kept : (w : ℕ) → getD is (endOf into w) 0 ≡ getD was (endOf into w) 0
 
 -- what was gathered of the vertices before the mask's becomes what is gathered with them
 abbrev pub Gathers : ℕ → ℕ → List ℕ → List ℕ → Bool → List ℕ → Span → List ℕ → Span → Type 0
@@ -214,33 +215,33 @@ pub record AsLong (s r : State) : Type 0 where
   pub number : length (r .number) ≡ length (s .number)
   pub load : length (r .load) ≡ length (s .load)
 
--- there is room for a bundle, and each of its edges is counted at its other end
-pub record Room (sets places : List ℕ) (into : Bool) (v : ℕ) (s : State) : Type 0 where
+-- there is room for a bundle, and each of its edges, in m masks an end, is counted at its other end
+pub record Room (m : ℕ) (sets places : List ℕ) (into : Bool) (v : ℕ) (s : State) : Type 0 where
   pub n : ℕ
-  pub small : n ≤ 128
+  pub small : n ≤ m * 64
   pub sized : Sized n s
   pub count : s .count < 2 * n
   pub vertex : v < n
-  pub masks : 4 * n ≤ length sets
+  pub masks : m * (2 * n) ≤ length sets
   pub long : 4 * n ≤ length places
-  pub inside : (w : ℕ) → w < 128 → member? sets (2 * endOf into v) w ≡ true → w < n
-  pub counted : (w : ℕ) → w < 128 → openAt sets (s .number) into v w ≡ true → 0 < getD (s .load) (endOf (not into) w) 0
+  pub inside : (w : ℕ) → w < m * 64 → member? sets (m * endOf into v) w ≡ true → w < n
+  pub counted : (w : ℕ) → w < m * 64 → openAt m sets (s .number) into v w ≡ true → 0 < getD (s .load) (endOf (not into) w) 0
 
 -- the first three numbers of entry b are stored
 abbrev pub stored : List ℕ → ℕ → ℕ → ℕ → ℕ → List ℕ
 stored spans b channel first last = set (set (set spans (4 * b) channel) (4 * b + 1) first) (4 * b + 2) last
 
--- r is s with the open edges of an end as the next bundle
-pub record Added (sets places : List ℕ) (c : ℕ) (into : Bool) (v : ℕ) (s r : State) : Type 0 where
+-- r is s with the open edges of an end, of m masks, as the next bundle
+pub record Added (m : ℕ) (sets places : List ℕ) (c : ℕ) (into : Bool) (v : ℕ) (s r : State) : Type 0 where
   pub count : r .count ≡ s .count + 1
   pub spans : r .spans ≡ stored (s .spans) (s .count) c
-      (min (lowest 128 (openAt sets (s .number) into v) (quad 2 places)) (quad 2 places v))
-      (max (highest 128 (openAt sets (s .number) into v) (quad 2 places)) (quad 2 places v))
+      (min (lowest (m * 64) (openAt m sets (s .number) into v) (quad 2 places)) (quad 2 places v))
+      (max (highest (m * 64) (openAt m sets (s .number) into v) (quad 2 places)) (quad 2 places v))
   pub number : r .number ≡ set (s .number) (endOf into v) (s .count)
   pub size : length (r .load) ≡ length (s .load)
   pub gone : getD (r .load) (endOf into v) 0 ≡ 0
-  pub kept : (w : ℕ) → w < 128 → w ≢ v → getD (r .load) (endOf into w) 0 ≡ getD (s .load) (endOf into w) 0
-  pub fewer : (w : ℕ) → w < 128 → getD (r .load) (endOf (not into) w) 0 + indicator (openAt sets (s .number) into v w) ≡ getD (s .load)
+  pub kept : (w : ℕ) → w ≢ v → getD (r .load) (endOf into w) 0 ≡ getD (s .load) (endOf into w) 0
+  pub fewer : (w : ℕ) → w < m * 64 → getD (r .load) (endOf (not into) w) 0 + indicator (openAt m sets (s .number) into v w) ≡ getD (s .load)
       (endOf (not into) w) 0
 
 -- ---- the state
@@ -275,7 +276,7 @@ pub record Going (n : ℕ) (side : ℕ → ℕ → Bool) (channel position row :
 
 -- the same with the lists of the code
 abbrev pub Underway : ℕ → List ℕ → List ℕ → ℕ → State → Type 0
-Underway n sets places c s = Going n (sideIn n sets) (quad 0 places) (quad 1 places) (quad 2 places) c s
+Underway n sets places c s = Going n (sideIn 2 n sets) (quad 0 places) (quad 1 places) (quad 2 places) c s
 
 -- before the ends of one direction that have `most` edges are taken
 pub record Taking (c : ℕ) (into : Bool) (most : ℕ) (order : List ℕ) (len : ℕ) (sets places : List ℕ) (s : State) : Type 0 where
@@ -286,7 +287,7 @@ pub record Taking (c : ℕ) (into : Bool) (most : ℕ) (order : List ℕ) (len :
 
 -- the state after c channels
 pub record Planned (n : ℕ) (places sets : List ℕ) (c : ℕ) (s : State) : Type 0 where
-  pub stands : Stands n (sideIn n sets) (bundles n (sideIn n sets) (quad 0 places) (quad 1 places) (quad 2 places) c) s
+  pub stands : Stands n (sideIn 2 n sets) (bundles n (sideIn 2 n sets) (quad 0 places) (quad 1 places) (quad 2 places) c) s
 
 -- before the bundles of channel c: two masks have its vertices
 pub record Turn (c low high : ℕ) (sets places : List ℕ) (s : State) : Type 0 where
@@ -304,7 +305,7 @@ pub record Starting (channels : ℕ) (own sets places order : List ℕ) (s : Sta
   pub ready : Ready n sets places
   pub room : n ≤ length order
   pub low : channels ≤ 128
-  pub owned : Owned channels places n own
+  pub owned : Owned 2 channels places n own
   pub planned : Planned n places sets 0 s
 
 -- n vertices in so many channels, with an entry each
