@@ -130,8 +130,9 @@ def demanded(root, specs):
     names, aliases = imports(lines, USE)
     words = set()
     for name, block in definitions(lines):
+        spelled = block[0].strip().startswith('abbrev ')  # what an abbreviation stands for is part of the types
         for line in block:
-            if line.strip().startswith(name + ' ') and ' = ' in line and ' : ' not in line:
+            if line.strip().startswith(name + ' ') and ' = ' in line and ' : ' not in line and not spelled:
                 break
             words |= set(NAME.findall(line))
     return set(specs.named_in(words, None, names, aliases))

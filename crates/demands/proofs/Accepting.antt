@@ -3,17 +3,13 @@ use Rattle.counting.proofs.Prelude.{_≡_, refl, sym, ap, _∙_, subst, _↔_, 
 use Rattle.counting.proofs.Truth.{lt-or-le, true-or-false, or-neither}
 use Rattle.specification.specs.Checks.{Content, edgesOf, refusalOf, Sound, SoundRecord, contentOf, contentIn, recordRefusal, said}
 use Rattle.specification.specs.Chart.{planOf, tracksIn}
-use Rattle.specification.specs.declared.VertexEntry.{VertexEntry}
-use Rattle.specification.specs.declared.EdgeEntry.{EdgeEntry}
-use Rattle.specification.specs.declared.BundleEntry.{BundleEntry}
-use Rattle.specification.specs.Drawn.{Drawn, judged, recordDrawn, graphContent, graphDrawn, short?}
+use Rattle.specification.specs.Drawn.{Drawn, judged, recordDrawn, graphContent, graphDrawn, short?, lent, Summary}
 use Rattle.record.proofs.Soundness.{accepted-sound, sound-accepted, record-sound}
 use Rattle.chart_laws.proofs.Channels.{channels-few, vertices-small}
 use Rattle.chart_laws.proofs.Bundling.{plan-channels, tracks-past}
 use Rattle.chart_plan.proofs.Shortage.{enough, lent-short, lent-whole}
 use Rattle.specification.specs.declared.ChartCounts.{ChartCounts}
-use Rattle.chart_entries.specs.Promise.{Listed, HandedOver}
-use Rattle.demands.specs.Demands.{entriesIn, seen, Faithful, Roomy, Smallest, Carried}
+use Rattle.demands.specs.Demands.{Entries, seen, Faithful, Roomy, Smallest, Carried}
 use Rattle.demands.proofs.Agreeing.{Shown, Agrees, seen-agrees}
 use Rattle.demands.proofs.Least.{agreed-smallest, agreed-counted}
 use Rattle.demands.proofs.Showing.{shown-faithful}
@@ -39,108 +35,129 @@ module _ (n : ℕ) (ends : List ℕ) (given : Bool) (field : List ℕ) where
   unfolding graphDrawn judged
   graph-drawn e = rw (eq-eqb _ _ e) refl
 
--- ---- calls
+-- ---- counts and entries of the chart of a sound graph
 
-module _ (vs vs′ : List VertexEntry) (es es′ : List EdgeEntry) (bs bs′ : List BundleEntry) (r : ChartCounts) where
+module _ (c : Content) (s : Sound c) (r : ChartCounts) (q : Summary c (planOf c) r) (n : Entries) (shown : Shown c n) where
+  agrees : Agrees c (seen c r n)
+  agrees = seen-agrees c s r n shown (q .lines) (q .bundles)
+
+  -- past the last line there is no side column
+  tracks-all : (p : ℕ) → tracksIn (planOf c) p ≡ getD (r .«side_columns») p 0
+  tracks-all p = ⊎-elim
+      (λ h. sym (q .side-columns p h))
+      (λ h.
+      tracks-past c s p (omega (arith, channels-few c s, vertices-small c s))
+      ∙ sym (List·getD-eq-default (r .«side_columns») 0 (omega (arith, q .long))))
+      (lt-or-le p 128)
+
+  shown-smallest : Smallest c (seen c r n) × Carried c (seen c r n) r
+  shown-smallest =
+      let k = agreed-counted c s _ agrees in (
+        agreed-smallest c s _ agrees,
+        record {
+          row-count = k .row-count ∙ sym (q .rows);
+          line-count = k .line-count ∙ sym (q .lines ∙ ap length (plan-channels c s));
+          link-count = k .link-count ∙ sym (q .firm);
+          bundle-count = k .bundle-count ∙ sym (q .bundles);
+          side-counts = λ p. k .side-counts p ∙ tracks-all p;
+        },
+      )
+
+-- ---- every call
+
+-- what a call answers and leaves, of lists of v, e and b entries that are read as the entries n
+pub record Handed (v e b : ℕ) (d : Drawn) (r : ChartCounts) (n : Entries) : Type 0 where
+  pub refusal : r .refusal ≡ lent v e b d .refusal
+  pub summary : Summary (lent v e b d .graph) (planOf (lent v e b d .graph)) r
+  pub shown : Shown (lent v e b d .graph) n
+
+module _ (v e b : ℕ) (d : Drawn) where
   -- no list is short
-  roomy : (d : Drawn) → short? (length vs) (length es) (length bs) d ≡ false → Roomy (d .graph) vs es bs
+  pub roomy : short? v e b d ≡ false → Roomy (d .graph) v e b
   unfolding short?
-  roomy d e =
-      let a = or-neither (ltb (length vs) (d .graph .vertices)) (ltb (length es) (edgesOf (d .graph)) || ltb (length bs) (length (planOf (d .graph) .bundles))) e in
-      let b = or-neither (ltb (length es) (edgesOf (d .graph))) (ltb (length bs) (length (planOf (d .graph) .bundles))) (a .1) in
-      record { vertices = ltb-false _ _ (a .0); edges = ltb-false _ _ (b .0); bundles = ltb-false _ _ (b .1) }
+  roomy t =
+      let x = or-neither (ltb v (d .graph .vertices)) (ltb e (edgesOf (d .graph)) || ltb b (length (planOf (d .graph) .bundles))) t in
+      let y = or-neither (ltb e (edgesOf (d .graph))) (ltb b (length (planOf (d .graph) .bundles))) (x .1) in
+      record { vertices = ltb-false _ _ (x .0); edges = ltb-false _ _ (y .0); bundles = ltb-false _ _ (y .1) }
 
-  module _ (d : Drawn) (h : HandedOver d vs es bs r vs′ es′ bs′) where
+  pub roomy-enough : Roomy (d .graph) v e b → short? v e b d ≡ false
+  roomy-enough m = enough v e b d (m .vertices) (m .edges) (m .bundles)
+
+  module _ (r : ChartCounts) (n : Entries) (h : Handed v e b d r n) where
     -- where 0 is answered the graph is drawn whole
-    whole : r .refusal ≡ 0 → short? (length vs) (length es) (length bs) d ≡ false
-    whole e = ⊎-elim
-        (λ t. absurd (omega (arith, h .refusal, ap (λ (x : Drawn). x .refusal) (lent-short (length vs) (length es) (length bs) d t))))
+    whole : r .refusal ≡ 0 → short? v e b d ≡ false
+    whole z = ⊎-elim
+        (λ t. absurd (omega (arith, h .refusal, ap (λ (x : Drawn). x .refusal) (lent-short v e b d t))))
         (λ t. t)
-        (true-or-false (short? (length vs) (length es) (length bs) d))
+        (true-or-false (short? v e b d))
 
-    call-accepted : (r .refusal ≡ 0) ↔ ((d .refusal ≡ 0) × Roomy (d .graph) vs es bs)
+    call-accepted : (r .refusal ≡ 0) ↔ ((d .refusal ≡ 0) × Roomy (d .graph) v e b)
     call-accepted = (
-      (λ e. let t = whole e in (sym (ap (λ (x : Drawn). x .refusal) (lent-whole (length vs) (length es) (length bs) d t)) ∙ sym (h .refusal) ∙ e, roomy d t)),
-      λ q.
-          let m = q .1 in
-          h .refusal ∙ ap (λ (x : Drawn). x .refusal) (lent-whole (length vs) (length es) (length bs) d (enough (length vs) (length es) (length bs) d (m .vertices) (m .edges) (m .bundles))) ∙ q .0,
+      (λ z. let t = whole z in (sym (ap (λ (x : Drawn). x .refusal) (lent-whole v e b d t)) ∙ sym (h .refusal) ∙ z, roomy t)),
+      λ q. h .refusal ∙ ap (λ (x : Drawn). x .refusal) (lent-whole v e b d (roomy-enough (q .1))) ∙ q .0,
     )
 
-    call-listed : r .refusal ≡ 0 → (c : Content) → d .graph ≡ c → Listed c (planOf c) vs es bs r vs′ es′ bs′
-    call-listed e c i =
-        subst (λ (x : Content). Listed x (planOf x) vs es bs r vs′ es′ bs′) (ap (λ (x : Drawn). x .graph) (lent-whole (length vs) (length es) (length bs) d (whole e)) ∙ i) (h .listed)
+    module _ (z : r .refusal ≡ 0) (c : Content) (i : d .graph ≡ c) (s : Sound c) where
+      whole-graph : lent v e b d .graph ≡ c
+      whole-graph = ap (λ (x : Drawn). x .graph) (lent-whole v e b d (whole z)) ∙ i
 
-  -- ---- what they leave
+      call-shown : Shown c n
+      call-shown = subst (λ (x : Content). Shown x n) whole-graph (h .shown)
 
-  module _ (c : Content) (s : Sound c) (l : Listed c (planOf c) vs es bs r vs′ es′ bs′) where
-    list-shown : Shown c (entriesIn vs′ es′ bs′)
-    list-shown = record {
-      vertex = λ v h. l .vertex-list .made v _ h;
-      edge = λ e h. l .edge-list .made e _ h;
-      bundle = λ b h. l .bundle-list .made b _ h;
-    }
+      call-faithful : Faithful c n
+      call-faithful = shown-faithful c s n call-shown
 
-    list-agrees : Agrees c (seen c r (entriesIn vs′ es′ bs′))
-    list-agrees = seen-agrees c s r (entriesIn vs′ es′ bs′) list-shown (l .summary .lines) (l .summary .bundles)
+      call-smallest : Smallest c (seen c r n) × Carried c (seen c r n) r
+      call-smallest = shown-smallest c s r (subst (λ (x : Content). Summary x (planOf x) r) whole-graph (h .summary)) n call-shown
 
-    -- past the last line there is no side column
-    tracks-all : (p : ℕ) → tracksIn (planOf c) p ≡ getD (r .«side_columns») p 0
-    tracks-all p = ⊎-elim
-        (λ h. sym (l .summary .side-columns p h))
-        (λ h. tracks-past c s p (omega (arith, channels-few c s, vertices-small c s)) ∙ sym (List·getD-eq-default (r .«side_columns») 0 (omega (arith, l .summary .long))))
-        (lt-or-le p 128)
+-- ---- of a record, and of a graph
 
-    pub listed-smallest : Smallest c (seen c r (entriesIn vs′ es′ bs′)) × Carried c (seen c r (entriesIn vs′ es′ bs′)) r
-    listed-smallest =
-        let k = agreed-counted c s _ list-agrees in (
-          agreed-smallest c s _ list-agrees,
-          record {
-            row-count = k .row-count ∙ sym (l .summary .rows);
-            line-count = k .line-count ∙ sym (l .summary .lines ∙ ap length (plan-channels c s));
-            link-count = k .link-count ∙ sym (l .summary .firm);
-            bundle-count = k .bundle-count ∙ sym (l .summary .bundles);
-            side-counts = λ p. k .side-counts p ∙ tracks-all p;
-          },
-        )
+module _ (v e k : ℕ) (b : List ℕ) (r : ChartCounts) (n : Entries) (h : Handed v e k (recordDrawn b) r n) where
+  pub said-accepted : (r .refusal ≡ 0) ↔ (SoundRecord b × Roomy (said b) v e k)
+  unfolding recordDrawn
+  said-accepted =
+      let a = call-accepted v e k (recordDrawn b) r n h in
+      ((λ z. (record-sound b .0 (a .0 z .0), a .0 z .1)), λ q. a .1 (record-sound b .1 (q .0), q .1))
 
-    pub listed-faithful : Faithful c (entriesIn vs′ es′ bs′)
-    listed-faithful = shown-faithful c s (entriesIn vs′ es′ bs′) list-shown
+  sound : r .refusal ≡ 0 → Sound (said b)
+  sound z = said-sound b (record-sound b .1 (said-accepted .0 z .0))
 
-  -- ---- of a record, and of a graph
+  pub said-clear : r .refusal ≡ 0 → Faithful (said b) n
+  unfolding recordDrawn
+  said-clear z = call-faithful v e k (recordDrawn b) r n h z (said b) refl (sound z)
 
-  module _ (b : List ℕ) (h : HandedOver (recordDrawn b) vs es bs r vs′ es′ bs′) where
-    pub record-call : (r .refusal ≡ 0) ↔ (SoundRecord b × Roomy (said b) vs es bs)
-    unfolding recordDrawn
-    record-call =
-        let a = call-accepted (recordDrawn b) h in
-        ((λ e. (record-sound b .0 (a .0 e .0), a .0 e .1)), λ q. a .1 (record-sound b .1 (q .0), q .1))
+  pub said-least : r .refusal ≡ 0 → Smallest (said b) (seen (said b) r n) × Carried (said b) (seen (said b) r n) r
+  unfolding recordDrawn
+  said-least z = call-smallest v e k (recordDrawn b) r n h z (said b) refl (sound z)
 
-    pub record-left : r .refusal ≡ 0 → Sound (said b) × Listed (said b) (planOf (said b)) vs es bs r vs′ es′ bs′
-    unfolding recordDrawn
-    record-left e = (said-sound b (record-sound b .1 (record-call .0 e .0)), call-listed (recordDrawn b) h e (said b) refl)
+module _ (v e k : ℕ) (n : ℕ) (ends : List ℕ) (given : Bool) (field : List ℕ) (r : ChartCounts) (entries : Entries)
+    (h : Handed v e k (graphDrawn n ends given field) r entries) where
+  abbrev c : Content
+  c = graphContent n ends given field
 
-  module _ (n : ℕ) (ends : List ℕ) (given : Bool) (field : List ℕ)
-      (h : HandedOver (graphDrawn n ends given field) vs es bs r vs′ es′ bs′) where
-    abbrev c : Content
-    c = graphContent n ends given field
+  abbrev d : Drawn
+  d = graphDrawn n ends given field
 
-    drawn : r .refusal ≡ 0 → refusalOf c ≡ 0
-    drawn e = sym (graph-refusal n ends given field) ∙ call-accepted (graphDrawn n ends given field) h .0 e .0
+  drawn : r .refusal ≡ 0 → refusalOf c ≡ 0
+  drawn z = sym (graph-refusal n ends given field) ∙ call-accepted v e k d r entries h .0 z .0
 
-    pub graph-call : (r .refusal ≡ 0) ↔ (Sound c × Roomy c vs es bs)
-    graph-call =
-        let a = call-accepted (graphDrawn n ends given field) h in (
-          (λ e. (
-            accepted-sound c (drawn e),
-            subst (λ (x : Content). Roomy x vs es bs) (graph-drawn n ends given field (drawn e)) (a .0 e .1),
-          )),
-          λ q.
-              let k = sound-accepted c (q .0) in
-              a .1 (
-                graph-refusal n ends given field ∙ k,
-                subst (λ (x : Content). Roomy x vs es bs) (sym (graph-drawn n ends given field k)) (q .1),
-              ),
-        )
+  pub graph-accepted : (r .refusal ≡ 0) ↔ (Sound c × Roomy c v e k)
+  graph-accepted =
+      let a = call-accepted v e k d r entries h in (
+        (λ z. (
+          accepted-sound c (drawn z),
+          subst (λ (x : Content). Roomy x v e k) (graph-drawn n ends given field (drawn z)) (a .0 z .1),
+        )),
+        λ q.
+            let p = sound-accepted c (q .0) in
+            a .1 (
+              graph-refusal n ends given field ∙ p,
+              subst (λ (x : Content). Roomy x v e k) (sym (graph-drawn n ends given field p)) (q .1),
+            ),
+      )
 
-    pub graph-left : r .refusal ≡ 0 → Sound c × Listed c (planOf c) vs es bs r vs′ es′ bs′
-    graph-left e = (accepted-sound c (drawn e), call-listed (graphDrawn n ends given field) h e c (graph-drawn n ends given field (drawn e)))
+  pub graph-clear : r .refusal ≡ 0 → Faithful c entries
+  graph-clear z = call-faithful v e k d r entries h z c (graph-drawn n ends given field (drawn z)) (accepted-sound c (drawn z))
+
+  pub graph-least : r .refusal ≡ 0 → Smallest c (seen c r entries) × Carried c (seen c r entries) r
+  graph-least z = call-smallest v e k d r entries h z c (graph-drawn n ends given field (drawn z)) (accepted-sound c (drawn z))

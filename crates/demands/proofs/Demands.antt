@@ -1,6 +1,7 @@
 -- THE DEMANDS, proved of the chart that the definitions give of every sound graph, and of what every call leaves. Of a call nothing is
--- asked but its promise. The statements are in specs/Demands.antt and specs/Lawful.antt. Assumes nothing.
-use Rattle.counting.proofs.Prelude.{_≡_, _↔_, Bool, List, ℕ, length}
+-- asked but its promise. The statements are in specs/Demands.antt and specs/Refusals.antt, and in specification's specs/Lawful.antt.
+-- Assumes nothing.
+use Rattle.counting.proofs.Prelude.{_≡_, _↔_, Bool, List, ℕ, _/_, length}
 use Rattle.specification.specs.Checks.{Content, Sound, SoundRecord, contentOf, said}
 use Rattle.specification.specs.Chart.{channelsOf, planOf, rowCount, reducedEdges, tracksIn}
 use Rattle.specification.specs.declared.VertexEntry.{VertexEntry}
@@ -10,18 +11,25 @@ use Rattle.specification.specs.Drawn.{recordDrawn, graphContent, graphDrawn}
 use Rattle.chart_plan.proofs.Refusals.{record-sound, graph-sound}
 use Rattle.chart_entries.specs.Promise.{HandedOver}
 use Rattle.chart_entries.proofs.Refusals.{refused-untouched, Refused}
+use Rattle.chart_numbers.specs.Chart.{HandedFlat}
+use Rattle.ceviloneth.proofs.Refusing as flat
 use Rattle.demands.specs.Demands.{Entries, entriesIn, entriesOf, oursOf, seen, Faithful, Roomy, Smallest, Counted, Carried}
+use Rattle.demands.specs.Numbers.{entriesFrom}
+use Rattle.demands.specs.Refusals.{Sized, Known, Distinct, Acyclic, Once, Led, Answered}
 use Rattle.demands.proofs.Agreeing.{defined-shown, ours-agrees}
 use Rattle.demands.proofs.Least.{agreed-smallest, agreed-counted}
 use Rattle.demands.proofs.Showing.{shown-faithful}
-use Rattle.demands.proofs.Accepting.{said-fields, record-call, record-left, graph-call, graph-left, listed-smallest, listed-faithful}
+use Rattle.demands.proofs.Accepting.{said-fields, said-accepted, said-clear, said-least, graph-accepted, graph-clear, graph-least}
+use Rattle.demands.proofs.Handing.{handed-lists, handed-numbers}
+use Rattle.demands.proofs.Answering.{sound-parts, said-answered}
 use Rattle.specification.specs.declared.ChartCounts.{ChartCounts}
 
 -- ---- the chart of a sound graph
 
 module _ (c : Content) (s : Sound c) where
   -- no lawful chart is smaller, and the counts are those handed over (SPECIFICATION.md, 10.4 and 10.5)
-  pub chart-smallest : Smallest c (oursOf c) × Counted c (oursOf c) (rowCount c) (length (channelsOf c)) (reducedEdges c) (length (planOf c .bundles)) (tracksIn (planOf c))
+  pub chart-smallest : Smallest c (oursOf c) × Counted c (oursOf c) (rowCount c) (length (channelsOf c)) (reducedEdges c)
+      (length (planOf c .bundles)) (tracksIn (planOf c))
   chart-smallest = (agreed-smallest c s (oursOf c) (ours-agrees c), agreed-counted c s (oursOf c) (ours-agrees c))
 
   -- reduced edges reach what all edges do, and lines are clear (15.3)
@@ -31,6 +39,10 @@ module _ (c : Content) (s : Sound c) where
 -- the graph of a sound record is what its fields say
 pub record-says : (b : List ℕ) (s : SoundRecord b) → said b ≡ contentOf b (s .0)
 record-says = said-fields
+
+-- sound is what fails no check (13.3)
+pub sound-passes : (c : Content) → Sound c ↔ (Sized c × Known c × Distinct c × Acyclic c × Once c × Led c)
+sound-passes = sound-parts
 
 -- ---- every call: the lists vs, es and bs are lent, r is the answer, and vs′, es′ and bs′ are the lists afterwards
 
@@ -42,8 +54,8 @@ module _ (vs vs′ : List VertexEntry) (es es′ : List EdgeEntry) (bs bs′ : L
   -- of a record b
   module _ (b : List ℕ) (h : HandedOver (recordDrawn b) vs es bs r vs′ es′ bs′) where
     -- accepted are the sound records with room in every list (15.2)
-    pub record-accepted-exactly : (r .refusal ≡ 0) ↔ (SoundRecord b × Roomy (said b) vs es bs)
-    record-accepted-exactly = record-call vs vs′ es es′ bs bs′ r b h
+    pub record-accepted-exactly : (r .refusal ≡ 0) ↔ (SoundRecord b × Roomy (said b) (length vs) (length es) (length bs))
+    record-accepted-exactly = said-accepted _ _ _ b r entries (handed-lists _ vs vs′ es es′ bs bs′ r h)
 
     -- a refusal changes no list, and every count is 0 then (9.3)
     pub record-refused : (r .refusal ≡ 0 → ⊥) → Refused vs es bs r vs′ es′ bs′
@@ -51,11 +63,11 @@ module _ (vs vs′ : List VertexEntry) (es es′ : List EdgeEntry) (bs bs′ : L
 
     -- the entries, by 15.3
     pub record-faithful : r .refusal ≡ 0 → Faithful (said b) entries
-    record-faithful e = let l = record-left vs vs′ es es′ bs bs′ r b h e in listed-faithful vs vs′ es es′ bs bs′ r (said b) (l .0) (l .1)
+    record-faithful = said-clear _ _ _ b r entries (handed-lists _ vs vs′ es es′ bs bs′ r h)
 
     -- the entries, by 10.4 and 10.5
     pub record-smallest : r .refusal ≡ 0 → Smallest (said b) (seen (said b) r entries) × Carried (said b) (seen (said b) r entries) r
-    record-smallest e = let l = record-left vs vs′ es es′ bs bs′ r b h e in listed-smallest vs vs′ es es′ bs bs′ r (said b) (l .0) (l .1)
+    record-smallest = said-least _ _ _ b r entries (handed-lists _ vs vs′ es es′ bs bs′ r h)
 
   -- of a graph: n vertices, the bytes of the edges' ends, and the bytes of the given channels, if any are given
   module _ (n : ℕ) (ends : List ℕ) (given : Bool) (field : List ℕ)
@@ -63,18 +75,46 @@ module _ (vs vs′ : List VertexEntry) (es es′ : List EdgeEntry) (bs bs′ : L
     abbrev c : Content
     c = graphContent n ends given field
 
-    pub graph-accepted-exactly : (r .refusal ≡ 0) ↔ (Sound c × Roomy c vs es bs)
-    graph-accepted-exactly = graph-call vs vs′ es es′ bs bs′ r n ends given field h
+    pub graph-accepted-exactly : (r .refusal ≡ 0) ↔ (Sound c × Roomy c (length vs) (length es) (length bs))
+    graph-accepted-exactly = graph-accepted _ _ _ n ends given field r entries (handed-lists _ vs vs′ es es′ bs bs′ r h)
 
     pub graph-refused : (r .refusal ≡ 0 → ⊥) → Refused vs es bs r vs′ es′ bs′
     graph-refused = refused-untouched (graphDrawn n ends given field) (graph-sound n ends given field) vs vs′ es es′ bs bs′ r h
 
     pub graph-faithful : r .refusal ≡ 0 → Faithful c entries
-    graph-faithful e =
-        let l = graph-left vs vs′ es es′ bs bs′ r n ends given field h e in
-        listed-faithful vs vs′ es es′ bs bs′ r c (l .0) (l .1)
+    graph-faithful = graph-clear _ _ _ n ends given field r entries (handed-lists _ vs vs′ es es′ bs bs′ r h)
 
     pub graph-smallest : r .refusal ≡ 0 → Smallest c (seen c r entries) × Carried c (seen c r entries) r
-    graph-smallest e =
-        let l = graph-left vs vs′ es es′ bs bs′ r n ends given field h e in
-        listed-smallest vs vs′ es es′ bs bs′ r c (l .0) (l .1)
+    graph-smallest = graph-least _ _ _ n ends given field r entries (handed-lists _ vs vs′ es es′ bs bs′ r h)
+
+-- ---- the exported call of a record b, `ceviloneth_chart`: the lists ws, es and bs of numbers are lent, and ws′, es′ and bs′ are these
+-- afterwards
+
+module _ (b ws ws′ es es′ bs bs′ : List ℕ) (r : ChartCounts) (h : HandedFlat b ws es bs r ws′ es′ bs′) where
+  -- every list has room, five numbers a vertex or edge and four a bundle
+  abbrev room : Type 0
+  room = Roomy (said b) (length ws / 5) (length es / 5) (length bs / 4)
+
+  -- what the caller reads then
+  abbrev read : Entries
+  read = entriesFrom ws′ es′ bs′
+
+  -- accepted are the sound records with room in every list (15.2)
+  pub exported-accepted-exactly : (r .refusal ≡ 0) ↔ (SoundRecord b × room)
+  exported-accepted-exactly = said-accepted _ _ _ b r read (handed-numbers b ws ws′ es es′ bs bs′ r h)
+
+  -- and every number is answered exactly where its check is the first that fails (13.1)
+  pub exported-answered-exactly : (k : ℕ) → (r .refusal ≡ k) ↔ Answered b room k
+  exported-answered-exactly = said-answered _ _ _ b r read (handed-numbers b ws ws′ es es′ bs bs′ r h)
+
+  -- a refusal changes no list, and every count is 0 then (9.3)
+  pub exported-refused : (r .refusal ≡ 0 → ⊥) → flat.Refused ws es bs r ws′ es′ bs′
+  exported-refused = flat.refused-untouched b ws ws′ es es′ bs bs′ r h
+
+  -- the numbers, by 15.3
+  pub exported-faithful : r .refusal ≡ 0 → Faithful (said b) read
+  exported-faithful = said-clear _ _ _ b r read (handed-numbers b ws ws′ es es′ bs bs′ r h)
+
+  -- the numbers, by 10.4 and 10.5
+  pub exported-smallest : r .refusal ≡ 0 → Smallest (said b) (seen (said b) r read) × Carried (said b) (seen (said b) r read) r
+  exported-smallest = said-least _ _ _ b r read (handed-numbers b ws ws′ es es′ bs bs′ r h)

@@ -2,4 +2,6 @@ pub mod Agreeing
 pub mod Least
 pub mod Showing
 pub mod Accepting
+pub mod Handing
+pub mod Answering
 pub mod Demands

@@ -90,7 +90,8 @@ lineIn c entries e = polylineOf (entries .vertex (tailOf c e)) (entries .vertex 
 
 pub record Faithful (c : Content) (entries : Entries) : Type 0 where
   -- marked are the edges along which a longer route goes (5.1)
-  pub marked : (e : ℕ) → e < edgesOf c → (entries .edge e .transitive ≡ true) ↔ Longer (Edge (c .tails) (c .heads)) (tailOf c e) (headOf c e)
+  pub marked : (e : ℕ) → e < edgesOf c → (entries .edge e .transitive ≡ true)
+      ↔ Longer (Edge (c .tails) (c .heads)) (tailOf c e) (headOf c e)
   -- reduced edges have the reachability of all edges (15.3)
   pub descent : (u v : ℕ) → Reaches (Firm c entries) u v ↔ Leads c u v
   -- an edge's line passes through no vertex but its two ends (15.3)
@@ -98,11 +99,11 @@ pub record Faithful (c : Content) (entries : Entries) : Type 0 where
   -- and stands on the page (8.2), so that no polyline of it is refused
   pub on-page : (e : ℕ) → e < edgesOf c → OnPage (lineIn c entries e)
 
--- 8 'short' is not said (13.1): every lent list has room
-pub record Roomy (c : Content) (vs : List VertexEntry) (es : List EdgeEntry) (bs : List BundleEntry) : Type 0 where
-  pub vertices : c .vertices ≤ length vs
-  pub edges : edgesOf c ≤ length es
-  pub bundles : length (planOf c .bundles) ≤ length bs
+-- 8 'short' is not said (13.1): lists of v, e and b entries have room for the vertices, edges and bundles
+pub record Roomy (c : Content) (v e b : ℕ) : Type 0 where
+  pub vertices : c .vertices ≤ v
+  pub edges : edgesOf c ≤ e
+  pub bundles : length (planOf c .bundles) ≤ b
 
 -- ---- no lawful chart is smaller
 

@@ -1,1 +1,3 @@
 pub mod Demands
+pub mod Numbers
+pub mod Refusals

@@ -1,9 +1,9 @@
 -- The sound records are accepted, and no others. Assumes nothing.
-use Rattle.counting.proofs.Prelude.{_≡_, refl, sym, ap, _∙_, subst, _↔_, _⊎_, ⊎-elim, _≢_, Bool, true, false, true≢false, not, _&&_, List, [], _∷_, ℕ, zero, suc, _≤_, _<_, arith, eqb, leb, length, getD, eq-eqb, eqb-true, le-ltb, lt-leb, leb-false}
+use Rattle.counting.proofs.Prelude.{_≡_, refl, sym, ap, _∙_, subst, _↔_, _⊎_, ⊎-elim, _≢_, Bool, true, false, true≢false, not, _&&_, _||_, List, [], _∷_, ℕ, zero, suc, _≤_, _<_, arith, eqb, leb, length, getD, eq-eqb, eqb-true, le-ltb, lt-leb, leb-false}
 use Rattle.specification.specs.Count.{choose, some}
-use Rattle.specification.specs.Channels.{times, linked, every, allLinked, linesOf, verticesOf, unknown?, broken?}
+use Rattle.specification.specs.Channels.{times, linked, every, allLinked, linesOf, verticesOf, unknown?, repeats?, lacks?, broken?}
 use Rattle.specification.specs.Graph.{Edge, outsized?, strange?, verdict, refusal, reachable?, alike?, duplicate?}
-use Rattle.specification.specs.Checks.{Content, edgesOf, size?, stranger?, double?, ring?, repeated?, lacking?, unled?, looseChecks, laterChecks, firstOf, refusalOf, contentOf, refusalIn, recordRefusal, Sound, SoundRecord}
+use Rattle.specification.specs.Checks.{Content, edgesOf, size?, stranger?, double?, ring?, repeated?, lacking?, unled?, looseChecks, laterChecks, firstOf, refusalOf, contentOf, refusalIn, recordRefusal, Leads, givenLine, Sound, SoundRecord}
 use Rattle.specification.specs.declared.Layout.{Layout}
 use Rattle.specification.specs.declared.Layout.the-variants.{Good, Bad}
 use Rattle.specification.specs.Layout.{layoutOf}
@@ -136,7 +136,7 @@ module _ (f : ℕ → ℕ → Bool) where
   led-all [] h = refl
   led-all (l ∷ ls) h = and-intro (linked f l) (every (linked f) ls) (led-linked l (h 0)) (led-all ls (λ k. h (suc k)))
 
--- ---- the two together
+-- ---- what each check of a graph says, both ways
 
 module _ (c : Content) where
   abbrev n : ℕ
@@ -145,52 +145,125 @@ module _ (c : Content) where
   abbrev m : ℕ
   m = edgesOf c
 
+  abbrev reach : ℕ → ℕ → Bool
+  reach = reachable? n (c .tails) (c .heads)
+
+  -- the given channels, and their vertices
+  abbrev ls : List (List ℕ)
+  ls = linesOf (c .field)
+
+  abbrev vs : List ℕ
+  vs = verticesOf (c .field)
+
+  abbrev Sized : Type 0
+  Sized = (0 < n) × (n ≤ 128) × (m ≤ 4096)
+
+  abbrev Known : Type 0
+  Known =
+      ((i : ℕ) → i < m → (getD (c .tails) i 0 < n) × (getD (c .heads) i 0 < n))
+      × (c .given ≡ true → (v : ℕ) → n ≤ v → times v vs ≡ 0)
+
+  pub size-says : (size? c ≡ false) ↔ Sized
+  unfolding size?
+  size-says = (outsized-back n m, of-size n m)
+
+  pub stranger-says : (stranger? c ≡ false) ↔ Known
+  unfolding stranger?
+  stranger-says = (
+    (λ e.
+        let p = or-neither (some m (strange? n (c .tails) (c .heads))) (c .given && unknown? n vs) e in (
+          ends-known n m (c .tails) (c .heads) (p .0),
+          λ g. unknown-within n vs (given-passes (c .given) _ (p .1) g),
+        )),
+    λ k. neither _ _ (known-ends n m (c .tails) (c .heads) (k .0)) (passes-given (c .given) _ (λ g. within-unknown n vs (k .1 g))),
+  )
+
+  pub double-says : (double? c ≡ false) ↔ Distinct m (c .tails) (c .heads)
+  unfolding double?
+  double-says = (no-double m (c .tails) (c .heads), distinct-no-double m (c .tails) (c .heads))
+
   -- size and known ends are all that the reachability layer asks
   graph-accepted : outsized? n m ≡ false → some m (strange? n (c .tails) (c .heads)) ≡ false → refusal n (c .tails) (c .heads) ≡ 0
   unfolding refusal verdict
   graph-accepted o s = rw (o, s) refl
 
+  module _ (z : Sized) (k : Known) where
+    taken : refusal n (c .tails) (c .heads) ≡ 0
+    taken = graph-accepted (of-size n m z) (known-ends n m (c .tails) (c .heads) (k .0))
+
+    tails-known : (u v : ℕ) → Edge (c .tails) (c .heads) u v → u < n
+    unfolding Edge
+    tails-known u v e = subst (λ x. x < n) (e .2) (k .0 (e .0) (e .1) .0)
+
+    pub ring-says : (ring? c ≡ false) ↔ ((u : ℕ) → Leads c u u → ⊥)
+    unfolding ring?
+    ring-says = (
+      (λ e u r.
+          let small : n ≤ 128 = z .1 in
+          let below : u < n = begins-below tails-known r in
+          true≢false
+          (sym (reachable-decided n (c .tails) (c .heads) u u .0 (taken, r)) ∙ none-found 128 (λ u. reach u u) e u (omega arith))),
+      λ a. some-none 128 (λ u. reach u u) (λ u l. not-true _ (λ e. a u (reachable-decided n (c .tails) (c .heads) u u .1 e .1))),
+    )
+
+    pub cover-says : ((repeated? c || lacking? c) ≡ false) ↔ (c .given ≡ true → (v : ℕ) → v < n → times v vs ≡ 1)
+    unfolding repeated? lacking?
+    cover-says = (
+      (λ e g v l.
+          let p = or-neither (c .given && repeats? vs) (c .given && lacks? n vs) e in
+          omega (arith, repeats-once vs (given-passes (c .given) _ (p .0) g) v, lacks-has n vs (given-passes (c .given) _ (p .1) g) v l)),
+      λ o.
+          neither _ _
+          (passes-given (c .given) _
+          (λ g. once-repeats vs (λ v. ⊎-elim (λ l. omega (arith, o g v l)) (λ l. omega (arith, k .1 g v l)) (lt-or-le v n))))
+          (passes-given (c .given) _ (λ g. has-lacks n vs (λ v l. times-has v vs (omega (arith, o g v l))))),
+    )
+
+    pub led-says : (unled? c ≡ false)
+        ↔ (c .given ≡ true → (i j : ℕ) → suc j < length (givenLine c i)
+        → Leads c (getD (givenLine c i) j 0) (getD (givenLine c i) (suc j) 0))
+    unfolding unled? broken?
+    led-says = (
+      (λ e g i j h.
+          let all = broken-linked reach ls (given-passes (c .given) _ e g) in
+          reachable-decided n (c .tails) (c .heads) _ _ .1 (all-led reach ls all i j h) .1),
+      λ a.
+          passes-given (c .given) _
+          (λ g. ap not (led-all reach ls (λ i j h. reachable-decided n (c .tails) (c .heads) _ _ .0 (taken, a g i j h)))),
+    )
+
+  -- ---- the two together
+
   -- a sound graph is taken by the reachability layer
   pub sound-edges : Sound c → refusal n (c .tails) (c .heads) ≡ 0
-  sound-edges s = graph-accepted (of-size n m (s .size)) (known-ends n m (c .tails) (c .heads) (s .ends))
-
-  tails-known : some m (strange? n (c .tails) (c .heads)) ≡ false → (u v : ℕ) → Edge (c .tails) (c .heads) u v → u < n
-  unfolding Edge
-  tails-known s u v e = subst (λ x. x < n) (e .2) (ends-known n m (c .tails) (c .heads) s (e .0) (e .1) .0)
+  sound-edges s = taken (s .size) (s .ends, s .named)
 
   pub accepted-sound : refusalOf c ≡ 0 → Sound c
-  unfolding size? stranger? double? ring? repeated? lacking? unled?
   accepted-sound e =
       let p = accepted-passes c e in
-      let s = or-neither (some m (strange? n (c .tails) (c .heads))) (c .given && unknown? n (verticesOf (c .field))) (p .stranger) in
-      let z = outsized-back n m (p .size) in
-      let small : n ≤ 128 = z .1 in
-      let accepted = graph-accepted (p .size) (s .0) in record {
+      let z = size-says .0 (p .size) in
+      let k = stranger-says .0 (p .stranger) in record {
         size = z;
-        ends = ends-known n m (c .tails) (c .heads) (s .0);
-        named = λ g. unknown-within n (verticesOf (c .field)) (given-passes (c .given) _ (s .1) g);
-        distinct = no-double m (c .tails) (c .heads) (p .double);
-        acyclic = λ u r.
-            let below : u < n = begins-below (tails-known (s .0)) r in
-            true≢false (sym (reachable-decided n (c .tails) (c .heads) u u .0 (accepted, r)) ∙ none-found 128 (λ u. reachable? n (c .tails) (c .heads) u u) (p .ring) u (omega arith));
-        once = λ g v l. omega (arith, repeats-once (verticesOf (c .field)) (given-passes (c .given) _ (p .repeated) g) v, lacks-has n (verticesOf (c .field)) (given-passes (c .given) _ (p .lacking) g) v l);
-        led = λ g k j h. reachable-decided n (c .tails) (c .heads) _ _ .1 (all-led (reachable? n (c .tails) (c .heads)) (linesOf (c .field)) (broken-linked (reachable? n (c .tails) (c .heads)) (linesOf (c .field)) (given-passes (c .given) _ (p .unled) g)) k j h) .1;
+        ends = k .0;
+        named = k .1;
+        distinct = double-says .0 (p .double);
+        acyclic = ring-says z k .0 (p .ring);
+        once = cover-says z k .0 (neither _ _ (p .repeated) (p .lacking));
+        led = led-says z k .0 (p .unled);
       }
 
   pub sound-accepted : Sound c → refusalOf c ≡ 0
-  unfolding size? stranger? double? ring? repeated? lacking? unled? broken?
   sound-accepted s =
-      let o = of-size n m (s .size) in
-      let t = known-ends n m (c .tails) (c .heads) (s .ends) in
-      let accepted = graph-accepted o t in
+      let k : Known = (s .ends, s .named) in
+      let o = or-neither (repeated? c) (lacking? c) (cover-says (s .size) k .1 (s .once)) in
       passes-accepted c (record {
-        size = o;
-        stranger = neither _ _ t (passes-given (c .given) _ (λ g. within-unknown n (verticesOf (c .field)) (s .named g)));
-        double = distinct-no-double m (c .tails) (c .heads) (s .distinct);
-        ring = some-none 128 (λ u. reachable? n (c .tails) (c .heads) u u) (λ u l. not-true _ (λ e. s .acyclic u (reachable-decided n (c .tails) (c .heads) u u .1 e .1)));
-        repeated = passes-given (c .given) _ (λ g. once-repeats (verticesOf (c .field)) (λ v. ⊎-elim (λ l. omega (arith, s .once g v l)) (λ l. omega (arith, s .named g v l)) (lt-or-le v n)));
-        lacking = passes-given (c .given) _ (λ g. has-lacks n (verticesOf (c .field)) (λ v l. times-has v (verticesOf (c .field)) (omega (arith, s .once g v l))));
-        unled = passes-given (c .given) _ (λ g. ap not (led-all (reachable? n (c .tails) (c .heads)) (linesOf (c .field)) (λ k j h. reachable-decided n (c .tails) (c .heads) _ _ .0 (accepted, s .led g k j h))));
+        size = size-says .1 (s .size);
+        stranger = stranger-says .1 k;
+        double = double-says .1 (s .distinct);
+        ring = ring-says (s .size) k .1 (s .acyclic);
+        repeated = o .0;
+        lacking = o .1;
+        unled = led-says (s .size) k .1 (s .led);
       })
 
 -- ---- of records
