@@ -9,7 +9,8 @@ use Rattle.specification.specs.Sets.{has?}
 use Rattle.specification.specs.Graph.{sizeRefusal, unsized?}
 use Rattle.planning.specs.Arranged.{Arranged, Kept}
 use Rattle.planning.specs.Promise.{Chained}
-use Rattle.channels.specs.Promise.{Answers, Plans, Sized, givenRefusal}
+use Rattle.channels.specs.Promise.{Answers, Plans, givenRefusal}
+use Rattle.channels.specs.Steps.Sized.{Sized}
 use Rattle.planning.specs.declared.Channels.{Channels}
 
 -- room for the vertices: the refusal, or the channels

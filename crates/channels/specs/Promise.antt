@@ -22,12 +22,6 @@ givenRefusal leads n field =
     choose (repeats? (verticesOf field) || lacks? n (verticesOf field)) (λ _. 6) (λ _.
     choose (broken? leads (linesOf field)) (λ _. 7) (λ _. 0))))
 
--- why n vertices are refused by size alone, with a list of so many bytes, or 0
-pub record Sized (n bytes r : ℕ) : Type 0 where
-  pub short : bytes < 4 * min n 128 → r ≡ 8
-  pub size : 4 * min n 128 ≤ bytes → r ≡ sizeRefusal n
-  pub fits : r ≡ 0 → (n ≢ 0) × (n ≤ 128) × (4 * n ≤ bytes)
-
 -- r is 8 where the list has no room, and nothing changed; else the refusal, and where that is 0 the channels stand in p′. Nothing but
 -- channels and positions of the first n vertices has changed
 pub record Answers (n refusal : ℕ) (ls : List (List ℕ)) (p : List ℕ) (r : Channels) (p′ : List ℕ) : Type 0 where

@@ -12,7 +12,8 @@ ghost use Rattle.planning.specs.Arranged.{Arranged};
 ghost use Rattle.specification.specs.Channels.{verticesOf, unknown?};
 ghost use Rattle.channels.specs.Steps.Laid.{openedAt, Lays};
 ghost use Rattle.channels.specs.Steps.Walked.{weighed, settled, Walks};
-ghost use Rattle.channels.specs.Promise.{Sized, Plans, Gives};
+ghost use Rattle.channels.specs.Promise.{Plans, Gives};
+ghost use Rattle.channels.specs.Steps.Sized.{Sized};
 use planning::Channels;
 
 // The most vertices.

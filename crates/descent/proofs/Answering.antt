@@ -7,13 +7,13 @@ use Rattle.specification.specs.Graph.{edgeCount, outsized?, refusal, tailsOf, h
 use Rattle.counting.proofs.Truth.{true-or-false, and-intro, and-elim}
 use Rattle.counting.proofs.Choosing.{choose-yes}
 use Rattle.counting.proofs.Sizes.{outsized-back}
-use Rattle.scanning.specs.Scanned.{Blank, endsRefusal, Scanned, Scans}
+use Rattle.scanning.specs.Scanned.{endsRefusal, Scanned, Scans}
+use Rattle.masks.specs.Sets.{Blank}
 use Rattle.descent.specs.declared.Descent.{Descent}
-use Rattle.descent.specs.Steps.Closed.{Rest, Inside, Laid, Closed, Ranked}
-use Rattle.descent.specs.Promise.{edgesRefusal, noDescent, fits?, Sized, Descended, Descends}
+use Rattle.descent.specs.Steps.Closed.{Rest, Inside, Laid, Closed, Ranked, fits?}
+use Rattle.descent.specs.Promise.{edgesRefusal, noDescent, Sized, Descended, Descends}
 use Rattle.descent.proofs.Refusals.{edges-in-turn, answer-ends, answer-cycle}
-use Rattle.descent.proofs.Graphs.{graph-inside, graph-cyclic, graph-acyclic, graph-rows, graph-used, graph-below}
-use Rattle.descent.proofs.Graphs.{graph-closure, graph-composed}
+use Rattle.descent.proofs.Graphs.{graph-inside, graph-cyclic, graph-acyclic, graph-rows, graph-used, graph-below, graph-closure, graph-composed}
 
 -- ---- the lengths
 

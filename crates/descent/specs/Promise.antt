@@ -1,10 +1,9 @@
 -- What the descent promises. Assumes nothing.
 use mathlib.Core.Path.{_≡_}
 use mathlib.Core.Logic.{_≢_, _↔_}
-use mathlib.Core.Bool.{Bool, _&&_}
 use mathlib.Core.List.{List}
 use Prim.Native.Nat.{ℕ, _+_, _*_, _≤_, _<_, min}
-use lib.Dec.{eqb, leb}
+use lib.Dec.{eqb}
 use lib.ListN.{length}
 use Rattle.specification.specs.Limits.{mostVertices}
 use Rattle.specification.specs.Count.{choose, some}
@@ -35,12 +34,6 @@ pub record Sized (n : ℕ) (e b t l p : List ℕ) : Type 0 where
   pub table : 2 * min n mostVertices ≤ length t
   pub longer : 2 * min n mostVertices ≤ length l
   pub places : 4 * min n mostVertices ≤ length p
-
--- the same of their lengths, computed
-unfoldable pub fits? : ℕ → ℕ → ℕ → ℕ → ℕ → ℕ → Bool
-fits? n e b t l p =
-    leb (2 * min n mostVertices) e && (leb (2 * min n mostVertices + 2) b
-    && (leb (2 * min n mostVertices) t && (leb (2 * min n mostVertices) l && leb (4 * min n mostVertices) p)))
 
 -- what is made of a graph without cycles: e has its edges, t what reaches what, l the same by two edges or more, set k of b has the
 -- vertices of rows below k, and p the row of each vertex and how many it reaches

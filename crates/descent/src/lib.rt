@@ -8,10 +8,11 @@ ghost use lib.Count.{ones};
 ghost use lib.ListN.{length};
 ghost use Rattle.specification.specs.Sets.{bit};
 ghost use Rattle.masks.specs.Pairs.{inPair};
-ghost use Rattle.scanning.specs.Scanned.{Blank};
+ghost use Rattle.masks.specs.Sets.{Blank};
 ghost use Rattle.descent.specs.Steps.Members.{Below, Long, Gathered, FirstGathered, Pictured, Nested, Covered, Written};
 ghost use Rattle.descent.specs.Steps.Closed.{Arc, Ample, Reached, Finished, Vertex, Row, Inside, Prefixes, Laid, Closed, Ranked};
-ghost use Rattle.descent.specs.Promise.{noDescent, fits?, Descends};
+ghost use Rattle.descent.specs.Promise.{noDescent, Descends};
+ghost use Rattle.descent.specs.Steps.Closed.{fits?};
 
 // The most vertices of a graph.
 const MOST_VERTICES: usize = 128;

@@ -8,7 +8,8 @@ use Rattle.masks.proofs.Bits.{without}
 use Rattle.masks.proofs.Tables.{at-lt}
 use Rattle.masks.proofs.Pairing.{pair-and, pair-without, pair-at}
 use Rattle.geometry.proofs.Among.{pair-past, among-same}
-use Rattle.kinds.specs.Kinds.{strictly?, candidate?, between}
+use Rattle.kinds.specs.Kinds.{strictly?, candidate?}
+use Rattle.kinds.specs.Steps.{between}
 
 -- ---- two bits
 

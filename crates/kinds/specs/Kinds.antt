@@ -1,8 +1,7 @@
 -- The kind of an edge by its ends' places and bundles. Assumes nothing.
 use mathlib.Core.Bool.{Bool, not, _&&_}
 use mathlib.Core.List.{List}
-use Prim.Native.Nat.{ℕ, _+_, _-_, _^_, min, max}
-use lib.Bits.{bitAnd}
+use Prim.Native.Nat.{ℕ, _+_, _-_, min, max}
 use lib.Dec.{eqb, ltb}
 use Rattle.counting.specs.Quads.{quad}
 use Rattle.specification.specs.Count.{choose}
@@ -13,6 +12,7 @@ use Rattle.specification.specs.Bundles.{adjacent?}
 use Rattle.specification.specs.Chart.{crossing}
 use Rattle.specification.specs.declared.Kind.{Kind}
 use Rattle.specification.specs.declared.Kind.the-variants.{Path, PathTransitive}
+use Rattle.kinds.specs.Steps.{between}
 
 -- the kind of the edge from u, in channel c at position p, to v, in channel d at position q; `into` is the bundle of the edges into v, and
 -- `outOf` that of those out of u. Of four numbers a vertex in `places` the third is its row
@@ -39,7 +39,3 @@ kindAmong c d p q into outOf columns places below left u v =
     (λ _. choose (adjacent? p q) (λ _. Path) (λ _. PathTransitive (min into outOf)))
     (λ _. crossing (courseAmong (candidate? below left (quad 2 places u) (quad 2 places v) c d)
     (pointOf columns places) (vertexCount columns places) u v))
-
--- the vertices of one mask that two sets have and two others lack
-abbrev pub between : ℕ → ℕ → ℕ → ℕ → ℕ
-between high low to from = bitAnd (bitAnd high ((2 ^ 64 - 1) - low)) (bitAnd to ((2 ^ 64 - 1) - from))

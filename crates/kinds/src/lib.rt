@@ -9,7 +9,8 @@ ghost use Rattle.specification.specs.Geometry.{courseAmong};
 ghost use Rattle.specification.specs.Bundles.{adjacent?};
 ghost use Rattle.specification.specs.Chart.{crossing};
 ghost use Rattle.specification.specs.Numbers.{codeOf};
-ghost use Rattle.kinds.specs.Kinds.{between, candidate?, kindAmong};
+ghost use Rattle.kinds.specs.Kinds.{candidate?, kindAmong};
+ghost use Rattle.kinds.specs.Steps.{between};
 use specification::Code;
 use specification::Course;
 

@@ -1,2 +1,2 @@
-pub mod Sets
 pub mod Pairs
+pub mod Sets

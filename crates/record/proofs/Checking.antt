@@ -16,7 +16,8 @@ use Rattle.channels.specs.Promise as planner
 use Rattle.channels.specs.Promise.{Answers}
 use Rattle.planning.specs.declared.Channels.{Channels}
 use Rattle.record.specs.declared.checks.Checked.{Checked}
-use Rattle.record.specs.Checked.{uncheckedBy, channelsRefusal, channelsBy, Checks}
+use Rattle.record.specs.Checked.{uncheckedBy, channelsBy, Checks}
+use Rattle.record.specs.Steps.{channelsRefusal}
 use Rattle.record.proofs.Judging.{refused-edges, edges-accepted, bare-refusal, given-refusal, first-high}
 
 -- a graph of no vertex is refused

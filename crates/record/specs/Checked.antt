@@ -7,12 +7,11 @@ use Prim.Native.Nat.{ℕ, _≤_, _<_}
 use lib.ListN.{length}
 use Rattle.specification.specs.Count.{choose}
 use Rattle.counting.specs.Quads.{quad}
-use Rattle.specification.specs.Graph.{tailsOf, headsOf, sizeRefusal}
+use Rattle.specification.specs.Graph.{tailsOf, headsOf}
 use Rattle.descent.specs.Promise.{Sized, Descended}
 use Rattle.specification.specs.Planning.{planned}
 use Rattle.specification.specs.Sets.{has?}
 use Rattle.specification.specs.Channels.{linesOf}
-use Rattle.channels.specs.Promise.{givenRefusal}
 use Rattle.planning.specs.Arranged.{Arranged}
 use Rattle.record.specs.declared.checks.Checked.{Checked}
 use Rattle.specification.specs.Checks.{content, refusalOf}
@@ -23,9 +22,6 @@ abbrev pub uncheckedBy : ℕ → Checked
 uncheckedBy k = record { refusal = k; used = 0; channels = 0 }
 
 -- ---- the channels: the given ones, or those planned by the table t
-
-abbrev pub channelsRefusal : ℕ → List ℕ → Bool → List ℕ → ℕ
-channelsRefusal n t given field = choose given (λ _. givenRefusal (has? 2 t) n field) (λ _. sizeRefusal n)
 
 abbrev pub channelsBy : ℕ → List ℕ → Bool → List ℕ → List (List ℕ)
 channelsBy n t given field = choose given (λ _. linesOf field) (λ _. planned (has? 2 t) n)

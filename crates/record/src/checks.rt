@@ -5,7 +5,8 @@ ghost use lib.Dec.{leb};
 ghost use Rattle.specification.specs.Count.{choose};
 ghost use Rattle.specification.specs.Channels.{verticesOf, unknown?};
 ghost use Rattle.channels.specs.Promise.{Answers};
-ghost use Rattle.record.specs.Checked.{uncheckedBy, channelsRefusal, channelsBy, Checks};
+ghost use Rattle.record.specs.Checked.{uncheckedBy, channelsBy, Checks};
+ghost use Rattle.record.specs.Steps.{channelsRefusal};
 use descent::descend;
 use planning::Channels;
 

@@ -15,7 +15,8 @@ use Rattle.masks.proofs.Tables.{Put, put-law}
 use Rattle.reach.specs.Steps.{Marked, Within}
 use Rattle.reach.proofs.Marking.{marked-more}
 use Rattle.reach.proofs.Ends.{tail-at, head-at, ends-counted}
-use Rattle.scanning.specs.Scanned.{Blank, endsRefusal, Scanned, Scans}
+use Rattle.scanning.specs.Scanned.{endsRefusal, Scanned, Scans}
+use Rattle.masks.specs.Sets.{Blank}
 use Rattle.scanning.proofs.Duplicates.{seen-before, not-seen}
 
 more-edges : (tails heads : List ℕ) (i : ℕ)

@@ -11,10 +11,6 @@ use Rattle.specification.specs.Sets.{at}
 use Rattle.specification.specs.Graph.{edgeCount, Edge, outsized?, strange?, tailsOf, headsOf, duplicate?}
 use Rattle.specification.specs.Lent.{Untouched}
 
--- masks with no bit set
-pub record Blank (t : List ℕ) : Type 0 where
-  pub zero : (i : ℕ) → getD t i 0 ≡ 0
-
 -- why edges are refused, however many they are: 3, an end is no vertex; 4, an edge stands twice; or 0
 unfoldable pub endsRefusal : ℕ → List ℕ → List ℕ → ℕ
 endsRefusal n tails heads =

@@ -6,7 +6,8 @@ ghost use lib.ListN.{length};
 ghost use Rattle.specification.specs.Count.{choose};
 ghost use Rattle.specification.specs.Sets.{member?, inserted};
 ghost use Rattle.specification.specs.Graph.{outsized?};
-ghost use Rattle.scanning.specs.Scanned.{Blank, Scanned, Scans};
+ghost use Rattle.scanning.specs.Scanned.{Scanned, Scans};
+ghost use Rattle.masks.specs.Sets.{Blank};
 
 // The most vertices and edges of a graph.
 const MOST_VERTICES: usize = 128;

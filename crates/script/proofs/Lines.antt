@@ -4,7 +4,7 @@ use Rattle.specification.specs.Count.{choose}
 use Rattle.script.specs.declared.Numeral.{Numeral}
 use Rattle.script.specs.declared.Scanner.{Scanner}
 use Rattle.script.specs.declared.Command.{Command}
-use Rattle.script.specs.Orders.{Parts, prepend, parts, same, wordsName, addName, leadsName, Number, numberOf, Order, withOne, withTwo, read, order}
+use Rattle.specification.specs.Orders.{Parts, prepend, parts, same, wordsName, addName, leadsName, Number, numberOf, Order, withOne, withTwo, read, order}
 use Rattle.script.specs.Scanning.{advanced, extended, within, nextPart, scanned, begun, scan, withNumber, finishedTwo, finishedOne, finished, cut}
 use Rattle.script.proofs.Names.{followed, followed-same}
 use Rattle.script.proofs.Numbers.{gathered, valued, gathered-number}

@@ -4,7 +4,7 @@ use native.Mathlib.Decide.{decLt}
 use native.Mathlib.Numerals.{add-one}
 use lib.Seq.{drop-cons}
 use Rattle.specification.specs.Count.{choose}
-use Rattle.script.specs.Orders.{same}
+use Rattle.specification.specs.Orders.{same}
 use Rattle.script.specs.Scanning.{advanced}
 
 -- how many bytes of the name are matched after a part, of which m were before

@@ -3,7 +3,7 @@ use Rattle.counting.proofs.Prelude.{_≡_, refl, ap, _∙_, Bool, true, false, 
 use Rattle.specification.specs.Count.{choose}
 use Rattle.script.specs.declared.Numeral.{Numeral}
 use Rattle.script.specs.declared.Command.{Command}
-use Rattle.script.specs.Orders.{Number, digit?, decimal, numberOf}
+use Rattle.specification.specs.Orders.{Number, digit?, decimal, numberOf}
 use Rattle.script.specs.Scanning.{appended, extended, withNumber}
 
 -- the number that a part comes to

@@ -9,7 +9,7 @@ use Rattle.editing.proofs.Machines.{leads-kept, refusedThree, unknown-add, unkn
 use Rattle.script.specs.declared.Command.{Command}
 use Rattle.script.specs.declared.Outcome.{Outcome}
 use Rattle.script.specs.declared.Performed.{Performed}
-use Rattle.script.specs.Orders.{Order, order}
+use Rattle.specification.specs.Orders.{Order, order}
 use Rattle.script.specs.Scanning.{begun, scan, finished, cut}
 use Rattle.script.specs.Performing.{outcomeOf, Obeyed, answered, obey, obeyAll, outcomes, orderOf, Effect, PerformPromise, Replayed, Script}
 use Rattle.script.specs.Performing.Replayed.{done, next}

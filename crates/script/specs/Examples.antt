@@ -1,36 +1,11 @@
--- Worked examples of lines, by computation. Assumes nothing.
+-- A number over the largest counts as that, by computation. Assumes nothing.
 use mathlib.Core.Path.{_≡_, refl}
 use mathlib.Core.List.{[], _∷_}
+use Rattle.specification.specs.Orders.{prepend, parts, same, digit?, decimal, numberOf, withOne, withTwo, read, order}
 use Rattle.script.specs.declared.Command.{Command}
-use Rattle.script.specs.Orders.{prepend, parts, same, digit?, decimal, numberOf, Order, withOne, withTwo, read, order}
 use Rattle.script.specs.Scanning.{cut}
 
-pub record Worked : Type 0 where
-  -- `words 007`
-  pub zeros : order (119 ∷ 111 ∷ 114 ∷ 100 ∷ 115 ∷ 32 ∷ 48 ∷ 48 ∷ 55 ∷ []) ≡ Order.words 7
-  -- `add 3 12`
-  pub two : order (97 ∷ 100 ∷ 100 ∷ 32 ∷ 51 ∷ 32 ∷ 49 ∷ 50 ∷ []) ≡ Order.add 3 12
-  -- `leads 0 99999`, whose second number counts as 129
-  pub large : cut (order (108 ∷ 101 ∷ 97 ∷ 100 ∷ 115 ∷ 32 ∷ 48 ∷ 32 ∷ 57 ∷ 57 ∷ 57 ∷ 57 ∷ 57 ∷ [])) ≡ Command.Leads 0 129
-  -- two blanks, a blank at the end, a carriage return, and nothing
-  pub blanks : order (97 ∷ 100 ∷ 100 ∷ 32 ∷ 32 ∷ 51 ∷ 32 ∷ 52 ∷ []) ≡ Order.unreadable
-  pub trailing : order (97 ∷ 100 ∷ 100 ∷ 32 ∷ 51 ∷ 32 ∷ 52 ∷ 32 ∷ []) ≡ Order.unreadable
-  pub return : order (97 ∷ 100 ∷ 100 ∷ 32 ∷ 51 ∷ 32 ∷ 52 ∷ 13 ∷ []) ≡ Order.unreadable
-  pub empty : order [] ≡ Order.unreadable
-  -- `words` with two numbers, and `add` with one
-  pub many : order (119 ∷ 111 ∷ 114 ∷ 100 ∷ 115 ∷ 32 ∷ 49 ∷ 32 ∷ 50 ∷ []) ≡ Order.unreadable
-  pub few : order (97 ∷ 100 ∷ 100 ∷ 32 ∷ 51 ∷ []) ≡ Order.unreadable
-
-pub worked : Worked
+-- `leads 0 99999`, whose second number counts as 129
+pub large : cut (order (108 ∷ 101 ∷ 97 ∷ 100 ∷ 115 ∷ 32 ∷ 48 ∷ 32 ∷ 57 ∷ 57 ∷ 57 ∷ 57 ∷ 57 ∷ [])) ≡ Command.Leads 0 129
 unfolding order read parts prepend same digit? decimal numberOf withOne withTwo cut
-worked = record {
-  zeros = refl;
-  two = refl;
-  large = refl;
-  blanks = refl;
-  trailing = refl;
-  return = refl;
-  empty = refl;
-  many = refl;
-  few = refl;
-}
+large = refl

@@ -1,4 +1,3 @@
-pub mod Orders
 pub mod Scanning
 pub mod Performing
 pub mod Examples

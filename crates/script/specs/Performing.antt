@@ -12,7 +12,7 @@ use Rattle.editing.specs.Promise.{Represents, changeAnswer, replyAnswer, StartP
 use Rattle.script.specs.declared.Command.{Command}
 use Rattle.script.specs.declared.Outcome.{Outcome}
 use Rattle.script.specs.declared.Performed.{Performed}
-use Rattle.script.specs.Orders.{Order, order}
+use Rattle.specification.specs.Orders.{Order, order}
 use Rattle.script.specs.Scanning.{begun, scan, finished}
 
 -- the case of each of the machine's answers, with the number where it is refused

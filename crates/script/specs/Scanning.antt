@@ -8,7 +8,7 @@ use Rattle.specification.specs.Count.{choose}
 use Rattle.script.specs.declared.Numeral.{Numeral}
 use Rattle.script.specs.declared.Scanner.{Scanner}
 use Rattle.script.specs.declared.Command.{Command}
-use Rattle.script.specs.Orders.{wordsName, addName, leadsName, digit?, Order}
+use Rattle.specification.specs.Orders.{wordsName, addName, leadsName, digit?, Order}
 
 -- a larger number counts as this one: more than the most vertices, so that every call answers it alike
 abbrev pub largest : ℕ

@@ -5,13 +5,12 @@ use lib.Bits.{bitOr, and-le-l}
 use lib.Count.{trailingZeros}
 use Rattle.counting.proofs.Truth.{lt-or-le}
 use Rattle.specification.specs.Sets.{bit, member, member?, inserted, at, has?}
-use Rattle.masks.specs.Sets.{Next}
+use Rattle.search.specs.Steps.Search.{Next, open?, NextOpen}
 use Rattle.masks.specs.Pairs.{inPair}
 use Rattle.masks.proofs.Bits.{without, one-shl, bit-of-zero, trailing-below, trailing-at, trailing-lt}
 use Rattle.masks.proofs.Sets.{without-member}
 use Rattle.masks.proofs.Pairing.{pair-low, pair-high}
 use Rattle.masks.proofs.Tables.{Row, pair-row, row-member}
-use Rattle.search.specs.Steps.Search.{open?, NextOpen}
 
 module _ (table visited : List ℕ) (h a b c d : ℕ) (ea : a ≡ getD table (2 * h + 0) 0) (eb : b ≡ getD visited (0 + 0) 0) (ec : c ≡ getD table (2 * h + 1) 0) (ed : d ≡ getD visited (0 + 1) 0)
     (fit : (i : ℕ) → getD visited i 0 < 2 ^ 64) where

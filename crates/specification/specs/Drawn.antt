@@ -5,6 +5,7 @@ use mathlib.Core.List.{List}
 use Prim.Native.Nat.{ℕ, _<_}
 use lib.Dec.{eqb, ltb}
 use lib.ListN.{length, getD}
+use Rattle.specification.specs.Limits.{mostVertices}
 use Rattle.specification.specs.Count.{choose}
 use Rattle.specification.specs.Graph.{tailsOf, headsOf}
 use Rattle.specification.specs.Checks.{Content, content, edgesOf, refusalOf, nothing, recordRefusal, said}
@@ -53,8 +54,8 @@ pub record Summary (c : Content) (p : Plan) (r : ChartCounts) : Type 0 where
   pub lines : r .lines ≡ length (p .channels)
   pub firm : r .firm ≡ reducedEdges c
   pub width : r .width ≡ widthOf p
-  pub side-columns : (l : ℕ) → l < 128 → getD (r .«side_columns») l 0 ≡ tracksIn p l
-  pub long : length (r .«side_columns») ≡ 128
+  pub side-columns : (l : ℕ) → l < mostVertices → getD (r .«side_columns») l 0 ≡ tracksIn p l
+  pub long : length (r .«side_columns») ≡ mostVertices
 
 -- r has no count
 pub record Zeroed (r : ChartCounts) : Type 0 where
@@ -65,4 +66,4 @@ pub record Zeroed (r : ChartCounts) : Type 0 where
   pub lines : r .lines ≡ 0
   pub firm : r .firm ≡ 0
   pub width : r .width ≡ 0
-  pub side-columns : (l : ℕ) → l < 128 → getD (r .«side_columns») l 0 ≡ 0
+  pub side-columns : (l : ℕ) → l < mostVertices → getD (r .«side_columns») l 0 ≡ 0

@@ -10,3 +10,4 @@ mod Tracks
 mod Writing
 mod Lent
 mod Lawful
+mod Orders

@@ -19,6 +19,7 @@ pub mod Lent
 pub mod Drawn
 pub mod Lawful
 pub mod Machine
+pub mod Orders
 pub mod Strokes
 pub mod Asked
 pub mod Table

@@ -1,5 +1,5 @@
 use Rattle.counting.proofs.Prelude.{_≡_, sym, ℕ, _+_, _*_, _≤_, _<_, min, arith, leb, lt-leb, le-leb, needs}
-use Rattle.descent.specs.Promise.{fits?}
+use Rattle.descent.specs.Steps.Closed.{fits?}
 use Rattle.descent.proofs.is_fit.Statement.{statement}
 use Rattle.descent.proofs.is_fit.Tie as tie
 

@@ -4,17 +4,18 @@ use mathlib.Core.Path.{_≡_}
 use mathlib.Core.Logic.{_≢_, _↔_}
 use mathlib.Core.Bool.{Bool, _&&_}
 use mathlib.Core.List.{List}
-use Prim.Native.Nat.{ℕ, _+_, _*_, _≤_, _<_}
-use lib.Dec.{ltb}
+use Prim.Native.Nat.{ℕ, _+_, _*_, _≤_, _<_, min}
+use lib.Dec.{ltb, leb}
 use lib.ListN.{length, getD}
 use Rattle.specification.specs.Count.{sum, count}
 use Rattle.specification.specs.Sets.{bit, at, has?}
-use Rattle.specification.specs.Graph.{Reaches, Longer, reaches?}
+use Rattle.specification.specs.Graph.{Reaches, Longer, reaches?, refusal}
 use Rattle.specification.specs.Rows.{row, rowsUsed}
 use Rattle.counting.specs.Quads.{quad}
-use Rattle.scanning.specs.Scanned.{Blank}
+use Rattle.masks.specs.Sets.{Blank}
 use Rattle.descent.specs.declared.Descent.{Descent}
 use Rattle.descent.specs.Promise.{noDescent}
+use Rattle.specification.specs.Limits.{mostVertices}
 
 -- the table e has an edge from u to v
 abbrev pub Arc : List ℕ → ℕ → ℕ → Type 0
@@ -99,3 +100,9 @@ pub record Ranked (e : List ℕ) (n : ℕ) (p : List ℕ) (r : Descent) (b t l p
   pub made : r .refusal ≡ 0 → (r .used ≢ 0)
       × ((t₀ l₀ q : List ℕ) × Blank t₀ × Blank l₀ × Laid e n (r .used) p q b × Closed e n t₀ l₀ q t l p′)
   pub rest : Rest n p p′
+
+-- the same of their lengths, computed
+unfoldable pub fits? : ℕ → ℕ → ℕ → ℕ → ℕ → ℕ → Bool
+fits? n e b t l p =
+    leb (2 * min n mostVertices) e && (leb (2 * min n mostVertices + 2) b
+    && (leb (2 * min n mostVertices) t && (leb (2 * min n mostVertices) l && leb (4 * min n mostVertices) p)))

@@ -1,6 +1,6 @@
 use Rattle.counting.proofs.Prelude.{ap, _∙_, ℕ, _+_, _-_, _*_, min, le-leb, lt-leb, needs}
 use Rattle.script.specs.declared.Numeral.{Numeral}
-use Rattle.script.specs.Orders.{digit?}
+use Rattle.specification.specs.Orders.{digit?}
 use Rattle.script.specs.Scanning.{appended}
 use Rattle.script.proofs.append.Statement.{statement}
 use Rattle.script.proofs.append.Tie as tie

@@ -3,7 +3,7 @@ use mathlib.Core.Path.{_≡_}
 use mathlib.Core.Bool.{Bool, true, false, not, _&&_}
 use mathlib.Core.List.{List}
 use Prim.Native.Nat.{ℕ, _≤_, _<_}
-use Rattle.specification.specs.Sets.{member?, has?}
+use Rattle.specification.specs.Sets.{member?, has?, member}
 use Rattle.search.specs.Steps.Coded.{State, seen, unvisited, augment, fresh}
 
 abbrev pub state : List ℕ → List ℕ → Bool → State
@@ -31,3 +31,9 @@ pub record Asks (leads : ℕ → ℕ → Bool) (n h : ℕ) (P P′ : List ℕ) :
   pub visited : List ℕ
   pub found : Bool
   pub augments : Augments leads n h (fresh P) (state P′ visited found)
+
+-- r is the first vertex at or after `from` and below `top` in the set at `first`, or `top` where there is none
+pub record Next (masks : List ℕ) (first top from r : ℕ) : Type 0 where
+  pub within : r ≤ top
+  pub skipped : (v : ℕ) → from ≤ v → v < r → member masks first v ≡ 0
+  pub found : r < top → (from ≤ r) × (member masks first r ≡ 1)

@@ -1,6 +1,7 @@
 use Rattle.counting.proofs.Prelude.{sym, subst, Bool, needs}
 use Rattle.channels.specs.Promise.{Answers}
-use Rattle.record.specs.Checked.{channelsRefusal, channelsBy}
+use Rattle.record.specs.Checked.{channelsBy}
+use Rattle.record.specs.Steps.{channelsRefusal}
 use Rattle.record.proofs.checks.channels_of.Statement.{statement}
 use Rattle.record.proofs.checks.channels_of.Tie as tie
 
