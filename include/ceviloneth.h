@@ -1,13 +1,14 @@
 /* Ceviloneth, a layout engine for descent charts, for C and whatever calls C. docs/SPECIFICATION.md has the rules, by number.
  *
- * Link with libceviloneth.a (x86-64 Linux). The library keeps nothing between calls, allocates nothing and uses memcpy and memset alone, so
- * calls may run at the same time on lists of their own. A call takes up to 48 KB of stack.
+ * Link with libceviloneth.a, or with the shared library that tools/shared-library.sh makes of it (x86-64 Linux). The library keeps nothing
+ * between calls, allocates nothing and uses memcpy and memset alone, so calls may run at the same time on lists of their own.
  *
- * Lists. A list is a pointer and its number of numbers (not of bytes). A pointer is never NULL, also where the number is 0, and is
- * aligned for its type. The lists of one call do not overlap. Beyond this every call takes any values: a damaged record, a short list,
- * any numbers in a session. It then refuses, or answers as said below.
+ * Lists. A lent list is a pointer and its number of numbers (not of bytes), and the caller sees to three things: as many numbers can be
+ * read there, and written where the pointer is not const; the pointer is aligned for its number type; and a list that is written
+ * overlaps no other list of the call. A list of no numbers may be (NULL, 0). Beyond this every call takes any values: a damaged record, a
+ * short list, any numbers in a session. It then refuses, or answers as said below.
  *
- * Refusals. Each call tells 0, or why it refuses (13):
+ * Refusals. Each call but ceviloneth_version tells 0, or why it refuses (13):
  *    1 layout    the bytes are not laid out as a record's (1)
  *    2 size      no word or more than 128, or more than 4,096 arrows
  *    3 stranger  a word that is not there is named
@@ -29,6 +30,19 @@
 #ifdef __cplusplus
 extern "C" {
 #endif
+
+/* ---- the edge */
+
+/* The version of what this header says. It rises by one with every change that an app could notice: of a call, a struct, a list's numbers,
+ * a limit or an answer. */
+#define CEVILONETH_VERSION 1
+
+/* The version that the archive or the shared library was made by: an app goes on only where it is CEVILONETH_VERSION. */
+uint32_t ceviloneth_version(void);
+
+/* Every call gets by with a thread whose whole stack has this many bytes; lent lists are not counted. Tested on the deepest searches for
+ * lines and on the largest charts (tests/stack), not proved. */
+#define CEVILONETH_STACK_BYTES 65536
 
 /* ---- charts */
 
@@ -77,7 +91,7 @@ ceviloneth_answer ceviloneth_leads(const uint8_t *record, size_t record_len, siz
 #define CEVILONETH_STATE 514
 
 /* Every call refuses with 8 first where the list is shorter than that. Numbers past 514 stay as they were. A list that was not made by
- * these calls is answered for as its numbers stand; words past 128 count as none. */
+ * these calls is answered for as its numbers stand, where more than 128 words count as 128. */
 
 /* A session of so many words and no arrows. Refusal 2. */
 uint8_t ceviloneth_session_start(uint64_t *state, size_t state_len, size_t words);

@@ -21,6 +21,14 @@ pub use refusal::Refusal;
 pub use session::{Session, STATE_NUMBERS};
 pub use stroke::{stroke_bent, stroke_side, stroke_straight, Place, Point};
 
+/// The version of the header that this crate was written by.
+pub const VERSION: u32 = 1;
+
+/// The version of the archive that is linked; where it isn't [`VERSION`] an app must not go on.
+pub fn version() -> u32 {
+    raw::version()
+}
+
 /// Whether a word of a record leads to another, by one arrow or more.
 pub fn leads(record: &[u8], from: usize, to: usize) -> Result<bool, Refusal> {
     raw::leads(record, from, to).answer()

@@ -48,6 +48,7 @@ pub struct Stroke {
 }
 
 unsafe extern "C" {
+    safe fn ceviloneth_version() -> u32;
     fn ceviloneth_chart(
         record: *const u8,
         record_length: usize,
@@ -75,6 +76,11 @@ unsafe extern "C" {
         c3: u32,
         r3: u32,
     ) -> Stroke;
+}
+
+/// The version that the archive was made by.
+pub fn version() -> u32 {
+    ceviloneth_version()
 }
 
 /// The chart of a record into lent lists, with the counts as they come.

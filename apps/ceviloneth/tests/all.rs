@@ -1,14 +1,22 @@
 //! The wrapper over the proved archive: values, refusals and their words.
 
 use ceviloneth::{
-    chart, chart_into, leads, stroke_bent, stroke_side, stroke_straight, Bundle, Kind, Lists,
-    Place, Point, Refusal, Session, Word,
+    chart, chart_into, leads, stroke_bent, stroke_side, stroke_straight, version, Bundle, Kind,
+    Lists, Place, Point, Refusal, Session, Word, VERSION,
 };
 
 const P5: &[u8] = &[1, 0, 1, 4, 2, 0, 12, 0, 1, 0, 2, 0, 3, 1, 2, 1, 3, 2, 3];
 const P6: &[u8] = &[
     1, 0, 1, 6, 2, 0, 8, 1, 2, 3, 4, 4, 5, 0, 5, 3, 0, 9, 1, 0, 2, 1, 2, 3, 3, 4, 5,
 ];
+
+#[test]
+fn header_wrapper_and_archive_are_of_one_version() {
+    let header = include_str!("../../../include/ceviloneth.h");
+    let line = format!("#define CEVILONETH_VERSION {VERSION}\n");
+    assert!(header.contains(&line), "the header's version");
+    assert_eq!(version(), VERSION);
+}
 
 #[test]
 fn a_chart_is_handed_over_whole() {

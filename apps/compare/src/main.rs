@@ -119,7 +119,7 @@ fn by_chance(stages: &mut Stages, sized: impl Fn(usize, usize) -> usize) -> Outc
     stages.run("damaged records", |t, g| records::damaged(t, g, count))?;
     let count = sized(3, 40);
     stages.run("largest records", |t, g| records::largest(t, g, count))?;
-    let count = sized(4_000, 60_000);
+    let count = sized(2_000, 30_000);
     stages.run("session scripts", |t, g| sessions::sessions(t, g, count))?;
     let count = sized(8_000, 60_000);
     stages.run("questions of records", |t, g| questions::leads(t, g, count))?;

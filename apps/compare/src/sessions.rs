@@ -1,59 +1,58 @@
-//! Session scripts on both sides: answers, and the state after each call.
+//! Session scripts on both sides, starts in any place: answers, and the state after each call.
 
 use crate::tester::{Outcome, Tester};
 use ceviloneth::{raw, STATE_NUMBERS};
-use reference::random::{calls, Generator};
+use reference::random::{lent_calls, Generator};
 use reference::record::{MAX_EDGES, MAX_VERTICES};
-use reference::session::{Answer, Call, Session};
+use reference::refusal::Refusal;
+use reference::session::{Answer, Call, LentCall, Session};
 
-/// Random scripts, and scripts that fill a session.
+/// Random scripts, scripts that fill a session, and lists that are too short.
 pub fn sessions(tester: &mut Tester, generator: &mut Generator, count: usize) -> Outcome {
     for _ in 0..count {
-        let (words, script) = calls(generator);
-        compare(tester, words, script)?;
+        compare(tester, lent_calls(generator))?;
     }
-    for _ in 0..1 + count / 10_000 {
-        compare(tester, MAX_VERTICES, filling(generator))?;
+    for _ in 0..1 + count / 5_000 {
+        compare(tester, filling(generator))?;
     }
-    compare(
-        tester,
-        usize::MAX,
-        vec![Call::Leads(0, 0), Call::Add(usize::MAX, 0)],
-    )
+    for length in 0..STATE_NUMBERS {
+        tester.compared += 1;
+        too_short(length, lent_calls(generator))?;
+    }
+    Ok(())
 }
 
 /// Adds until the session is full, and a little more of every kind.
-fn filling(generator: &mut Generator) -> Vec<Call> {
+fn filling(generator: &mut Generator) -> Vec<LentCall> {
     let mut pairs: Vec<(usize, usize)> = (0..MAX_VERTICES)
         .flat_map(|v| (0..v).map(move |u| (u, v)))
         .collect();
     generator.shuffle(&mut pairs);
-    let mut script: Vec<Call> = pairs[..MAX_EDGES + 40]
-        .iter()
-        .map(|&(u, v)| Call::Add(u, v))
-        .collect();
     let more = [(0, 128), (usize::MAX, 1), pairs[0], (127, 0), (5, 5)];
-    script.extend(more.iter().map(|&(u, v)| Call::Add(u, v)));
-    script.extend(pairs[MAX_EDGES..].iter().map(|&(u, v)| Call::Leads(v, u)));
-    script
+    let adds = pairs[..MAX_EDGES + 40].iter().chain(&more);
+    let asks = pairs[MAX_EDGES..].iter();
+    let start = LentCall::Start(MAX_VERTICES);
+    let adds = adds.map(|&(u, v)| LentCall::On(Call::Add(u, v)));
+    let asks = asks.map(|&(u, v)| LentCall::On(Call::Leads(v, u)));
+    [start].into_iter().chain(adds).chain(asks).collect()
 }
 
-fn compare(tester: &mut Tester, words: usize, script: Vec<Call>) -> Outcome {
+fn compare(tester: &mut Tester, script: Vec<LentCall>) -> Outcome {
     tester.compared += 1;
-    let Err(first) = run(words, &script) else {
+    let Err(first) = run(&script) else {
         return Ok(());
     };
-    let small = shortest(words, script);
-    let difference = run(words, &small).err().unwrap_or(first);
-    Err(format!("session of {words} words: {small:?}\n{difference}"))
+    let small = shortest(script);
+    let difference = run(&small).err().unwrap_or(first);
+    Err(format!("session calls {small:?}\n{difference}"))
 }
 
 /// The script without every call that the difference can do without.
-fn shortest(words: usize, mut script: Vec<Call>) -> Vec<Call> {
+fn shortest(mut script: Vec<LentCall>) -> Vec<LentCall> {
     let mut place = 0;
     while place < script.len() {
         let call = script.remove(place);
-        if run(words, &script).is_ok() {
+        if run(&script).is_ok() {
             script.insert(place, call);
             place += 1;
         }
@@ -61,41 +60,79 @@ fn shortest(words: usize, mut script: Vec<Call>) -> Vec<Call> {
     script
 }
 
-/// Runs a script on both sides; a refused start leaves the state as it was.
-fn run(words: usize, script: &[Call]) -> Outcome {
-    let mut state: Vec<u64> = (0..STATE_NUMBERS as u64 + 2)
-        .map(|n| (n << 40) | (7 * n))
-        .collect();
-    let before = state.clone();
-    let (mut session, refusal) = Session::start(words);
-    let found = raw::session_start(&mut state, words);
-    if found != refusal.map_or(0, |refusal| refusal.number()) {
+/// A list of that length with any numbers; they look like a session of nine words.
+fn any_numbers(length: usize) -> Vec<u64> {
+    let number = |n: u64| if n < 2 { 9 } else { (n << 40) | (7 * n) };
+    (0..length as u64).map(number).collect()
+}
+
+/// Runs a script on both sides.
+fn run(script: &[LentCall]) -> Outcome {
+    let mut state = any_numbers(STATE_NUMBERS + 2);
+    let mut session = None;
+    for &call in script {
+        session = match call {
+            LentCall::Start(words) => start(&mut state, session, words)?,
+            LentCall::On(call) => on(&mut state, session, call)?,
+        };
+    }
+    stands(&state, session.as_ref())
+}
+
+/// A start on both sides; refused, it leaves the list as it was, and the earlier session.
+fn start(
+    state: &mut [u64],
+    earlier: Option<Session>,
+    words: usize,
+) -> Result<Option<Session>, String> {
+    let before = state.to_vec();
+    let found = raw::session_start(state, words);
+    let (session, refusal) = Session::start_after(earlier.clone(), words);
+    if found != refusal.map_or(0, Refusal::number) {
         return Err(format!(
-            "start: the proved library answers {found}, not {refusal:?}"
+            "start of {words}: the proved library answers {found}, not {refusal:?}"
         ));
     }
-    if refusal.is_some() {
-        return same("a refused start", &state, &before);
+    match refusal {
+        Some(_) => same("a refused start", state, &before)?,
+        None => stands(&before, earlier.as_ref())?,
     }
-    for &call in script {
-        let before = state.clone();
-        let (after, expected) = session.call(call);
-        session = after;
-        let found = proved(&mut state, call);
-        if found != numbers(expected) {
-            return Err(format!(
-                "{call:?}: the proved library answers {found:?}, not {expected:?}"
-            ));
-        }
-        if expected != Answer::Added {
-            same("a call that adds nothing", &state, &before)?;
-        }
+    Ok(session)
+}
+
+/// A call on both sides; before the first accepted start any answer will do.
+fn on(state: &mut [u64], session: Option<Session>, call: Call) -> Result<Option<Session>, String> {
+    let before = state.to_vec();
+    let found = proved(state, call);
+    let Some(session) = session else {
+        return Ok(None);
+    };
+    let (after, expected) = session.call(call);
+    if found != numbers(expected) {
+        return Err(format!(
+            "{call:?}: the proved library answers {found:?}, not {expected:?}"
+        ));
     }
-    same(
-        "the state at the end",
-        &state,
-        &expected_state(&session, &before),
-    )
+    if expected != Answer::Added {
+        same("a call that adds nothing", state, &before)?;
+    }
+    Ok(Some(after))
+}
+
+/// Every call on a list that is too short answers 8 and leaves it as it was.
+fn too_short(length: usize, script: Vec<LentCall>) -> Outcome {
+    let mut state = any_numbers(length);
+    for call in script {
+        let found = match call {
+            LentCall::Start(words) => (raw::session_start(&mut state, words), false),
+            LentCall::On(call) => proved(&mut state, call),
+        };
+        if found != (Refusal::Short.number(), false) {
+            return Err(format!("{call:?} on {length} numbers answers {found:?}"));
+        }
+        same("a list too short", &state, &any_numbers(length))?;
+    }
+    Ok(())
 }
 
 /// The number of the refusal, and the answer.
@@ -117,10 +154,19 @@ fn proved(state: &mut [u64], call: Call) -> (u8, bool) {
     }
 }
 
-/// The state that stands for a session; what lies past it stays.
-fn expected_state(session: &Session, before: &[u64]) -> Vec<u64> {
-    let mut state = before.to_vec();
-    state[..STATE_NUMBERS].fill(0);
+/// The list spells the session, where there is one; what lies past it is as it was.
+fn stands(state: &[u64], session: Option<&Session>) -> Outcome {
+    let mut expected = any_numbers(state.len());
+    match session {
+        Some(session) => expected[..STATE_NUMBERS].copy_from_slice(&spelt(session)),
+        None => expected[..STATE_NUMBERS].copy_from_slice(&state[..STATE_NUMBERS]),
+    }
+    same("the state after these calls", state, &expected)
+}
+
+/// The numbers that stand for a session.
+fn spelt(session: &Session) -> Vec<u64> {
+    let mut state = vec![0; STATE_NUMBERS];
     state[0] = session.vertex_count() as u64;
     state[1] = session.edges().len() as u64;
     for &(u, v) in session.edges() {

@@ -20,11 +20,11 @@ changed r k z e h = ap (λ (j : ℕ). to j (r .session)) e ∙ ap (λ (y : Sessi
     to j y = record { refusal = j; session = y }
 
 module _ (was : List ℕ) where
-  short : (k : ℕ) → length was < 514 → 8 ≡ stateRefusal was k
+  pub short : (k : ℕ) → length was < 514 → 8 ≡ stateRefusal was k
   unfolding stateRefusal
   short k h = simp (lt-ltb _ _ h)
 
-  whole : (k : ℕ) → 514 ≤ length was → stateRefusal was k ≡ k
+  pub whole : (k : ℕ) → 514 ≤ length was → stateRefusal was k ≡ k
   unfolding stateRefusal
   whole k h = simp (le-ltb _ _ h)
 

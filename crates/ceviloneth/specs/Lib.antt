@@ -2,3 +2,4 @@ pub mod Calls
 pub mod State
 pub mod Strokes
 pub mod Steps
+pub mod Version

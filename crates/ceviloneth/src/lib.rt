@@ -6,6 +6,7 @@ ghost use Rattle.chart_numbers.specs.Chart.{HandedFlat};
 ghost use Rattle.specification.specs.Asked.{asked};
 ghost use Rattle.ceviloneth.specs.State.{Starts, Adds, Tells};
 ghost use Rattle.ceviloneth.specs.Strokes.{Drawn};
+ghost use Rattle.ceviloneth.specs.Version.{version};
 ghost use Rattle.specification.specs.Strokes.{cell};
 
 mod state;
@@ -20,6 +21,16 @@ use state::fill_state;
 use state::session_of;
 use state::told;
 use strokes::stroke_of;
+
+const VERSION: u32 = 1;
+
+// The version of the interface, so that an app can refuse a library that was made by another header.
+#[no_mangle]
+pub extern "C" fn ceviloneth_version() -> u32
+    ensures { λ r. ⌜ r ≡ version ⌝ }
+{
+    VERSION
+}
 
 // The chart of a record into three lists. A word has five numbers: line, position, column, row, descendants; an arrow five: its number, its
 // kind (0 spine, 1 side, 2 straight, 3 bent), the bundle or the bend's column, the bend's row, 1 if implied; a bundle four: line, the

@@ -4,7 +4,7 @@ use crate::damage;
 use crate::descent::Reachability;
 use crate::record::{Edge, Record, MAX_EDGES, MAX_VERTICES};
 use crate::rows;
-use crate::session::Call;
+use crate::session::{Call, LentCall};
 
 /// A source of numbers: xorshift64*, made ready from the seed by one step of another mixer.
 #[derive(Clone, Debug)]
@@ -243,4 +243,21 @@ pub fn calls(generator: &mut Generator) -> (usize, Vec<Call>) {
         }
     };
     (size, (0..count).map(call).collect())
+}
+
+/// Calls on a lent list: one to three sessions, and between their calls starts that are refused.
+pub fn lent_calls(generator: &mut Generator) -> Vec<LentCall> {
+    let mut script = Vec::new();
+    for _ in 0..generator.between(1, 3) {
+        let (size, calls) = calls(generator);
+        script.push(LentCall::Start(size));
+        for call in calls {
+            if generator.percent(4) {
+                let wrong = [0, MAX_VERTICES + 1, usize::MAX];
+                script.extend(generator.pick(&wrong).map(LentCall::Start));
+            }
+            script.push(LentCall::On(call));
+        }
+    }
+    script
 }

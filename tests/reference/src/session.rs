@@ -20,6 +20,15 @@ pub enum Call {
     Leads(usize, usize),
 }
 
+/// A call on a list that an app lends, where sessions may follow each other (11.5).
+#[derive(Clone, Copy, Debug, PartialEq, Eq)]
+pub enum LentCall {
+    /// Starts a session with so many vertices.
+    Start(usize),
+    /// A call on the session that stands in the list.
+    On(Call),
+}
+
 /// What a call answers.
 #[derive(Clone, Copy, Debug, PartialEq, Eq)]
 pub enum Answer {
@@ -43,6 +52,17 @@ impl Session {
             edges,
         };
         (session, None)
+    }
+
+    /// A start on a lent list; refused, the earlier session stays, if there was one.
+    pub fn start_after(
+        earlier: Option<Session>,
+        vertex_count: usize,
+    ) -> (Option<Session>, Option<Refusal>) {
+        match Session::start(vertex_count) {
+            (session, None) => (Some(session), None),
+            (_, refusal) => (earlier, refusal),
+        }
     }
 
     /// Adds the edge from `u` to `v`, or comes back as it was.

@@ -56,6 +56,26 @@ fn a_session_of_no_words_knows_no_word() {
 }
 
 #[test]
+fn a_refused_start_on_a_lent_list_leaves_the_earlier_session() {
+    let earlier = with_edges(3, &[(0, 1)]);
+    for size in [0, 129] {
+        let (session, refusal) = Session::start_after(Some(earlier.clone()), size);
+        assert_eq!(
+            (session.as_ref(), refusal),
+            (Some(&earlier), Some(Refusal::Size))
+        );
+        assert_eq!(
+            Session::start_after(None, size),
+            (None, Some(Refusal::Size))
+        );
+    }
+    assert_eq!(
+        Session::start_after(Some(earlier), 2),
+        (Some(fresh(2)), None)
+    );
+}
+
+#[test]
 fn add_refuses_strangers_doubles_and_rings_in_this_order() {
     let session = with_edges(3, &[(0, 1), (1, 2)]);
     assert_eq!(refused(&session, 3, 0), Some(3));
