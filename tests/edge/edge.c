@@ -1,0 +1,75 @@
+/* The edge test: header and archive are of one version, and each list of each call may be (NULL, 0).
+ *
+ *     rt staticlib ceviloneth
+ *     cc -std=c99 -O1 -Wall -Iinclude -o target/edge tests/edge/edge.c target/staticlib/libceviloneth.a
+ *     target/edge
+ *
+ * Prints the number of answers and `ok`; exit status 1 otherwise.
+ */
+#include "ceviloneth.h"
+#include <stdio.h>
+#include <stdlib.h>
+
+static unsigned calls;
+
+static void expect(const char *what, unsigned said, unsigned expected) {
+    calls++;
+    if (said != expected) {
+        printf("%s: %u, and not %u\n", what, said, expected);
+        exit(1);
+    }
+}
+
+/* One word; two words and an arrow; three words in a line with an arrow over it, which makes a bundle; no record at all. */
+static const uint8_t one[] = {1, 0, 1, 1, 2, 0, 0};
+static const uint8_t two[] = {1, 0, 1, 2, 2, 0, 2, 0, 1};
+static const uint8_t three[] = {1, 0, 1, 3, 2, 0, 6, 0, 1, 1, 2, 0, 2};
+static const uint8_t broken[] = {9};
+
+static uint16_t words[CEVILONETH_WORDS], arrows[CEVILONETH_ARROWS], bundles[CEVILONETH_BUNDLES];
+
+/* A chart into three lists, of which those with a 0 are (NULL, 0). */
+static void chart(const char *what, const uint8_t *record, size_t size, const int lent[3], unsigned expected) {
+    ceviloneth_counts c = ceviloneth_chart(record, size, lent[0] ? words : NULL, lent[0] ? CEVILONETH_WORDS : 0,
+                                           lent[1] ? arrows : NULL, lent[1] ? CEVILONETH_ARROWS : 0,
+                                           lent[2] ? bundles : NULL, lent[2] ? CEVILONETH_BUNDLES : 0);
+    expect(what, c.refusal, expected);
+    if (c.refusal != 0 && c.words + c.arrows + c.bundles != 0) {
+        expect("a refused chart's counts", 1, 0);
+    }
+}
+
+/* Every choice of lists that are not there: a chart is drawn where no entry needs one of them. */
+static void try_charts(void) {
+    for (int choice = 0; choice < 8; choice++) {
+        const int lent[3] = {choice & 1, choice >> 1 & 1, choice >> 2 & 1};
+        chart("no record", NULL, 0, lent, 1);
+        chart("a record that is none", broken, sizeof broken, lent, 1);
+        chart("one word", one, sizeof one, lent, lent[0] ? 0 : 8);
+        chart("an arrow", two, sizeof two, lent, lent[0] && lent[1] ? 0 : 8);
+        chart("a bundle", three, sizeof three, lent, lent[0] && lent[1] && lent[2] ? 0 : 8);
+    }
+}
+
+static void try_questions(void) {
+    ceviloneth_answer a = ceviloneth_leads(NULL, 0, 0, 0);
+    expect("a question about no record", a.refusal, 1);
+    expect("its answer", a.leads, 0);
+}
+
+static void try_sessions(void) {
+    ceviloneth_answer a = ceviloneth_session_leads(NULL, 0, 0, 1);
+    expect("a start in no list", ceviloneth_session_start(NULL, 0, 5), 8);
+    expect("an arrow in no list", ceviloneth_session_add(NULL, 0, 0, 1), 8);
+    expect("a question of no list", a.refusal, 8);
+    expect("its answer", a.leads, 0);
+}
+
+int main(void) {
+    expect("the archive's version", ceviloneth_version(), CEVILONETH_VERSION);
+    try_charts();
+    try_questions();
+    try_sessions();
+    printf("%u answers\nok\n", calls);
+    return 0;
+}

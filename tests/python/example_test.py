@@ -1,0 +1,100 @@
+#!/usr/bin/env python3
+"""The example in Python: what it draws is each sample's listing, what it checks is what the program `verdict` says, and errors are told.
+
+Needs target/shared/libceviloneth.so (tools/shared-library.sh) and target/bin/verdict. Exit status 1 where something differs.
+"""
+import os
+import shutil
+import subprocess
+import sys
+import tempfile
+from pathlib import Path
+
+ROOT = Path(__file__).resolve().parents[2]
+EXAMPLE = ROOT / 'examples' / 'python' / 'ceviloneth.py'
+RECORDS = sorted((ROOT / 'samples').glob('*.record'))
+WORDS = {'refused 5': 'refused 5 ring', 'refused 1': 'refused 1 layout'}
+
+wrong = []
+
+
+def run(*arguments, library=None):
+    """Exit status, output and errors of the example."""
+    environment = {name: value for name, value in os.environ.items() if name != 'CEVILONETH_LIBRARY'}
+    if library is not None:
+        environment['CEVILONETH_LIBRARY'] = str(library)
+    ran = subprocess.run([sys.executable, '-B', EXAMPLE, *arguments], capture_output=True, text=True, env=environment)
+    return ran.returncode, ran.stdout, ran.stderr
+
+
+def expect(what, said, expected):
+    if said != expected:
+        wrong.append(f'{what}: {said}, and not {expected}')
+
+
+def expect_error(what, said, text):
+    """Exit status 2, nothing printed, and one line that says what is wrong."""
+    status, output, errors = said
+    if status != 2 or output or text not in errors or len(errors.splitlines()) != 1:
+        wrong.append(f'{what}: {said}, and not 2 with {text}')
+
+
+def verdict(path):
+    said = subprocess.run([ROOT / 'target' / 'bin' / 'verdict'], stdin=path.open('rb'), capture_output=True, text=True, check=True)
+    return said.stdout.strip()
+
+
+def checked(paths):
+    """What must be printed for a folder of these records."""
+    said = [verdict(path) for path in paths]
+    lines = ''.join(f'{path.name}: {WORDS.get(line, line)}\n' for path, line in zip(paths, said))
+    return int(any(line != 'accepted' for line in said)), lines, ''
+
+
+def test_drawing():
+    for path in RECORDS:
+        lines = path.with_suffix('.listing').read_text()
+        expect(f'draw {path.name}', run('draw', path), (int(lines.startswith('refused')), lines, ''))
+
+
+def test_checking(folder):
+    expect('check samples', run('check', ROOT / 'samples'), checked(RECORDS))
+    expect('a refused sample', checked(RECORDS)[0], 1)
+    expect('an empty folder', run('check', folder), (0, '', ''))
+    shutil.copy(ROOT / 'samples' / 'p1.record', folder)
+    expect('a sound record alone', run('check', folder), (0, 'p1.record: accepted\n', ''))
+    (folder / 'long.record').write_bytes((ROOT / 'samples' / 'p1.record').read_bytes().ljust(100000, b'\0'))
+    (folder / 'none.record').write_bytes(b'')
+    expect('files of no layout', run('check', folder), checked(sorted(folder.glob('*.record'))))
+
+
+def of_another_version(folder):
+    """A library that has the calls and says another version."""
+    library = folder / 'other.so'
+    source = 'unsigned ceviloneth_version(void) { return 77; } void ceviloneth_chart(void) {}'
+    subprocess.run(['cc', '-shared', '-fPIC', '-o', library, '-x', 'c', '-'], input=source, text=True, check=True)
+    return library
+
+
+def test_errors(folder):
+    record = RECORDS[0]
+    (folder / 'text.so').write_text('no library')
+    expect_error('no library', run('draw', record, library=folder / 'none.so'), 'none.so is missing')
+    expect_error('another file', run('draw', record, library=folder / 'text.so'), 'text.so is no library')
+    expect_error('another version', run('draw', record, library=of_another_version(folder)), 'other.so has version 77')
+    expect_error('no file', run('draw', folder / 'no.record'), 'no.record can\'t be read')
+    expect_error('no folder', run('check', folder / 'no'), 'no is no folder')
+    expect('wrong use', run('paint', record)[0], 2)
+
+
+def main():
+    test_drawing()
+    with tempfile.TemporaryDirectory() as folder:
+        test_checking(Path(folder))
+    with tempfile.TemporaryDirectory() as folder:
+        test_errors(Path(folder))
+    print('\n'.join(wrong + [f'{len(RECORDS)} samples, {len(wrong)} faults']))
+    return 1 if wrong or len(RECORDS) < 9 else 0
+
+
+sys.exit(main())

@@ -1,0 +1,357 @@
+/* The stack test: every call of the header is made on a thread whose whole stack has CEVILONETH_STACK_BYTES bytes, with pages below it that
+ * can't be touched. Records are those whose searches for lines go deepest, the largest charts, refused ones, and the files that are named.
+ * Every answer must be the one that is given on the main thread's large stack.
+ *
+ *     rt staticlib ceviloneth
+ *     cc -std=c99 -O1 -Wall -pthread -Iinclude -o target/stack tests/stack/stack.c target/staticlib/libceviloneth.a
+ *     target/stack [--bytes N] [RECORD ..]
+ *
+ * Prints the records tried and how much of the stack was used, then `ok`; exit status 1 otherwise. With 16384 bytes it must fail.
+ */
+#define _GNU_SOURCE
+#include "ceviloneth.h"
+#include <pthread.h>
+#include <signal.h>
+#include <stdio.h>
+#include <stdlib.h>
+#include <string.h>
+#include <sys/mman.h>
+#include <unistd.h>
+
+enum { WORDS = 128, MOST = 4096, LONGEST = 65536, GUARD = 131072, PAINT = 0xA5 };
+
+static const char *doing = "starting", *of = "no record";
+
+static void fail(const char *what) {
+    printf("%s, %s: %s\n", of, doing, what);
+    exit(1);
+}
+
+/* ---- what is called: lists and answers lie outside the stack */
+
+static uint8_t record[LONGEST];
+static size_t size;
+static uint16_t words[CEVILONETH_WORDS], arrows[CEVILONETH_ARROWS], bundles[CEVILONETH_BUNDLES];
+static uint64_t state[CEVILONETH_STATE];
+static ceviloneth_counts counts;
+
+/* All that was answered, as one number. */
+static uint64_t heard;
+
+static void hear(uint64_t number) { heard = (heard ^ number) * 1099511628211u; }
+
+static void hear_list(const uint16_t *list, size_t length) {
+    for (size_t i = 0; i < length; i++) {
+        hear(list[i]);
+    }
+}
+
+static void hear_answer(ceviloneth_answer a) { hear(a.refusal + 256u * a.leads); }
+
+static void hear_stroke(ceviloneth_stroke s) {
+    float n[8] = {s.x0, s.y0, s.x1, s.y1, s.x2, s.y2, s.x3, s.y3};
+    hear(s.refusal + 256u * s.points);
+    for (int i = 0; i < 8; i++) {
+        hear((uint64_t)(4 * n[i]));
+    }
+}
+
+static void call_chart(size_t arrows_length) {
+    doing = "ceviloneth_chart";
+    counts = ceviloneth_chart(record, size, words, CEVILONETH_WORDS, arrows, arrows_length, bundles, CEVILONETH_BUNDLES);
+    hear(counts.refusal);
+    hear(counts.words + 256u * counts.arrows);
+    hear(counts.rows + 256u * counts.lines);
+    hear(counts.firm + 65536u * counts.width);
+    hear_list(counts.side_columns, 128);
+    hear_list(words, 5 * counts.words);
+    hear_list(arrows, 5 * counts.arrows);
+    hear_list(bundles, 4 * counts.bundles);
+}
+
+/* A session of the record's words and arrows; what else its bytes are goes in too, and is refused or not. */
+static void call_session(void) {
+    memset(state, 0, sizeof state);
+    doing = "ceviloneth_session_start";
+    hear(ceviloneth_session_start(state, CEVILONETH_STATE, size > 3 ? record[3] : 0));
+    for (size_t at = 7; at + 1 < size; at += 2) {
+        doing = "ceviloneth_session_add";
+        hear(ceviloneth_session_add(state, CEVILONETH_STATE, record[at], record[at + 1]));
+        doing = "ceviloneth_session_leads";
+        hear_answer(ceviloneth_session_leads(state, CEVILONETH_STATE, record[at + 1], record[at]));
+    }
+}
+
+static void call_strokes(uint32_t column) {
+    doing = "a stroke";
+    hear_stroke(ceviloneth_stroke_straight(0, 0, column, 127));
+    hear_stroke(ceviloneth_stroke_bent(0, 0, 1, 126, column, 127));
+    hear_stroke(ceviloneth_stroke_side(3, 0, column, 0, column, 127, 3, 127));
+}
+
+/* Every call, for the record as it stands. */
+static void *call_all(void *unused) {
+    heard = 14695981039346656037u;
+    doing = "ceviloneth_version";
+    hear(ceviloneth_version());
+    call_chart(0);
+    call_chart(CEVILONETH_ARROWS);
+    doing = "ceviloneth_leads";
+    for (size_t to = 0; to <= WORDS; to += 32) {
+        hear_answer(ceviloneth_leads(record, size, 0, to));
+    }
+    call_session();
+    call_strokes(639);
+    call_strokes(640);
+    return unused;
+}
+
+/* ---- the bounded stack */
+
+static uint8_t *stack;
+static size_t bytes = CEVILONETH_STACK_BYTES, most_used;
+
+static void say(const char *text) {
+    if (write(1, text, strlen(text)) < 0) {
+        _exit(2);
+    }
+}
+
+/* Runs on a stack of its own, since there is no room on the thread's. */
+static void on_fault(int number, siginfo_t *about, void *unused) {
+    const uint8_t *at = about->si_addr;
+    (void)number;
+    (void)unused;
+    say(at >= stack - GUARD && at < stack ? "the stack is overrun: " : "a trap, or memory outside the lists was touched: ");
+    say(doing);
+    say("\n");
+    _exit(1);
+}
+
+/* The stack, and below it GUARD bytes that can't be touched: more than any frame has. */
+static void make_stack(void) {
+    uint8_t *all = mmap(NULL, GUARD + bytes, PROT_NONE, MAP_PRIVATE | MAP_ANONYMOUS, -1, 0);
+    stack = all + GUARD;
+    if (all == MAP_FAILED || mprotect(stack, bytes, PROT_READ | PROT_WRITE) != 0) {
+        fail("no memory");
+    }
+}
+
+static void *thread(void *unused) {
+    static uint8_t room[LONGEST];
+    stack_t other = {.ss_sp = room, .ss_size = sizeof room};
+    sigaltstack(&other, NULL);
+    return call_all(unused);
+}
+
+static void measure(void) {
+    size_t left = 0;
+    while (left < bytes && stack[left] == PAINT) {
+        left++;
+    }
+    if (bytes - left > most_used) {
+        most_used = bytes - left;
+    }
+}
+
+static void run_bounded(void) {
+    pthread_attr_t attributes;
+    pthread_t started;
+    memset(stack, PAINT, bytes);
+    if (pthread_attr_init(&attributes) != 0 || pthread_attr_setstack(&attributes, stack, bytes) != 0 ||
+        pthread_create(&started, &attributes, thread, NULL) != 0 || pthread_join(started, NULL) != 0) {
+        fail("no thread with such a stack");
+    }
+    pthread_attr_destroy(&attributes);
+    measure();
+}
+
+/* ---- records */
+
+static unsigned tried;
+
+/* All calls on both stacks; the chart's refusal must be the one given, any where it is below 0. */
+static void try_record(const char *name, int refusal) {
+    of = name;
+    call_all(NULL);
+    uint64_t expected = heard;
+    run_bounded();
+    if (heard != expected) {
+        fail("another answer than on a large stack");
+    }
+    if (refusal >= 0 && counts.refusal != refusal) {
+        fail("another refusal than expected");
+    }
+    tried++;
+}
+
+static void put_field(unsigned tag, size_t length) {
+    record[size++] = (uint8_t)tag;
+    record[size++] = (uint8_t)(length >> 8);
+    record[size++] = (uint8_t)length;
+}
+
+static void begin(void) {
+    size = 0;
+    put_field(1, 1);
+    record[size++] = WORDS;
+    put_field(2, 0);
+}
+
+/* Puts an arrow in, if there is room for it. */
+static void put_arrow(size_t from, size_t to) {
+    size_t length = size - 7;
+    if (length < 2 * MOST) {
+        record[size++] = (uint8_t)from;
+        record[size++] = (uint8_t)to;
+        record[5] = (uint8_t)((length + 2) >> 8);
+        record[6] = (uint8_t)(length + 2);
+    }
+}
+
+/* One line through all words in this order. */
+static void line(const uint8_t *order) {
+    begin();
+    for (size_t i = 0; i + 1 < WORDS; i++) {
+        put_arrow(order[i], order[i + 1]);
+    }
+}
+
+/* When word 126 asks for a follower, the searches of all words but the last wait for each other. */
+static void deepest_search(void) {
+    uint8_t order[WORDS] = {125, 124};
+    for (uint8_t i = 0; i < 124; i++) {
+        order[2 + i] = i;
+    }
+    order[126] = 126;
+    order[127] = 127;
+    line(order);
+}
+
+/* The first 4,096 arrows from lower to higher words. */
+static void dense(void) {
+    begin();
+    for (size_t v = 1; v < WORDS; v++) {
+        for (size_t u = 0; u < v; u++) {
+            put_arrow(u, v);
+        }
+    }
+}
+
+/* Each word to those up to so many on. */
+static void chain(size_t longest) {
+    begin();
+    for (size_t rise = 1; rise <= longest; rise++) {
+        for (size_t u = 0; u + rise < WORDS; u++) {
+            put_arrow(u, u + rise);
+        }
+    }
+}
+
+/* Each of the lower 64 words to all of the upper, or to ever fewer of them, so that every search goes through all. */
+static void bipartite(int fewer) {
+    begin();
+    for (size_t u = 0; u < WORDS / 2; u++) {
+        for (size_t v = WORDS / 2; v < (fewer ? WORDS - u : WORDS); v++) {
+            put_arrow(u, v);
+        }
+    }
+}
+
+/* Adds a house line of all words, or one a word. */
+static void put_house_lines(int one) {
+    put_field(3, one ? 1 + WORDS : 2 * WORDS);
+    for (size_t w = 0; w < WORDS; w++) {
+        if (w == 0 || !one) {
+            record[size++] = one ? WORDS : 1;
+        }
+        record[size++] = (uint8_t)w;
+    }
+}
+
+/* Lines through the words in any order: their searches are deep. */
+static void try_random_lines(void) {
+    static uint64_t bits = 88172645463325252u;
+    uint8_t order[WORDS];
+    for (size_t i = 0; i < WORDS; i++) {
+        order[i] = (uint8_t)i;
+    }
+    for (int round = 0; round < 500; round++) {
+        for (size_t i = WORDS - 1; i > 0; i--) {
+            bits ^= bits << 13;
+            bits ^= bits >> 7;
+            bits ^= bits << 17;
+            size_t j = (size_t)(bits >> 16) % (i + 1);
+            uint8_t kept = order[i];
+            order[i] = order[j];
+            order[j] = kept;
+        }
+        line(order);
+        try_record("a line in any order", 0);
+    }
+}
+
+static void try_sound(void) {
+    deepest_search();
+    try_record("the deepest search", 0);
+    dense();
+    try_record("4,096 arrows", 0);
+    chain(32);
+    try_record("a line with arrows up to 32 on", 0);
+    chain(WORDS);
+    try_record("one line and 4,096 arrows", 0);
+    put_house_lines(1);
+    try_record("one house line and 4,096 arrows", 0);
+    bipartite(0);
+    try_record("each word of a half to each of the other", 0);
+    put_house_lines(0);
+    try_record("128 house lines and 4,096 arrows", 0);
+    bipartite(1);
+    try_record("a search through 64 words at every step", 0);
+    begin();
+    try_record("no arrows", 0);
+    try_random_lines();
+}
+
+static void try_refused(void) {
+    chain(31);
+    put_arrow(WORDS - 1, 0);
+    try_record("a ring at the last arrow", 5);
+    size = LONGEST - 1;
+    memset(record, 0, size);
+    try_record("65,535 bytes of no layout", 1);
+    size = 0;
+    try_record("no bytes", 1);
+}
+
+static void try_file(const char *name) {
+    FILE *file = fopen(name, "rb");
+    of = name;
+    doing = "reading";
+    if (file == NULL) {
+        fail("the file can't be read");
+    }
+    size = fread(record, 1, sizeof record, file);
+    fclose(file);
+    try_record(name, -1);
+}
+
+int main(int count, char **arguments) {
+    struct sigaction action = {.sa_sigaction = on_fault, .sa_flags = SA_ONSTACK | SA_SIGINFO};
+    int first = 1;
+    if (count > 2 && strcmp(arguments[1], "--bytes") == 0) {
+        bytes = strtoul(arguments[2], NULL, 10);
+        first = 3;
+    }
+    sigaction(SIGSEGV, &action, NULL);
+    sigaction(SIGBUS, &action, NULL);
+    sigaction(SIGILL, &action, NULL);
+    make_stack();
+    try_sound();
+    try_refused();
+    for (int i = first; i < count; i++) {
+        try_file(arguments[i]);
+    }
+    printf("%u records, %zu of %zu bytes of stack used at most, the thread's own among them\nok\n", tried, most_used, bytes);
+    return 0;
+}
