@@ -11,3 +11,6 @@ pub mod Depth
 pub mod Ordered
 pub mod Planned
 pub mod Same
+pub mod Without
+pub mod Beside
+pub mod Fewest

@@ -105,11 +105,11 @@ module _ (leads : ℕ → ℕ → Bool) where
 
 -- ---- channels
 
-channel-here : (c : ℕ) (l : List ℕ) (ls : List (List ℕ)) (v : ℕ) → has v l ≡ true → channelFrom c (l ∷ ls) v ≡ c
+pub channel-here : (c : ℕ) (l : List ℕ) (ls : List (List ℕ)) (v : ℕ) → has v l ≡ true → channelFrom c (l ∷ ls) v ≡ c
 unfolding channelFrom
 channel-here c l ls v e = rw e
 
-channel-on : (c : ℕ) (l : List ℕ) (ls : List (List ℕ)) (v : ℕ) → has v l ≡ false → channelFrom c (l ∷ ls) v ≡ channelFrom (suc c) ls v
+pub channel-on : (c : ℕ) (l : List ℕ) (ls : List (List ℕ)) (v : ℕ) → has v l ≡ false → channelFrom c (l ∷ ls) v ≡ channelFrom (suc c) ls v
 unfolding channelFrom
 channel-on c l ls v e = rw e
 
@@ -121,11 +121,12 @@ position-on : (l : List ℕ) (ls : List (List ℕ)) (v : ℕ) → has v l ≡ fa
 unfolding positionOf
 position-on l ls v e = rw e
 
-further : (v : ℕ) (l : List ℕ) (ls : List (List ℕ)) → has v l ≡ false → 0 < times v (flatten (l ∷ ls)) → 0 < times v (flatten ls)
+pub further : (v : ℕ) (l : List ℕ) (ls : List (List ℕ)) → has v l ≡ false → 0 < times v (flatten (l ∷ ls)) → 0 < times v (flatten ls)
 unfolding flatten
 further v l ls e h = omega (arith, times-append v l (flatten ls), has-false v l e)
 
-channel-range : (c : ℕ) (ls : List (List ℕ)) (v : ℕ) → 0 < times v (flatten ls) → (c ≤ channelFrom c ls v) × (channelFrom c ls v < c + length ls)
+pub channel-range : (c : ℕ) (ls : List (List ℕ)) (v : ℕ) → 0 < times v (flatten ls)
+    → (c ≤ channelFrom c ls v) × (channelFrom c ls v < c + length ls)
 unfolding flatten
 channel-range c [] v h = absurd (omega (arith, times-none v))
 channel-range c (l ∷ ls) v h = go (has v l) refl (channel-range (suc c) ls v)

@@ -1,6 +1,7 @@
 -- The channels of the rule: each vertex leads to the next; if `leads` is a strict order they hold every vertex once and are a division,
 -- and no division has fewer parts. Assumes nothing.
-use Rattle.counting.proofs.Prelude.{_≡_, refl, sym, ap, _∙_, subst, Bool, true, false, true≢false, List, _∷_, flatten, ℕ, zero, suc, _+_, _≤_, _<_, arith, eqb, ltb, length, ne-eqb, lt-ltb}
+use Rattle.counting.proofs.Prelude.{_≡_, refl, sym, ap, _∙_, subst, Bool, true, false, true≢false, List, [], _∷_, flatten, ℕ, zero, suc}
+use Rattle.counting.proofs.Prelude.{_+_, _≤_, _<_, arith, eqb, ltb, length, ne-eqb, lt-ltb}
 use native.Mathlib.Nat.{not-suc-le-zero}
 use native.Mathlib.Decide.{ℕ-discrete, decLt}
 use mathlib.Core.Option.{Option, none, some, Option·none-ne-some}
@@ -16,7 +17,7 @@ use Rattle.matching.proofs.Kept.{heldBy}
 use Rattle.matching.proofs.Asked.{Asked, asked-matching}
 use Rattle.matching.proofs.Sound.{Sound}
 use Rattle.matching.proofs.Least.{least-begins}
-use Rattle.matching.proofs.Lists.{times-here, times-other, times-tail, times-none, times-snoc, every-snoc}
+use Rattle.matching.proofs.Lists.{times-here, times-other, times-tail, times-none, times-snoc, every-both}
 use Rattle.matching.proofs.Chains.{is-true, is-same, chain-none, chain-some, begun-yes, begun-no, successor-here, successor-on, successor-fact, begun-once, begun-within, begun-count}
 
 module _ (leads : ℕ → ℕ → Bool) (n : ℕ) (held : List Held) where
@@ -27,23 +28,24 @@ module _ (leads : ℕ → ℕ → Bool) (n : ℕ) (held : List Held) where
   channels v = begun n held (suc n) v
 
   -- what holds of each channel holds of those begun
-  begun-every : (p : List ℕ → Bool) → ((v : ℕ) → v < n → p (channel v) ≡ true) → (v : ℕ) → v ≤ n → every p (channels v) ≡ true
+  pub begun-every : (p : List ℕ → Bool) → ((v : ℕ) → v < n → p (channel v) ≡ true) → (v : ℕ) → v ≤ n → every p (channels v) ≡ true
   unfolding begun every
   begun-every p f zero l = refl
   begun-every p f (suc v) l = go (predecessorOf held v) refl (begun-every p f v (omega arith))
     where
       go : (m : Option ℕ) → predecessorOf held v ≡ m → every p (channels v) ≡ true → every p (channels (suc v)) ≡ true
-      go none e ih = rw (begun-yes n held (suc n) v e) (every-snoc p (channels v) (channel v) ih (f v (omega arith)))
+      go none e ih = rw (begun-yes n held (suc n) v e)
+          (every-both p (channels v) (channel v ∷ []) ih (and-intro (p (channel v)) true (f v (omega arith)) refl))
       go (some x) e ih = rw (begun-no n held (suc n) v x e) ih
 
   -- a channel has at least the vertex that it begins with
-  channel-full : (v : ℕ) → full (channel v) ≡ true
+  pub channel-full : (v : ℕ) → full (channel v) ≡ true
   channel-full v = lt-ltb 0 (length (channel v)) (omega (arith, ap length (chain-some n held n v)))
 
   -- ---- each leads to the next
 
   module _ (s : Sound leads n held) where
-    chain-linked : (k x : ℕ) → linked leads (chain n held k (some x)) ≡ true
+    pub chain-linked : (k x : ℕ) → linked leads (chain n held k (some x)) ≡ true
     unfolding linked chain
     chain-linked zero x = refl
     chain-linked (suc k) x = go k (successor n held x) refl (λ w. chain-linked k w)

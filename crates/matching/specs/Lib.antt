@@ -1,3 +1,4 @@
 pub mod Lists
 pub mod Division
+pub mod Given
 pub mod Visited

@@ -3,6 +3,7 @@ mod Machine
 mod Geometry
 mod Rows
 mod Planning
+mod Given
 mod Page
 mod Graph
 mod Marks

@@ -6,6 +6,7 @@ pub mod Writing
 pub mod Graph
 pub mod Channels
 pub mod Planning
+pub mod Given
 pub mod Rows
 pub mod Marks
 pub mod Bundles
