@@ -1,5 +1,5 @@
 -- The answers of the public calls, case by case. Assumes nothing.
-use Rattle.counting.proofs.Prelude.{_≡_, refl, sym, ap, _∙_, subst, _≢_, Bool, true, false, _||_, List, ℕ, _*_, _≤_, min, arith, length}
+use Rattle.counting.proofs.Prelude.{_≡_, refl, sym, ap, _∙_, subst, _≢_, Bool, true, false, true≢false, _||_, List, ℕ, _*_, _≤_, min, arith, length}
 use Rattle.planning.proofs.Laying.{kept-same}
 use Rattle.specification.specs.Count.{choose}
 use Rattle.counting.proofs.Sizes.{size-taken}
@@ -15,12 +15,13 @@ use Rattle.planning.specs.declared.Channels.{Channels}
 
 -- room for the vertices: the refusal, or the channels
 module _ (n refusal : ℕ) (ls : List (List ℕ)) (p : List ℕ) (r : Channels) (p′ : List ℕ) where
-  pub answers-made : 4 * n ≤ length p → r .refusal ≡ refusal → (r .refusal ≢ 0 → r .count ≡ 0)
+  pub answers-made : 4 * n ≤ length p → unsized? n ≡ false → r .refusal ≡ refusal → (r .refusal ≢ 0 → r .count ≡ 0)
       → (r .refusal ≡ 0 → Arranged n ls (r .count) p′) → Kept n p p′ → Answers n refusal ls p r p′
-  answers-made h e none a g = record {
+  answers-made h size e none a g = record {
     refused = λ _. e;
     short = λ l. absurd (omega arith);
     none = none;
+    unsized = λ z. absurd (true≢false (sym z ∙ size));
     arranged = a;
     kept = g;
   }
@@ -34,6 +35,7 @@ answers-sized n refusal ls p r k same z d e =
       refused = λ h. k-refused ∙ z .size h ∙ sym (same (λ q. d (z .size h ∙ q)));
       short = λ h. (k-refused ∙ z .short h, refl);
       none = λ _. ap (λ (x : Channels). x .count) e;
+      unsized = λ _. refl;
       arranged = λ q. absurd (d (sym k-refused ∙ q));
       kept = kept-same n p;
     }
@@ -43,7 +45,7 @@ pub plan-answers : (n : ℕ) (table p : List ℕ) (r : Channels) (p′ : List �
     → Chained n table p r p′ → Plans n table p r p′
 plan-answers n table p r p′ l e h c =
     let q : min n 128 ≡ n = omega arith in
-    answers-made n (sizeRefusal n) (planned (has? 2 table) n) p r p′ h (c .refused (omega arith) ∙ sym (size-taken n e)) (c .none)
+    answers-made n (sizeRefusal n) (planned (has? 2 table) n) p r p′ h e (c .refused (omega arith) ∙ sym (size-taken n e)) (c .none)
     (λ z. subst (λ x. Arranged x (planned (has? 2 table) x) (r .count) p′) q (c .arranged z)) (subst (λ x. Kept x p p′) q (c .kept))
 
 -- ---- given channels

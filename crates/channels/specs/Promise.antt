@@ -1,7 +1,7 @@
 -- What the public calls promise. Assumes nothing.
 use mathlib.Core.Path.{_≡_}
 use mathlib.Core.Logic.{_≢_}
-use mathlib.Core.Bool.{Bool, _||_}
+use mathlib.Core.Bool.{Bool, true, _||_}
 use mathlib.Core.List.{List}
 use Prim.Native.Nat.{ℕ, _*_, _≤_, _<_, min}
 use lib.ListN.{length}
@@ -22,12 +22,13 @@ givenRefusal leads n field =
     choose (repeats? (verticesOf field) || lacks? n (verticesOf field)) (λ _. 6) (λ _.
     choose (broken? leads (linesOf field)) (λ _. 7) (λ _. 0))))
 
--- r is 8 where the list has no room, and nothing changed; else the refusal, and where that is 0 the channels stand in p′. Nothing but
--- channels and positions of the first n vertices has changed
+-- r is 8 where the list has no room, and nothing changed; else the refusal, and where that is 0 the channels stand in p′. By size nothing
+-- changed either; after 3, 6 and 7 the channels and positions of the n vertices are left free. Nothing else has changed
 pub record Answers (n refusal : ℕ) (ls : List (List ℕ)) (p : List ℕ) (r : Channels) (p′ : List ℕ) : Type 0 where
   pub refused : 4 * min n 128 ≤ length p → r .refusal ≡ refusal
   pub short : length p < 4 * min n 128 → (r .refusal ≡ 8) × Untouched p p′
   pub none : r .refusal ≢ 0 → r .count ≡ 0
+  pub unsized : unsized? n ≡ true → Untouched p p′
   pub arranged : r .refusal ≡ 0 → Arranged n ls (r .count) p′
   pub kept : Kept n p p′
 

@@ -165,7 +165,7 @@ module _ (n : ℕ) (ends : List ℕ) (given : Bool) (field : List ℕ) (p : Plan
       rows = l .row-count;
       channels = l .channel-count;
       width = l .width;
-      tracks = l .used;
+      tracks = λ i h. l .used i (omega (arith, long));
       long = long;
       vertex = vertex-same;
       edge = edge-same;

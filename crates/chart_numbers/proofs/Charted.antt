@@ -153,7 +153,7 @@ module _ (n : ℕ) (ends : List ℕ) (given : Bool) (field : List ℕ) (p : Plan
           lines = l .channel-count;
           firm = firm-same x (he .counted);
           width = l .width;
-          side-columns = l .used;
+          side-columns = λ i h. l .used i (omega (arith, long));
           long = long;
         };
         word-list = refilled _ _ _ _ _ _ refl (λ k b. ap (λ (e : VertexEntry). wordNumber e (k % 5)) (word-same (k / 5) (omega arith))) hw;

@@ -231,10 +231,10 @@ module _ {n : ℕ} {k : Checked} {e p spans number used column : List ℕ} (x : 
           (λ h. tracked .past i h ∙ made .fourth i ∙ sym (track-past q _ _ _ (omega (arith, all-tracked, few)) i h)) (lt-or-le i q)
           ∙ ap (λ (y : List ℕ). getD y i 0) tracks-same
 
-      used-laid : (i : ℕ) → i < 128 → getD used′ i 0 ≡ tracksIn (planOf c) i
+      used-laid : (i : ℕ) → i < length used′ → getD used′ i 0 ≡ tracksIn (planOf c) i
       unfolding tracksIn
       used-laid i h =
-          rising .used i (omega (arith, tracked .long .1, x .room .used))
+          rising .used i h
           ∙ above-ext q _ (λ j. eqb (getD (planOf c .bundles) j empty .channel) i) _ (λ j. getD (planOf c .tracks) j 0)
           (λ j w. ap (λ (y : ℕ). eqb y i) (bundles-laid .channel j)) (λ j w z. ap (λ (y : List ℕ). getD y j 0) tracks-same)
           ∙ ap (λ (m : ℕ). above m (λ j. eqb (getD (planOf c .bundles) j empty .channel) i) (λ j. getD (planOf c .tracks) j 0)) total-same
@@ -245,7 +245,7 @@ module _ {n : ℕ} {k : Checked} {e p spans number used column : List ℕ} (x : 
       count i = getD used′ i 0
 
       count-same : (i : ℕ) → i < m → count i ≡ tracksIn (planOf c) i
-      count-same i h = used-laid i (omega (arith, channels-small))
+      count-same i h = used-laid i (omega (arith, channels-small, tracked .long .1, x .room .used))
 
       width-same : blockStart (evenGaps count) m ≡ widthOf (planOf c)
       unfolding widthOf planOf chart.bundled chart.tracked

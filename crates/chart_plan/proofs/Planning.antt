@@ -52,6 +52,8 @@ module _ (n : ℕ) (t : Lists) where
         laid = λ z. absurd (omega arith);
         none = λ h. made ∙ ap unplannedBy (sym eight);
         kept = λ h. refl;
+        left = λ h. absurd (true≢false (sym (roomy-tested h) ∙ fails));
+        tables = λ h. absurd (true≢false (sym (roomy-tested h) ∙ fails));
         places-past = λ i v l h. refl;
         column-past = λ v h. refl;
         long = record { edges = refl; below = refl; table = refl; longer = refl; places = refl; spans = refl; number = refl; used = refl; column = refl };
@@ -92,6 +94,8 @@ module _ {n : ℕ} {ends : List ℕ} {given : Bool} {field : List ℕ} (t : List
         laid = λ z. absurd (ne (sym same ∙ z));
         none = λ h. made ∙ ap unplannedBy (sym same);
         kept = λ h. refl;
+        left = λ h. p .left (h .masks);
+        tables = λ h. p .tables (h .masks);
         places-past = p .past;
         column-past = λ v h. refl;
         long = record {
@@ -156,6 +160,8 @@ module _ {n : ℕ} {ends : List ℕ} {given : Bool} {field : List ℕ} (t : List
       laid = λ _. f .laid passed;
       none = λ h. absurd (h (f .refusal));
       kept = λ h. absurd (h (f .refusal));
+      left = λ h. p .left (h .masks);
+      tables = λ h. p .tables (h .masks);
       places-past = p .past;
       column-past = f .past;
       long = record {

@@ -8,13 +8,15 @@ use lib.ListN.{length, getD}
 use Rattle.counting.specs.Quads.{quad}
 use Rattle.specification.specs.Limits.{mostVertices}
 use Rattle.specification.specs.Sets.{member?, at}
+use Rattle.specification.specs.Graph.{tailsOf, headsOf}
 use Rattle.specification.specs.Channels.{channelOf, positionOf}
 use Rattle.specification.specs.Checks.{Content, refusalOf, Sound}
 use Rattle.specification.specs.Marks.{transitive?}
 use Rattle.specification.specs.Chart.{leads?, rowOf, rowCount, descendantsOf, planOf, tracksIn, columnIn, widthOf}
 use Rattle.specification.specs.Drawn.{graphContent}
 use Rattle.specification.specs.Lent.{Untouched}
-use Rattle.descent.specs.Promise.{Sized}
+use Rattle.descent.specs.Promise.{edgesRefusal, Sized, Left}
+use Rattle.record.specs.Checked.{Tables}
 use Rattle.bundles.specs.Promise.{Listed}
 use Rattle.chart_plan.specs.declared.Plan.{Plan}
 
@@ -54,9 +56,8 @@ pub record Roomy (n : ℕ) (t : Lists) : Type 0 where
   pub column : min n mostVertices ≤ length (t .column)
 
 -- p and t have the rows, channels, bundles, tracks and columns of the graph's chart, 0 past the last bundle; `below` has, for each k up
--- to the rows used, the set of the vertices whose row is below k, and `longer` the pairs of vertices with a vertex between. Left free,
--- since nobody reads it, is what `below` has past the rows used, `longer` past the vertices, `used` past 128 channels, and what `edges`
--- and `table` have
+-- to the rows used, the set of the vertices whose row is below k, and `longer` the pairs of vertices with a vertex between. What else the
+-- lists of masks have `Plans` says
 pub record Laid (c : Content) (p : Plan) (t : Lists) : Type 0 where
   pub sound : Sound c
   pub row-count : p .rows ≡ rowCount c
@@ -67,7 +68,7 @@ pub record Laid (c : Content) (p : Plan) (t : Lists) : Type 0 where
   pub positions : (v : ℕ) → v < c .vertices → quad 1 (t .places) v ≡ positionOf (planOf c .channels) v
   pub bundles : Listed (c .vertices) (planOf c .bundles) (p .bundles) (t .spans) (t .number)
   pub track : (b : ℕ) → quad 3 (t .spans) b ≡ getD (planOf c .tracks) b 0
-  pub used : (l : ℕ) → l < mostVertices → getD (t .used) l 0 ≡ tracksIn (planOf c) l
+  pub used : (l : ℕ) → l < length (t .used) → getD (t .used) l 0 ≡ tracksIn (planOf c) l
   pub column : (v : ℕ) → v < c .vertices → getD (t .column) v 0 ≡ columnIn (planOf c) v
   pub width : p .width ≡ widthOf (planOf c)
   pub longer-pairs : (u v : ℕ) → u < c .vertices → v < c .vertices → member? (t .longer) (2 * u) v ≡ transitive? (leads? c) (c .vertices) u v
@@ -96,15 +97,20 @@ pub record Long (t s : Lists) : Type 0 where
   pub used : length (s .used) ≡ length (t .used)
   pub column : length (s .column) ≡ length (t .column)
 
--- the first check that fails, or 0 and what is planned; 8, and nothing changed, where a list has no room. After another refusal it is
--- left free what the lists of masks and the places of the vertices hold, and the others are as they were. The places and columns past the
--- vertices always stay
+-- the first check that fails, or 0 and what is planned; 8, and nothing changed, where a list has no room. What the lists of masks hold, and
+-- the rows and counts of the places, goes by the refusal of the edges alone. After a refusal the other lists are as they were; left free
+-- are the channels and positions of the n vertices where the edges are not refused. The places and columns past the vertices always stay
 pub record Plans (n : ℕ) (ends : List ℕ) (given : Bool) (field : List ℕ) (t : Lists) (p : Plan) (s : Lists) : Type 0 where
   pub answer : Roomy n t → p .refusal ≡ refusalOf (graphContent n ends given field)
   pub short : (Roomy n t → ⊥) → (p .refusal ≡ 8) × Untouched t s
   pub laid : p .refusal ≡ 0 → Laid (graphContent n ends given field) p s
   pub none : p .refusal ≢ 0 → p ≡ unplannedBy (p .refusal)
   pub kept : p .refusal ≢ 0 → s ≡ lists (s .edges) (s .below) (s .table) (s .longer) (s .places) (t .spans) (t .number) (t .used) (t .column)
+  pub left : Roomy n t → edgesRefusal n (tailsOf ends) (headsOf ends) ≢ 0
+      → Left (edgesRefusal n (tailsOf ends) (headsOf ends)) n ends (t .edges) (t .below) (t .table) (t .longer) (t .places)
+      (s .edges) (s .below) (s .table) (s .longer) (s .places)
+  pub tables : Roomy n t → edgesRefusal n (tailsOf ends) (headsOf ends) ≡ 0
+      → Tables n ends (t .below) (s .edges) (s .below) (s .table) (s .longer) (s .places)
   pub places-past : (k v : ℕ) → k < 4 → n ≤ v → quad k (s .places) v ≡ quad k (t .places) v
   pub column-past : (v : ℕ) → n ≤ v → getD (s .column) v 0 ≡ getD (t .column) v 0
   pub long : Long t s

@@ -1,5 +1,5 @@
 -- A vertex is finished where its successors are: its set is the union of theirs and of its edges. The list c has the places. Assumes nothing.
-use Rattle.counting.proofs.Prelude.{_≡_, refl, sym, ap₂, _∙_, subst, _≢_, _⊎_, inl, inr, ⊎-elim, _↔_, List, [], _∷_, ℕ, zero, suc, _+_, _*_, _^_, _<_, arith, length, getD, set, length-set}
+use Rattle.counting.proofs.Prelude.{_≡_, refl, sym, ap₂, _∙_, subst, _≢_, _⊎_, inl, inr, ⊎-elim, _↔_, List, [], _∷_, ℕ, zero, suc, _+_, _*_, _^_, _≤_, _<_, arith, length, getD, set, length-set}
 use lib.Bits.{bitOr}
 use lib.Count.{ones}
 use lib.Seq.{getD-set-same, getD-set-other}
@@ -36,6 +36,11 @@ stored-law s u a b h =
       low-other = λ w d. getD-set-other r (2 * u + 1) (2 * w) b 0 (λ e. omega arith) ∙ getD-set-other s (2 * u) (2 * w) a 0 (λ e. d (omega arith));
       high-other = λ w d. getD-set-other r (2 * u + 1) (2 * w + 1) b 0 (λ e. d (omega arith)) ∙ getD-set-other s (2 * u) (2 * w + 1) a 0 (λ e. omega arith);
     }
+
+-- what stands past them is as it was
+pub stored-past : (s : List ℕ) (u a b i : ℕ) → 2 * u + 2 ≤ i → getD (set (set s (2 * u) a) (2 * u + 1) b) i 0 ≡ getD s i 0
+stored-past s u a b i h =
+    getD-set-other (set s (2 * u) a) (2 * u + 1) i b 0 (λ e. omega arith) ∙ getD-set-other s (2 * u) i a 0 (λ e. omega arith)
 
 pub stored-at : (s : List ℕ) (u a b : ℕ) (s′ : List ℕ) → Stored s u a b s′ → (v : ℕ) → v < 128 → at 2 s′ u v ≡ inPair a b v
 stored-at s u a b s′ o v h = sym (pair-at s′ u v h) ∙ ap₂ (λ (x y : ℕ). inPair x y v) (o .low) (o .high)

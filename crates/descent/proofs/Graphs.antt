@@ -1,12 +1,12 @@
 -- The descent for the table of edges of a graph: its reachability, longer routes and rows. Assumes nothing.
-use Rattle.counting.proofs.Prelude.{_≡_, sym, ap₂, _∙_, subst, _≢_, ⊎-elim, _↔_, true, false, List, ℕ, _+_, _*_, _≤_, _<_, arith, getD, eq-eqb, eqb-true}
+use Rattle.counting.proofs.Prelude.{_≡_, sym, ap, ap₂, _∙_, subst, _≢_, ⊎-elim, _↔_, true, false, List, ℕ, _+_, _*_, _/_, _%_, _≤_, _<_, arith, getD, eq-eqb, eqb-true}
 use native.Mathlib.Nat.{lt-of-lt-of-le}
 use Rattle.specification.specs.Count.{count, some}
 use Rattle.specification.specs.Sets.{at, has?}
 use Rattle.specification.specs.Graph.{Reaches, Longer, edgeCount, Edge, edge?, refusal, Adjacent, reachable?}
-use Rattle.specification.specs.Rows.{row, rowsUsed}
+use Rattle.specification.specs.Rows.{rowWithin, row, rowsUsed}
 use Rattle.counting.specs.Quads.{quad}
-use Rattle.counting.proofs.Truth.{lt-or-le, true-or-false, same-truth}
+use Rattle.counting.proofs.Truth.{lt-or-le, two-cases, true-or-false, same-truth}
 use Rattle.counting.proofs.Somes.{some-found, some-none}
 use Rattle.masks.specs.Pairs.{inPair}
 use Rattle.masks.proofs.Pairing.{pair-at, pair-zero}
@@ -18,8 +18,9 @@ use Rattle.reach.proofs.Marking.{tail-below, head-below}
 use Rattle.reach.proofs.Decide.{edge-decided, reachable-decided}
 use Rattle.reach.proofs.Refusing.{accepted-within}
 use Rattle.reach.proofs.Closures.{Bits, same-count}
-use Rattle.rows.proofs.Same.{row-same, used-same}
+use Rattle.rows.proofs.Same.{within-same, row-same, used-same}
 use Rattle.descent.specs.Steps.Closed.{Arc, Inside, Laid, Closed}
+use Rattle.descent.specs.Promise.{Stuck}
 use Rattle.descent.proofs.Arcs.{reached-count}
 
 module _ (n : ℕ) (tails heads e : List ℕ) (accepted : refusal n tails heads ≡ 0)
@@ -71,7 +72,7 @@ module _ (n : ℕ) (tails heads e : List ℕ) (accepted : refusal n tails heads 
       (λ q. edge-decided tails heads u v .0 (b .0 (eqb-true _ _ q) .1))
       (λ q. eq-eqb _ _ (b .1 (accepted, edge-decided tails heads u v .1 q)))
 
-  module _ (r : ℕ) (p p′ below : List ℕ) (g : Laid e n r p p′ below) (some : r ≢ 0) where
+  module _ (r : ℕ) (p p′ b below : List ℕ) (g : Laid e n r p p′ b below) (some : r ≢ 0) where
     pub graph-rows : (v : ℕ) → v < n → quad 2 p′ v ≡ row (edge? tails heads) n v
     graph-rows v h = g .rule some v h ∙ row-same (has? 2 e) (edge? tails heads) n same-edges v h
 
@@ -85,6 +86,20 @@ module _ (n : ℕ) (tails heads e : List ℕ) (accepted : refusal n tails heads 
           (λ i. let p = m .0 i in (p .0, subst (λ (x : ℕ). x < k) (same (p .0)) (p .1))),
           λ p. m .1 (p .0, subst (λ (x : ℕ). x < k) (sym (same (p .0))) (p .1)),
         )
+
+  pub graph-stuck : (b p b′ p′ : List ℕ) → Stuck (has? 2 e) n b p b′ p′ → Stuck (edge? tails heads) n b p b′ p′
+  graph-stuck b p b′ p′ g = record {
+    sets = λ k v hk hv. let m = g .sets k v hk hv in (
+      (λ i. let x = m .0 i in (x .0, subst (λ (y : ℕ). y < k) (same v (x .0)) (x .1))),
+      λ x. m .1 (x .0, subst (λ (y : ℕ). y < k) (sym (same v (x .0))) (x .1)),
+    );
+    past = g .past;
+    settled = λ v h l. g .settled v h (subst (λ (y : ℕ). y < n) (sym (same v h)) l) ∙ same v h;
+    others = λ k v h out. g .others k v h (λ q l. subst (λ (y : ℕ). n ≤ y) (sym (same v l)) (out q l));
+  }
+    where
+      same : (v : ℕ) → v < n → rowWithin (has? 2 e) n n v ≡ rowWithin (edge? tails heads) n n v
+      same = within-same (has? 2 e) (edge? tails heads) n same-edges n
 
   module _ (t l c t′ l′ c′ : List ℕ) (g : Closed e n t l c t′ l′ c′)
       (no-t : (i : ℕ) → getD t i 0 ≡ 0) (no-l : (i : ℕ) → getD l i 0 ≡ 0) where
@@ -123,6 +138,19 @@ module _ (n : ℕ) (tails heads e : List ℕ) (accepted : refusal n tails heads 
         let z = blank l′ u v hv (o .low-far ∙ no-l _) (o .high-far ∙ no-l _) in
         ((λ i. absurd (omega arith)), λ p. absurd (let b = tail-below 2 tails heads n within u _ (p .1) in omega arith)))
         (lt-or-le u n)
+
+    -- past the sets of n vertices nothing stands
+    pub graph-past : (i : ℕ) → 2 * n ≤ i → (getD t′ i 0 ≡ 0) × (getD l′ i 0 ≡ 0)
+    graph-past i h =
+        let o = g .others (i / 2) (omega arith) in
+        ⊎-elim
+        (λ z.
+        let q : i ≡ 2 * (i / 2) = omega arith in
+        (ap (λ (j : ℕ). getD t′ j 0) q ∙ o .low ∙ no-t _, ap (λ (j : ℕ). getD l′ j 0) q ∙ o .low-far ∙ no-l _))
+        (λ z.
+        let q : i ≡ 2 * (i / 2) + 1 = omega arith in
+        (ap (λ (j : ℕ). getD t′ j 0) q ∙ o .high ∙ no-t _, ap (λ (j : ℕ). getD l′ j 0) q ∙ o .high-far ∙ no-l _))
+        (two-cases (i % 2) (omega arith))
 
     -- the graph's reachability
     pub graph-closure : Closure n tails heads (record { edges = e; table = t′; counts = quad 3 c′ })

@@ -1,5 +1,5 @@
 -- The answer, by the tests of its checks. Assumes nothing.
-use Rattle.counting.proofs.Prelude.{_≡_, refl, _∙_, _≢_, Bool, true, false, true≢false, List, ℕ, arith, eqb}
+use Rattle.counting.proofs.Prelude.{_≡_, refl, _∙_, _≢_, Bool, true, false, true≢false, List, ℕ, _<_, arith, eqb}
 use Rattle.specification.specs.Count.{choose, some}
 use Rattle.specification.specs.Graph.{edgeCount, outsized?, strange?, verdict, refusal, duplicate?, reachable?}
 use Rattle.scanning.specs.Scanned.{endsRefusal}
@@ -33,6 +33,11 @@ cycle-first false true d c p e = absurd (let z : _≡_ {A = ℕ} 3 0 = e in omeg
 cycle-first false false true c p e = absurd (let z : _≡_ {A = ℕ} 4 0 = e in omega arith)
 cycle-first false false false c p e = (refl, refl)
 
+ends-among : (s d : Bool) → (ofEnds s d ≢ 2) × (ofEnds s d < 5)
+ends-among true d = omega arith
+ends-among false true = omega arith
+ends-among false false = omega arith
+
 module _ (n : ℕ) (tails heads : List ℕ) where
   abbrev size : Bool
   size = outsized? n (edgeCount tails heads)
@@ -45,6 +50,11 @@ module _ (n : ℕ) (tails heads : List ℕ) where
 
   abbrev cycle : Bool
   cycle = some 128 (λ u. reachable? n tails heads u u)
+
+  -- 0, 3 or 4
+  pub ends-answers : (endsRefusal n tails heads ≢ 2) × (endsRefusal n tails heads < 5)
+  unfolding endsRefusal
+  ends-answers = ends-among strange double
 
   -- the four tests in turn
   pub edges-in-turn : edgesRefusal n tails heads

@@ -1,5 +1,5 @@
 -- Rows round by round, each stored when it is settled. Assumes nothing.
-use Rattle.counting.proofs.Prelude.{_≡_, refl, sym, ap, ap₂, _∙_, subst, _≢_, inl, inr, ⊎-elim, _↔_, Bool, true, false, true≢false, List, ℕ, suc, _+_, _-_, _*_, _^_, _≤_, _<_, min, zero-le, arith, length, getD, eq-eqb, eqb-true}
+use Rattle.counting.proofs.Prelude.{_≡_, refl, sym, ap, ap₂, _∙_, subst, _≢_, _⊎_, inl, inr, ⊎-elim, _↔_, Bool, true, false, true≢false, List, ℕ, suc, _+_, _-_, _*_, _^_, _≤_, _<_, min, zero-le, arith, length, getD, eq-eqb, eqb-true}
 use native.Mathlib.Nat.{lt-of-le-of-lt}
 use native.Mathlib.Decide.{ℕ-discrete}
 use native.Mathlib.Numerals.{add-one}
@@ -22,6 +22,7 @@ use Rattle.rows.proofs.Depth.{settled, shallow}
 use Rattle.rows.proofs.Compaction.{Order, rows-below}
 use Rattle.descent.specs.Steps.Members.{Below, Long, Pictured, Written}
 use Rattle.descent.specs.Steps.Closed.{arc?, Inside, Laid}
+use Rattle.descent.specs.Promise.{KeptFrom}
 use Rattle.descent.proofs.Gathering.{long-below}
 use Rattle.descent.proofs.Descending.{Stored, stored-at, same-bits}
 use Rattle.descent.proofs.Arcs.{reached-decided}
@@ -73,6 +74,7 @@ pub record Round (e : List ℕ) (n r low high : ℕ) (places s below : List ℕ)
   pub growing : (v : ℕ) → v < 128 → inPair low high v ≡ 1 ↔ ((v < n) × (r ≤ rowWithin (has? 2 e) n r v))
   pub alive : Some n low high
   pub rule : (v : ℕ) → v < n → rowWithin (has? 2 e) n r v < r → quad 2 s v ≡ rowWithin (has? 2 e) n r v
+  pub still : (v : ℕ) → v < n → r ≤ rowWithin (has? 2 e) n r v → quad 2 s v ≡ quad 2 places v
   pub rest : (k v : ℕ) → k < 4 → (k ≡ 2 → n ≤ v) → quad k s v ≡ quad k places v
   pub sets : (k v : ℕ) → k ≤ r → v < 128 → at 2 below k v ≡ 1 ↔ ((v < n) × (rowWithin (has? 2 e) n r v < k))
 
@@ -85,6 +87,7 @@ round-none e n low high places below pos b z z′ = record {
   growing = λ v h. ((λ q. (b .members v h .0 q, zero-le)), λ p. b .members v h .1 (p .0));
   alive = (0, omega arith, b .members 0 (omega arith) .1 pos);
   rule = λ v h l. absurd (omega arith);
+  still = λ v h l. refl;
   rest = λ k v h o. refl;
   sets = λ k v h hv. ((λ q. absurd (let w = empty k v h hv in omega arith)), λ p. absurd (let w = p .1 in omega arith));
 }
@@ -221,6 +224,12 @@ module _ (e : List ℕ) (n : ℕ) (small : n ≤ 128) (r low high first second p
             let f = below-same (has? 2 e) n r k v (omega arith) in
             ((λ i. let y = old .0 (sym z ∙ i) in (y .0, f .0 (y .1))), λ i. z ∙ old .1 (i .0, f .1 (i .1)))
 
+    -- one that grows on has what it had
+    next-still : (v : ℕ) → v < n → suc r ≤ rowWithin (has? 2 e) n (suc r) v → quad 2 s″ v ≡ quad 2 places v
+    next-still v h l =
+        kept 2 v (omega arith) (λ _ hv i. absurd (let y = stops low high v hv .0 i .1 in let g = grows v hv .1 (h, l) in omega arith))
+        ∙ o .still v h (grew (has? 2 e) n r v l)
+
     next-rest : (k v : ℕ) → k < 4 → (k ≡ 2 → n ≤ v) → quad k s″ v ≡ quad k places v
     next-rest k v h out = kept k v h (λ z hv i. let g = stopping v hv i in let y = out z in omega arith) ∙ o .rest k v h out
 
@@ -232,12 +241,13 @@ module _ (e : List ℕ) (n : ℕ) (small : n ≤ 128) (r low high first second p
       growing = grows;
       alive = pair-some n a b fits-a fits-b ne;
       rule = next-rule;
+      still = next-still;
       rest = next-rest;
       sets = next-sets;
     })
 
     -- none grows on: the rows are those of the rule
-    module _ (inside : Inside e n) (hr : r < n) (z : bitOr a b ≡ 0) where
+    module _ (inside : Inside e n) (hr : r < n) (z : bitOr a b ≡ 0) (was : List ℕ) (sets-past : KeptFrom (2 * (r + 1) + 2) was below′) where
       low-rows : (v : ℕ) → v < n → rowWithin (has? 2 e) n (suc r) v < suc r
       low-rows v h =
           let hv : v < 128 = omega arith in
@@ -257,7 +267,7 @@ module _ (e : List ℕ) (n : ℕ) (small : n ≤ 128) (r low high first second p
           (λ y. omega arith)
           (lt-or-le (row (has? 2 e) n (v .0)) r)
 
-      pub round-over : Laid e n (r + 1) places s″ below′
+      pub round-over : Laid e n (r + 1) places s″ was below′
       round-over = record {
         cyclic = λ y. absurd (omega arith);
         acyclic = λ y. no-cycle e n inside (λ v h. let l = last-rows v h in omega arith);
@@ -271,6 +281,8 @@ module _ (e : List ℕ) (n : ℕ) (small : n ≤ 128) (r low high first second p
               ((λ i. let x = old .0 i in (x .0, f .0 (x .1))), λ i. old .1 (i .0, f .1 (i .1)));
           all = λ v h. let l = last-rows v h in omega arith;
         };
+        sets-past = λ _. sets-past;
+        refused = λ y. absurd (omega arith);
         rest = next-rest;
       }
 
@@ -280,7 +292,8 @@ pub round-long : (e : List ℕ) (n r low high : ℕ) (places s below : List ℕ)
 round-long e n r low high places s below o h = long-below 2 e n low high h (λ v hv i. o .growing v hv .0 i .0)
 
 -- after n rounds some still grow: a vertex reaches itself
-module _ (e : List ℕ) (n low high : ℕ) (places s below : List ℕ) (inside : Inside e n) (o : Round e n n low high places s below) where
+module _ (e : List ℕ) (n low high : ℕ) (places s was below : List ℕ) (inside : Inside e n) (o : Round e n n low high places s below)
+    (sets-past : KeptFrom (2 * n + 2) was below) where
   self : ℕ → Bool
   self u = reaches? (arc? e) n u u
 
@@ -294,7 +307,7 @@ module _ (e : List ℕ) (n low high : ℕ) (places s below : List ℕ) (inside :
         irrefl = λ u hu i. true≢false (sym (some-found n self u hu i) ∙ none);
       }
 
-  pub round-refused : Laid e n 0 places s below
+  pub round-refused : Laid e n 0 places s was below
   unfolding self
   round-refused = record {
     cyclic = λ y. ⊎-elim
@@ -305,9 +318,22 @@ module _ (e : List ℕ) (n low high : ℕ) (places s below : List ℕ) (inside :
     used = λ y. absurd (y refl);
     rule = λ y. absurd (y refl);
     prefixes = λ y. absurd (y refl);
+    sets-past = λ y. absurd (y refl);
+    refused = λ _. record {
+      sets = o .sets;
+      past = sets-past;
+      settled = o .rule;
+      others = λ k v h out. others k v h out (ℕ-discrete k 2) (lt-or-le v n);
+    };
     rest = o .rest;
   }
     where
+      others : (k v : ℕ) → k < 4 → (k ≡ 2 → v < n → n ≤ rowWithin (has? 2 e) n n v) → Dec (k ≡ 2) → (v < n) ⊎ (n ≤ v)
+          → quad k s v ≡ quad k places v
+      others k v h out (yes q) (inl l) = subst (λ (x : ℕ). quad x s v ≡ quad x places v) (sym q) (o .still v l (out q l))
+      others k v h out (yes q) (inr g) = o .rest k v h (λ _. g)
+      others k v h out (no d) w = o .rest k v h (λ q. absurd (d q))
+
       contra : some n self ≡ false → ⊥
       contra f =
           let v = o .alive in

@@ -150,7 +150,7 @@ fn set_rows(mask: u64, base: usize, r: u8, places: &mut [u8])
 // used, or 0 where a vertex reaches itself.
 fn grown(edges: &[u64], n: usize, places: &mut [u8], below: &mut [u64]) -> usize
     requires { ⌜ (0 < n) × (2 * n ≤ length (now edges)) × (4 * n ≤ length (now places)) × (2 * n + 2 ≤ length (now below)) × Inside (now edges) n ⌝ }
-    ensures { λ r. ⌜ Laid (now (edges .entry)) n r (now (places .entry)) (now (places .exit)) (now (below .exit)) ⌝ }
+    ensures { λ r. ⌜ Laid (now (edges .entry)) n r (now (places .entry)) (now (places .exit)) (now (below .entry)) (now (below .exit)) ⌝ }
 {
     let all = below_n(n);
     let first = all.low;
@@ -279,7 +279,7 @@ fn ranked(
     places: &mut [u8],
 ) -> Descent
     requires { ⌜ (0 < n) × (2 * n ≤ length (now edges)) × (2 * n + 2 ≤ length (now below)) × (2 * n ≤ length (now table)) × (2 * n ≤ length (now longer)) × (4 * n ≤ length (now places)) × Inside (now edges) n ⌝ }
-    ensures { λ r. ⌜ Ranked (now (edges .entry)) n (now (places .entry)) r (now (below .exit)) (now (table .exit)) (now (longer .exit)) (now (places .exit)) ⌝ }
+    ensures { λ r. ⌜ Ranked (now (edges .entry)) n (now (below .entry)) (now (places .entry)) r (now (below .exit)) (now (table .exit)) (now (longer .exit)) (now (places .exit)) ⌝ }
 {
     clear(table);
     clear(longer);
@@ -325,8 +325,8 @@ fn is_fit(n: usize, edges: usize, below: usize, table: usize, longer: usize, pla
 }
 
 // The tables of n vertices and of edges of two bytes each, tail and head, with rows and counts in `places`. Refused with 8 (a work list
-// lacks room: nothing is changed), 2 (no vertex, more than 128, or more than 4,096 edges), 3 (an end of n or more), 4 (an edge twice) or
-// 5 (a cycle).
+// lacks room) or 2 (no vertex, more than 128, or more than 4,096 edges), and nothing is changed; with 3 (an end of n or more) or 4 (an edge
+// twice), and only the table of edges is; or with 5 (a cycle).
 pub fn descend(
     n: usize,
     ends: &[u8],

@@ -30,7 +30,7 @@ fn aligned(ax: u16, ay: u8, bx: u16, by: u8, px: u16, py: u8) -> bool
 }
 
 // Whether (px, py) lies strictly inside the segment that rises from (ax, ay) to (bx, by). Most points fail the cheap test of rows.
-pub fn inside(ax: u16, ay: u8, bx: u16, by: u8, px: u16, py: u8) -> bool
+fn inside(ax: u16, ay: u8, bx: u16, by: u8, px: u16, py: u8) -> bool
     ensures { λ r. ⌜ Decides r (Hit (point ax ay) (point bx by) (point px py)) ⌝ }
 {
     if py <= ay {

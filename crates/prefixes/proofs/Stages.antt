@@ -22,16 +22,16 @@ module _ (w : ℕ) (key : ℕ → ℕ) (top : ℕ) where
     room = rw (length-replicate {A = ℕ} m 0) h;
     here = λ k v l lv lt e. absurd (omega arith);
     has = λ k v l lv lt e z. absurd (omega arith);
-    only = λ k v l lv e. absurd (let z = at-zeros w m k v in omega arith);
+    only = λ k v lv e. absurd (let z = at-zeros w m k v in omega arith);
   }
 
   -- one vertex more
   stage-put : (n : ℕ) (s : List ℕ) → n < w * 64 → Stage w n key top 0 s → Stage w (n + 1) key top 0 (inserted s (w * (key n + 1)) n)
   stage-put n s hn g = record {
     room = rw (length-inserted s (w * u) n) (g .room);
-    here = λ k v l lv lt e. put-here k v l lv lt e (ℕ-discrete v n);
+    here = λ k v l lv lt e. put-here k v (rw (length-inserted s (w * u) n) at l) lv lt e (ℕ-discrete v n);
     has = λ k v l lv lt e z. absurd (omega arith);
-    only = λ k v l lv e. put-only k v l lv e (ℕ-discrete v n) (ℕ-discrete k u);
+    only = λ k v lv e. put-only k v lv e (ℕ-discrete v n) (ℕ-discrete k u);
   }
     where
       u : ℕ
@@ -40,12 +40,6 @@ module _ (w : ℕ) (key : ℕ → ℕ) (top : ℕ) where
       s′ : List ℕ
       s′ = inserted s (w * u) n
 
-      there : u ≤ top → at w s′ u n ≡ 1
-      there l =
-          let a = mul-le-mul-left w l in
-          let b = g .room (omega arith) in
-          put-law w s u n hn (let q : n / 64 < w = omega arith in omega arith) .here
-
       same : (k v : ℕ) → v < w * 64 → (k ≡ u → v ≢ n) → at w s′ k v ≡ at w s k v
       same k v lv ne = go (lt-or-le (length s) (w * u + n / 64 + 1))
         where
@@ -53,28 +47,28 @@ module _ (w : ℕ) (key : ℕ → ℕ) (top : ℕ) where
           go (inl l) = ap (λ x. at w x k v) (inserted-out s (w * u) n (omega arith))
           go (inr l) = put-law w s u n hn (omega arith) .other k v lv ne
 
-      put-here : (k v : ℕ) → k ≤ top → v < w * 64 → v < n + 1 → key v + 1 ≡ k → Dec (v ≡ n) → at w s′ k v ≡ 1
+      put-here : (k v : ℕ) → w * k + v / 64 < length s → v < w * 64 → v < n + 1 → key v + 1 ≡ k → Dec (v ≡ n) → at w s′ k v ≡ 1
       put-here k v l lv lt e (yes q) =
           let ku : k ≡ u = sym e ∙ ap (λ x. key x + 1) q in
-          ap₂ (λ a b. at w s′ a b) ku q ∙ there (omega arith)
+          ap₂ (λ a b. at w s′ a b) ku q ∙ put-law w s u n hn (rw (ku, q) at l) .here
       put-here k v l lv lt e (no q) = same k v lv (λ _. q) ∙ g .here k v l lv (omega arith) e
 
-      put-only : (k v : ℕ) → k ≤ top → v < w * 64 → at w s′ k v ≡ 1 → Dec (v ≡ n) → Dec (k ≡ u)
+      put-only : (k v : ℕ) → v < w * 64 → at w s′ k v ≡ 1 → Dec (v ≡ n) → Dec (k ≡ u)
           → (v < n + 1) × (key v < k) × (0 < k → key v + 1 ≡ k)
-      put-only k v l lv e (yes q) (yes r) =
+      put-only k v lv e (yes q) (yes r) =
           let kv : key v + 1 ≡ k = ap (λ x. key x + 1) q ∙ sym r in
           (omega arith, omega arith, λ _. kv)
-      put-only k v l lv e (yes q) (no r) = absurd (let o = g .only k v l lv (sym (same k v lv (λ z. absurd (r z))) ∙ e) .0 in omega arith)
-      put-only k v l lv e (no q) d = let o = g .only k v l lv (sym (same k v lv (λ _. q)) ∙ e) in (omega (arith, o .0), o .1, o .2)
+      put-only k v lv e (yes q) (no r) = absurd (let o = g .only k v lv (sym (same k v lv (λ z. absurd (r z))) ∙ e) .0 in omega arith)
+      put-only k v lv e (no q) d = let o = g .only k v lv (sym (same k v lv (λ _. q)) ∙ e) in (omega (arith, o .0), o .1, o .2)
 
   -- one set more is complete
   stage-join : (n j : ℕ) (s o s′ : List ℕ) → j < top → length s′ ≡ length s → Row w s j o → Absorbed w s (j + 1) o s′
       → Stage w n key top j s → Stage w n key top (j + 1) s′
   stage-join n j s o s′ h size row a g = record {
     room = rw size (g .room);
-    here = λ k v l lv lt e. join-here k v l lv lt e (ℕ-discrete k (j + 1));
+    here = λ k v l lv lt e. join-here k v (rw size at l) lv lt e (ℕ-discrete k (j + 1));
     has = λ k v l lv lt e z. join-has k v l lv lt e z (ℕ-discrete k (j + 1));
-    only = λ k v l lv e. join-only k v l lv e (ℕ-discrete k (j + 1));
+    only = λ k v lv e. join-only k v lv e (ℕ-discrete k (j + 1));
   }
     where
       new : (k v : ℕ) → v < w * 64 → k ≡ j + 1 → at w s′ k v ≡ max (at w s (j + 1) v) (at w s j v)
@@ -86,35 +80,40 @@ module _ (w : ℕ) (key : ℕ → ℕ) (top : ℕ) where
       second : (k v : ℕ) → v < w * 64 → k ≡ j + 1 → at w s j v ≡ 1 → at w s′ k v ≡ 1
       second k v lv e q = new k v lv e ∙ (let b = at-lt w s (j + 1) v in omega arith)
 
-      join-here : (k v : ℕ) → k ≤ top → v < w * 64 → v < n → key v + 1 ≡ k → Dec (k ≡ j + 1) → at w s′ k v ≡ 1
-      join-here k v l lv lt e (yes q) = first k v lv q (g .here (j + 1) v (omega arith) lv lt (e ∙ q))
+      join-here : (k v : ℕ) → w * k + v / 64 < length s → v < w * 64 → v < n → key v + 1 ≡ k → Dec (k ≡ j + 1) → at w s′ k v ≡ 1
+      join-here k v l lv lt e (yes q) = first k v lv q (g .here (j + 1) v (rw q at l) lv lt (e ∙ q))
       join-here k v l lv lt e (no q) = a .other k v lv q ∙ g .here k v l lv lt e
 
       join-has : (k v : ℕ) → k ≤ top → v < w * 64 → v < n → key v < k → k ≤ j + 1 → Dec (k ≡ j + 1) → at w s′ k v ≡ 1
       join-has k v l lv lt e z (yes q) = ⊎-elim
           (λ b. second k v lv q (g .has j v (omega arith) lv lt b (omega arith)))
-          (λ b. first k v lv q (g .here (j + 1) v (omega arith) lv lt (omega arith)))
+          (λ b.
+          let a = mul-le-mul-left w (let h : j + 1 ≤ top = omega arith in h) in
+          let m = g .room (omega arith) in
+          let p : v / 64 < w = omega arith in
+          first k v lv q (g .here (j + 1) v (omega arith) lv lt (omega arith)))
           (lt-or-le (key v) j)
       join-has k v l lv lt e z (no q) = a .other k v lv q ∙ g .has k v l lv lt e (omega arith)
 
-      join-only : (k v : ℕ) → k ≤ top → v < w * 64 → at w s′ k v ≡ 1 → Dec (k ≡ j + 1) → (v < n) × (key v < k) × (j + 1 < k → key v + 1 ≡ k)
-      join-only k v l lv e (yes q) = either (lt-or-le (at w s j v) 1)
+      join-only : (k v : ℕ) → v < w * 64 → at w s′ k v ≡ 1 → Dec (k ≡ j + 1) → (v < n) × (key v < k) × (j + 1 < k → key v + 1 ≡ k)
+      join-only k v lv e (yes q) = either (lt-or-le (at w s j v) 1)
         where
           either : (at w s j v < 1) ⊎ (1 ≤ at w s j v) → (v < n) × (key v < k) × (j + 1 < k → key v + 1 ≡ k)
           either (inl b) =
               let m = new k v lv q in
               let c = at-lt w s (j + 1) v in
-              let r = g .only (j + 1) v (omega arith) lv (omega arith) in
+              let r = g .only (j + 1) v lv (omega arith) in
               (r .0, omega (arith, r .1), λ t. absurd (omega arith))
           either (inr b) =
               let c = at-lt w s j v in
-              let r = g .only j v (omega arith) lv (omega arith) in
+              let r = g .only j v lv (omega arith) in
               (r .0, omega (arith, r .1), λ t. absurd (omega arith))
-      join-only k v l lv e (no q) = let r = g .only k v l lv (sym (a .other k v lv q) ∙ e) in (r .0, r .1, λ t. r .2 (omega arith))
+      join-only k v lv e (no q) = let r = g .only k v lv (sym (a .other k v lv q) ∙ e) in (r .0, r .1, λ t. r .2 (omega arith))
 
   pub stage-all : (n : ℕ) (s : List ℕ) → Stage w n key top top s → Prefixes w n key top s
   stage-all n s g = record {
-    sets-by-key = λ k v l lv. ((λ e. let r = g .only k v l lv e in (r .0, r .1)), λ p. g .has k v l lv (p .0) (p .1) l);
+    sets-by-key = λ k v l lv. ((λ e. let r = g .only k v lv e in (r .0, r .1)), λ p. g .has k v l lv (p .0) (p .1) l);
+    past = λ k v l lv h. ((λ e. let r = g .only k v lv e in (r .0, r .2 l)), λ p. g .here k v h lv (p .0) (p .1));
   }
 
 -- ---- two masks a set, as the code stores them

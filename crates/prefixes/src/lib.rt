@@ -57,8 +57,8 @@ fn join(sets: &mut [u64], top: usize)
 }
 
 // Fills a list with sets of vertices by their keys, two masks a set: set k has the vertices whose key is below k, for k up to `top`, at
-// most 128 and no more than the list has room for; gives the last. The keys are the first numbers of entries of four; the vertices are
-// the first n entries, and at most 128.
+// most 128 and no more than the list has room for; gives the last. A set past it has the vertices whose key is one less than its number. The
+// keys are the first numbers of entries of four; the vertices are the first n entries, and at most 128.
 pub fn prefixes(places: &[u8], n: usize, top: usize, sets: &mut [u64]) -> usize
     ensures { λ r. ⌜ (r ≡ lastSet top (length (now (sets .entry)))) × Prefixes 2 (min (min n 128) (length (now (places .entry)) / 4)) (quad 0 (now (places .entry))) r (now (sets .exit)) × (length (now (sets .exit)) ≡ length (now (sets .entry))) ⌝ }
 {

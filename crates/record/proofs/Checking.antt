@@ -9,14 +9,14 @@ use Rattle.specification.specs.Graph as edges
 use Rattle.counting.specs.Quads.{quad}
 use Rattle.reach.proofs.Refusing.{accepted-within}
 use Rattle.reach.proofs.Closures.{same-test}
-use Rattle.descent.specs.Promise.{Sized, edgesRefusal, Descended, Descends}
+use Rattle.descent.specs.Promise.{Sized, edgesRefusal, Descended, Left, Descends}
 use Rattle.descent.specs.declared.Descent.{Descent}
 use Rattle.specification.specs.Sets.{has?}
 use Rattle.channels.specs.Promise as planner
 use Rattle.channels.specs.Promise.{Answers}
 use Rattle.planning.specs.declared.Channels.{Channels}
 use Rattle.record.specs.declared.checks.Checked.{Checked}
-use Rattle.record.specs.Checked.{uncheckedBy, channelsBy, Checks}
+use Rattle.record.specs.Checked.{uncheckedBy, channelsBy, Tables, Checks}
 use Rattle.record.specs.Steps.{channelsRefusal}
 use Rattle.record.proofs.Judging.{refused-edges, edges-accepted, bare-refusal, given-refusal, first-high}
 
@@ -54,6 +54,8 @@ module _ (n : ℕ) (ends : List ℕ) (given : Bool) (field e b t l p : List ℕ)
             (same ∙ q ∙ sym (first-high (d .refusal) given (unknown? n (verticesOf field)) (omega arith)) ∙ eight, q₁ .1, q₁ .2, q₁ .3, q₁ .4, q₁ .5);
         none = λ h. made ∙ ap uncheckedBy (sym same);
         passes = λ z. absurd (never-none ((leb 4 (d .refusal) && leb (d .refusal) 5) && (given && unknown? n (verticesOf field))) (d .refusal) ne (sym q ∙ sym same ∙ z));
+        left = λ s _. subst (λ (x : ℕ). Left x n ends e b t l p e′ b′ t′ l′ p₁) (promised .answer s) (promised .left ne);
+        tables = λ s z. absurd (ne (promised .answer s ∙ z));
         past = promised .past;
         long = promised .long;
       }
@@ -97,20 +99,7 @@ module _ (n : ℕ) (ends : List ℕ) (given : Bool) (field e b t l p : List ℕ)
       long : (length e′ ≡ length e) × (length b′ ≡ length b) × (length t′ ≡ length t) × (length l′ ≡ length l) × (length p′ ≡ length p)
       long = let k = promised .long in (k .0, k .1, k .2, k .3, lined .kept .long ∙ k .4)
 
-      -- the given channels are refused
-      pub channels-fail : (r : Checked) → ch .refusal ≢ 0 → r ≡ uncheckedBy (ch .refusal) → Checks n ends given field e b t l p r e′ b′ t′ l′ p′
-      channels-fail r ne made =
-          let same : r .refusal ≡ ch .refusal = ap (λ (x : Checked). x .refusal) made in
-          record {
-            answer = λ s. same ∙ same-answer s;
-            short = λ s. absurd (fits s);
-            none = λ h. made ∙ ap uncheckedBy (sym same);
-            passes = λ z. absurd (ne (sym same ∙ z));
-            past = past;
-            long = long;
-          }
-
-      -- nothing is refused: rows and counts stay while the channels are laid
+      -- rows and counts stay while the channels are laid
       descended : Descended n tails heads (record { refusal = 0; used = d .used }) e′ b′ t′ l′ p′
       descended =
           let m = promised .made passed in
@@ -121,9 +110,29 @@ module _ (n : ℕ) (ends : List ℕ) (given : Bool) (field e b t l p : List ℕ)
               counted = λ u h. lined .kept .kept 3 u (omega arith) (omega arith) ∙ m .closure .counted u h;
             };
             longer = m .longer;
+            past = m .past;
             rows = λ v h. lined .kept .kept 2 v (omega arith) (omega arith) ∙ m .rows v h;
             used = m .used;
             below = m .below;
+          }
+
+      tables : Tables n ends b e′ b′ t′ l′ p′
+      tables = record { used = d .used; descended = descended; past = promised .rows-past passed }
+
+      -- the given channels are refused
+      pub channels-fail : (r : Checked) → ch .refusal ≢ 0 → r ≡ uncheckedBy (ch .refusal)
+          → Checks n ends given field e b t l p r e′ b′ t′ l′ p′
+      channels-fail r ne made =
+          let same : r .refusal ≡ ch .refusal = ap (λ (x : Checked). x .refusal) made in
+          record {
+            answer = λ s. same ∙ same-answer s;
+            short = λ s. absurd (fits s);
+            none = λ h. made ∙ ap uncheckedBy (sym same);
+            passes = λ z. absurd (ne (sym same ∙ z));
+            left = λ s ne. absurd (ne (sound s));
+            tables = λ _ _. tables;
+            past = past;
+            long = long;
           }
 
       pub all-pass : (r : Checked) → ch .refusal ≡ 0 → r ≡ record { refusal = 0; used = d .used; channels = ch .count }
@@ -134,6 +143,8 @@ module _ (n : ℕ) (ends : List ℕ) (given : Bool) (field e b t l p : List ℕ)
             short = λ s. absurd (fits s);
             none = λ h. absurd (h refl);
             passes = λ _. record { descended = descended; arranged = lined .arranged z };
+            left = λ s ne. absurd (ne (sound s));
+            tables = λ _ _. tables;
             past = past;
             long = long;
           })

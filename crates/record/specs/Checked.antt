@@ -3,12 +3,12 @@ use mathlib.Core.Path.{_≡_}
 use mathlib.Core.Logic.{_≢_}
 use mathlib.Core.Bool.{Bool}
 use mathlib.Core.List.{List}
-use Prim.Native.Nat.{ℕ, _≤_, _<_}
+use Prim.Native.Nat.{ℕ, _+_, _*_, _≤_, _<_}
 use lib.ListN.{length}
 use Rattle.specification.specs.Count.{choose}
 use Rattle.counting.specs.Quads.{quad}
 use Rattle.specification.specs.Graph.{tailsOf, headsOf}
-use Rattle.descent.specs.Promise.{Sized, Descended}
+use Rattle.descent.specs.Promise.{edgesRefusal, Sized, KeptFrom, Descended, Left}
 use Rattle.specification.specs.Planning.{planned}
 use Rattle.specification.specs.Sets.{has?}
 use Rattle.specification.specs.Channels.{linesOf}
@@ -33,14 +33,23 @@ pub record Passes (n : ℕ) (ends : List ℕ) (given : Bool) (field : List ℕ) 
   pub descended : Descended n (tailsOf ends) (headsOf ends) (record { refusal = 0; used = r .used }) e b t l p
   pub arranged : Arranged n (channelsBy n t given field) (r .channels) p
 
+-- the tables of edges that are not refused, whatever is said of the channels; past the sets of the rows b stays
+pub record Tables (n : ℕ) (ends b e′ b′ t′ l′ p′ : List ℕ) : Type 0 where
+  pub used : ℕ
+  pub descended : Descended n (tailsOf ends) (headsOf ends) (record { refusal = 0; used = used }) e′ b′ t′ l′ p′
+  pub past : KeptFrom (2 * used + 2) b b′
+
 -- r is the first check that fails and no count, or 0 and what passes; e, b, t, l and p are the lists that are lent, and e′ to p′ what they
--- hold afterwards. On a refusal but 8 it is left free what they hold, and always what they hold past 256 masks; the entries of p past the
--- vertices stay
+-- hold afterwards, which goes by the refusal of the edges alone. The entries of p past the vertices stay. Left free are the channels and
+-- positions of the n vertices where the given channels are refused and the edges are not
 pub record Checks (n : ℕ) (ends : List ℕ) (given : Bool) (field e b t l p : List ℕ) (r : Checked) (e′ b′ t′ l′ p′ : List ℕ) : Type 0 where
   pub answer : Sized n e b t l p → r .refusal ≡ refusalOf (content n (tailsOf ends) (headsOf ends) given field)
   pub short : (Sized n e b t l p → ⊥)
       → (r .refusal ≡ 8) × Untouched e e′ × Untouched b b′ × Untouched t t′ × Untouched l l′ × Untouched p p′
   pub none : r .refusal ≢ 0 → r ≡ uncheckedBy (r .refusal)
   pub passes : r .refusal ≡ 0 → Passes n ends given field r e′ b′ t′ l′ p′
+  pub left : Sized n e b t l p → edgesRefusal n (tailsOf ends) (headsOf ends) ≢ 0
+      → Left (edgesRefusal n (tailsOf ends) (headsOf ends)) n ends e b t l p e′ b′ t′ l′ p′
+  pub tables : Sized n e b t l p → edgesRefusal n (tailsOf ends) (headsOf ends) ≡ 0 → Tables n ends b e′ b′ t′ l′ p′
   pub past : (k v : ℕ) → k < 4 → n ≤ v → quad k p′ v ≡ quad k p v
   pub long : (length e′ ≡ length e) × (length b′ ≡ length b) × (length t′ ≡ length t) × (length l′ ≡ length l) × (length p′ ≡ length p)

@@ -5,7 +5,7 @@ use Rattle.specification.specs.Limits.{longestPath}
 use Rattle.counting.proofs.Above.{above-ext}
 
 module _ (E F : ℕ → ℕ → Bool) (n : ℕ) (same : (u v : ℕ) → u < n → v < n → E u v ≡ F u v) where
-  within-same : (k v : ℕ) → v < n → rowWithin E n k v ≡ rowWithin F n k v
+  pub within-same : (k v : ℕ) → v < n → rowWithin E n k v ≡ rowWithin F n k v
   unfolding rowWithin
   within-same zero v h = refl
   within-same (suc k) v h =

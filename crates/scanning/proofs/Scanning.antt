@@ -1,5 +1,5 @@
 -- The pass over the edges' bytes, one edge after the other. Assumes nothing.
-use Rattle.counting.proofs.Prelude.{_≡_, refl, sym, ap, ap₂, _∙_, subst, _⊎_, ⊎-elim, Bool, true, false, true≢false, _||_, List, ℕ, _+_, _*_, _/_, _%_, _≤_, _<_, min, arith, eqb, leb, length, getD, eqb-true, eqb-false, le-leb, lt-leb}
+use Rattle.counting.proofs.Prelude.{_≡_, refl, sym, ap, ap₂, _∙_, subst, _≢_, _⊎_, ⊎-elim, Bool, true, false, true≢false, _||_, List, ℕ, _+_, _*_, _/_, _%_, _≤_, _<_, min, arith, eqb, leb, length, getD, eqb-true, eqb-false, le-leb, lt-leb}
 use native.Mathlib.Nat.{not-suc-le-zero, lt-of-lt-of-le}
 use native.Mathlib.Numerals.{add-one}
 use borrow.Author.Count.{below-more}
@@ -117,18 +117,21 @@ module _ (n : ℕ) (ends : List ℕ) where
       → (n ≤ getD ends (2 * i) 0) ⊎ (n ≤ getD ends (2 * i + 1) 0) → Scanned n ends t 3
   unfolding strange? endsRefusal
   scanned-strange i t d f l o = record {
-    answer = sym (choose-yes (some m (strange? n tails heads)) _ _ found);
+    answer = sym (choose-yes (some m (strange? n tails heads)) _ _ (some-found m (strange? n tails heads) i listed strange));
     bits = λ ne. absurd (ne refl);
-    others = λ ne. absurd (ne refl);
+    cut = λ _. record { first = i; listed = listed; strange = strange; before = f .within; marked = f .marked };
+    others = f .others;
   }
     where
-      found : some m (strange? n tails heads) ≡ true
-      found =
-          some-found m (strange? n tails heads) i (let c = ends-counted ends in omega arith)
-          (⊎-elim
+      listed : i < m
+      listed = let c = ends-counted ends in omega arith
+
+      strange : strange? n tails heads i ≡ true
+      strange =
+          ⊎-elim
           (λ h. or-left (leb n (getD tails i 0)) (leb n (getD heads i 0)) (le-leb _ _ (subst (λ (x : ℕ). n ≤ x) (sym (tail-at ends i)) h)))
           (λ h. or-right (leb n (getD tails i 0)) (leb n (getD heads i 0)) (le-leb _ _ (subst (λ (x : ℕ). n ≤ x) (sym (head-at ends i)) h)))
-          o)
+          o
 
   -- all of them
   scanned-whole : (t : List ℕ) (d : ℕ) → n ≤ 128 → Scanning m t d → Scanned n ends t d
@@ -139,9 +142,14 @@ module _ (n : ℕ) (ends : List ℕ) where
       (λ e. f .marked .only u v hv e),
       (λ a. sym (ap₂ (at 2 t) (a .2) (a .3)) ∙ f .marked .all (a .0) (a .1)),
     );
-    others = λ _. f .others;
+    cut = λ three. absurd (four (duplicate? m tails heads) (sym (f .twice) ∙ three));
+    others = f .others;
   }
     where
+      four : (b : Bool) → choose {A = ℕ} b (λ _. 4) (λ _. 0) ≢ 3
+      four true e = absurd (let z : _≡_ {A = ℕ} 4 3 = e in omega arith)
+      four false e = absurd (let z : _≡_ {A = ℕ} 0 3 = e in omega arith)
+
       none : some m (strange? n tails heads) ≡ false
       none =
           some-none m (strange? n tails heads)

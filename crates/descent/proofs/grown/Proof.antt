@@ -1,6 +1,7 @@
 use Rattle.counting.proofs.Prelude.{_≡_, refl, _∙_, subst, ℕ, _+_, _-_, _*_, _≤_, zero-le, arith, length, length-set, needs}
 use Rattle.descent.specs.Steps.Members.{Below}
-use Rattle.descent.proofs.Descending.{stored-law}
+use Rattle.descent.specs.Promise.{KeptFrom}
+use Rattle.descent.proofs.Descending.{stored-law, stored-past}
 use Rattle.descent.proofs.Rounding.{Round, round-none, round-long, round-room, round-more, round-over, round-refused}
 use Rattle.descent.proofs.grown.Statement.{statement}
 use Rattle.descent.proofs.grown.Tie as tie
@@ -8,7 +9,7 @@ use Rattle.descent.proofs.grown.Tie as tie
 abbrev Inv-loop : tie.InvT-loop
 Inv-loop edges n places₀ below₀ first second low₀ high₀ r₀ places below low high r =
     (r ≤ n) × (n ≤ 128) × (2 * n ≤ length edges) × (length places ≡ length places₀) × (length below ≡ length below₀) × (2 * n + 2 ≤ length below)
-    × Below n first second × Round edges n r low high places₀ places below
+    × Below n first second × Round edges n r low high places₀ places below × KeptFrom (2 * r + 2) below₀ below
 
 abbrev μ-loop : tie.MeasureT-loop
 μ-loop edges n places₀ below₀ first second low₀ high₀ r₀ places below low high r = n - r
@@ -36,6 +37,7 @@ loop-holds c =
       simp length-set (pre .3),
       c .below-n .ensures,
       round-none (a .edges .now) (a .n) (c .below-n .result .low) (c .below-n .result .high) (a .places .now) _ (pre .0) (c .below-n .ensures) (zeros .low) (zeros .high),
+      λ i h. refl,
     )
 
 image-requires : tie.Need-image-requires Inv-loop μ-loop
@@ -86,6 +88,8 @@ returns c =
     let two = c .before .before .before .set-rows2 in
     round-over (a .edges .now) (a .n) (l .inv .1) (l .r) (l .low) (l .high) _ _ (image .result .low) (image .result .high) _ _ (a .places .now) (l .places) (l .below) (l .inv .7) (l .inv .6) (image .ensures) refl refl
     _ _ _ (one .ensures) (two .ensures) (stored-law (l .below) (l .r + 1) _ _ (omega arith)) (st .pre .4) (omega arith) (c .if1 .taken)
+    (a .below .now)
+    (λ i h. stored-past (l .below) (l .r + 1) _ _ i h ∙ l .inv .8 i (omega arith) ∙ stored-past (a .below .now) 0 0 0 i (omega arith))
 
 loop-again : tie.Need-loop-again Inv-loop μ-loop
 loop-again c =
@@ -105,6 +109,7 @@ loop-again c =
       l .inv .6,
       round-more (a .edges .now) (a .n) (l .inv .1) (l .r) (l .low) (l .high) _ _ (image .result .low) (image .result .high) _ _ (a .places .now) (l .places) (l .below) (l .inv .7) (l .inv .6) (image .ensures) refl refl
           _ _ _ (one .ensures) (two .ensures) (stored-law (l .below) (l .r + 1) _ _ (omega arith)) (c .if1 .left),
+      λ i h. stored-past (l .below) (l .r + 1) _ _ i h ∙ l .inv .8 i (omega arith),
     )
 
 same-length-4 : tie.Need-same-length-4 Inv-loop μ-loop
@@ -115,8 +120,9 @@ returns-2 c =
     let st = c .before .before .before .before .before .before in
     let a = st .args in
     let l = c .before .loop in
-    round-refused (a .edges .now) (a .n) (l .low) (l .high) (a .places .now) (l .places) (l .below) (st .pre .4)
+    round-refused (a .edges .now) (a .n) (l .low) (l .high) (a .places .now) (l .places) (a .below .now) (l .below) (st .pre .4)
     (subst (λ (r : ℕ). Round (a .edges .now) (a .n) r (l .low) (l .high) (a .places .now) (l .places) (l .below)) (let e : l .r ≡ a .n = (let k = c .loop-test .left in let i = l .inv .0 in omega arith) in e) (l .inv .7))
+    (λ i h. l .inv .8 i (let k = l .inv .0 in omega arith) ∙ stored-past (a .below .now) 0 0 0 i (omega arith))
 
 pub grown-spec : {M : Type 1} → statement M
 grown-spec =

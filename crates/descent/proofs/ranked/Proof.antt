@@ -16,7 +16,8 @@ start c = first c .before .before .before .before .before .before .before
 returns : tie.Need-returns
 returns c =
     let g = c .before .before .before .before .before .before in
-    ranked-cyclic _ (start g .args .n) (g .grown .result) _ _ _ (g .grown .ensures) (c .before .if1 .taken) _ _ _ (c .no-descent .ensures)
+    ranked-cyclic _ (start g .args .n) (g .grown .result) _ _ _ _ (g .grown .ensures) (c .before .if1 .taken) _ _ _ (c .no-descent .ensures)
+    (first g .clear .ensures) (second g .clear2 .ensures)
 
 close-requires : tie.Need-close-requires
 close-requires c κs =
@@ -45,7 +46,7 @@ returns-2 c =
     let k = c .before .before .before .before .before .before in
     let e = k .before .before .before .before .before in
     let g = e .before .before .before .before .before in
-    ranked-made _ (start g .args .n) (g .grown .result) _ _ _ (g .grown .ensures) (e .if1 .left) _ _ _ _ _
+    ranked-made _ (start g .args .n) (g .grown .result) _ _ _ _ (g .grown .ensures) (e .if1 .left) _ _ _ _ _
     (first g .clear .ensures) (second g .clear2 .ensures) (k .close .ensures)
 
 pub ranked-spec : {M : Type 1} → statement M

@@ -14,7 +14,7 @@ use Rattle.specification.specs.Rows.{row, rowsUsed}
 use Rattle.counting.specs.Quads.{quad}
 use Rattle.masks.specs.Sets.{Blank}
 use Rattle.descent.specs.declared.Descent.{Descent}
-use Rattle.descent.specs.Promise.{noDescent}
+use Rattle.descent.specs.Promise.{noDescent, KeptFrom, Stuck}
 use Rattle.specification.specs.Limits.{mostVertices}
 
 -- the table e has an edge from u to v
@@ -72,13 +72,15 @@ pub record Prefixes (e : List ℕ) (n top : ℕ) (below : List ℕ) : Type 0 whe
   pub all : (v : ℕ) → v < n → row (has? 2 e) n v < top
 
 -- where a vertex reaches itself, r is 0; else r is the number of rows used, and p′ has the row of each of the n vertices. Every other
--- number is that of p
-pub record Laid (e : List ℕ) (n r : ℕ) (p p′ below : List ℕ) : Type 0 where
+-- number is that of p, and past the sets of the rows `below` has what b has
+pub record Laid (e : List ℕ) (n r : ℕ) (p p′ b below : List ℕ) : Type 0 where
   pub cyclic : r ≡ 0 → (u : ℕ) × (u < n) × Reaches (Arc e) u u
   pub acyclic : r ≢ 0 → (u : ℕ) → Reaches (Arc e) u u → ⊥
   pub used : r ≢ 0 → r ≡ rowsUsed (has? 2 e) n
   pub rule : r ≢ 0 → (v : ℕ) → v < n → quad 2 p′ v ≡ row (has? 2 e) n v
   pub prefixes : r ≢ 0 → Prefixes e n r below
+  pub sets-past : r ≢ 0 → KeptFrom (2 * r + 2) b below
+  pub refused : r ≡ 0 → Stuck (has? 2 e) n b p below p′
   pub rest : (k v : ℕ) → k < 4 → (k ≡ 2 → n ≤ v) → quad k p′ v ≡ quad k p v
 
 -- the lists have what is right for each of n vertices, and else what they had
@@ -93,12 +95,12 @@ pub record Closed (e : List ℕ) (n : ℕ) (t l p t′ l′ p′ : List ℕ) : T
 abbrev pub Rest : ℕ → List ℕ → List ℕ → Type 0
 Rest n p p′ = (k v : ℕ) → k < 4 → (2 ≤ k → n ≤ v) → quad k p′ v ≡ quad k p v
 
--- the rows of n vertices and what each reaches, from tables of zeros: refused with 5 where a vertex reaches itself, and then what the tables
--- hold is left free
-pub record Ranked (e : List ℕ) (n : ℕ) (p : List ℕ) (r : Descent) (b t l p′ : List ℕ) : Type 0 where
+-- the rows of n vertices and what each reaches, from tables of zeros: refused with 5 where a vertex reaches itself, and then these are left
+pub record Ranked (e : List ℕ) (n : ℕ) (b₀ p : List ℕ) (r : Descent) (b t l p′ : List ℕ) : Type 0 where
   pub cyclic : r .refusal ≢ 0 → (r ≡ noDescent 5) × ((u : ℕ) × (u < n) × Reaches (Arc e) u u)
+  pub left : r .refusal ≢ 0 → Blank t × Blank l × Stuck (has? 2 e) n b₀ p b p′
   pub made : r .refusal ≡ 0 → (r .used ≢ 0)
-      × ((t₀ l₀ q : List ℕ) × Blank t₀ × Blank l₀ × Laid e n (r .used) p q b × Closed e n t₀ l₀ q t l p′)
+      × ((t₀ l₀ q : List ℕ) × Blank t₀ × Blank l₀ × Laid e n (r .used) p q b₀ b × Closed e n t₀ l₀ q t l p′)
   pub rest : Rest n p p′
 
 -- the same of their lengths, computed
