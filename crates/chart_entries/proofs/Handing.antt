@@ -6,6 +6,7 @@ use Rattle.lists.proofs.Written.{refilled}
 use Rattle.specification.specs.Checks.{Content, edgesOf}
 use Rattle.specification.specs.Marks.{reducedCount}
 use Rattle.specification.specs.Chart.{Plan, transitiveEdge?, reducedEdges, edgeEntry}
+use Rattle.specification.specs.Numbers.{arrowNumber}
 use Rattle.specification.specs.declared.VertexEntry.{VertexEntry}
 use Rattle.specification.specs.declared.EdgeEntry.{EdgeEntry}
 use Rattle.specification.specs.declared.BundleEntry.{BundleEntry}
@@ -29,6 +30,7 @@ module _ (vs vs′ : List VertexEntry) (es es′ : List EdgeEntry) (bs bs′ : L
       → HandedOver x vs es bs r vs′ es′ bs′
   handed x ends s h =
       let ts = s .tables in
+      let edges = refilled _ _ _ _ _ _ (ts .edges) (ts .edge) (h .edges) in
       subst (λ (a : ChartCounts). HandedOver x vs es bs a vs′ es′ bs′) (sym (h .answer)) (record {
         refusal = s .refusal;
         listed = record {
@@ -44,7 +46,8 @@ module _ (vs vs′ : List VertexEntry) (es es′ : List EdgeEntry) (bs bs′ : L
             long = ts .long;
           };
           vertex-list = refilled _ _ _ _ _ _ (ts .vertices) (ts .vertex) (h .vertices);
-          edge-list = refilled _ _ _ _ _ _ (ts .edges) (ts .edge) (h .edges);
+          edge-list = edges;
+          edge-numbers = λ e f d l. ap (λ (x : EdgeEntry). arrowNumber x f) (edges .made e d l);
           bundle-list = refilled _ _ _ _ _ _ (ts .bundles) (ts .bundle) (h .bundles);
         };
       })

@@ -2,10 +2,11 @@
 -- nothing. Assumes nothing.
 use mathlib.Core.Path.{_≡_}
 use mathlib.Core.List.{List}
-use lib.ListN.{length}
-use Rattle.specification.specs.Limits.{mostVertices}
+use Prim.Native.Nat.{ℕ, _<_}
+use lib.ListN.{length, getD}
 use Rattle.specification.specs.Checks.{Content, edgesOf}
 use Rattle.specification.specs.Chart.{Plan, planOf, vertexEntry, edgeEntry, bundleEntry}
+use Rattle.specification.specs.Numbers.{arrowNumber}
 use Rattle.specification.specs.declared.VertexEntry.{VertexEntry}
 use Rattle.specification.specs.declared.EdgeEntry.{EdgeEntry}
 use Rattle.specification.specs.declared.BundleEntry.{BundleEntry}
@@ -21,6 +22,8 @@ pub record Listed (c : Content) (p : Plan) (vs : List VertexEntry) (es : List Ed
   pub summary : Summary c p r
   pub vertex-list : Filled vs (vertexEntry c p) (c .vertices) vs′
   pub edge-list : Filled es (edgeEntry c p) (edgesOf c) es′
+  -- number f of edge e, the number and the values of its kind among them (9.4)
+  pub edge-numbers : (e f : ℕ) (d : EdgeEntry) → e < edgesOf c → arrowNumber (getD es′ e d) f ≡ arrowNumber (edgeEntry c p e) f
   pub bundle-list : Filled bs (bundleEntry p) (length (p .bundles)) bs′
 
 pub record Left (d : Drawn) (vs : List VertexEntry) (es : List EdgeEntry) (bs : List BundleEntry)

@@ -2,7 +2,7 @@
 ghost use mathlib.Core.Path.{_≡_};
 ghost use Prim.Native.Nat.{_≤_, _<_};
 ghost use lib.ListN.{length};
-ghost use Rattle.specification.specs.Layout.{fieldAt, layoutOf, lined, withLines, afterEdges, withEdges};
+ghost use Rattle.specification.specs.Layout.{fieldAt, layoutOf, layoutAnswer, lined, withLines, afterEdges, withEdges};
 use specification::Field;
 use specification::Fields;
 use specification::Layout;
@@ -117,7 +117,7 @@ fn with_edges(b: &[u8], n: usize, at: usize) -> Layout
 
 // Where the fields of a record stand, or that they do not stand as they must.
 pub fn layout_of(b: &[u8]) -> Layout
-    ensures { λ r. ⌜ r ≡ layoutOf (now (b .entry)) ⌝ }
+    ensures { λ r. ⌜ layoutAnswer r ≡ layoutAnswer (layoutOf (now (b .entry))) ⌝ }
 {
     if MOST_BYTES < b.len() {
         return Layout::Bad;

@@ -5,6 +5,7 @@ ghost use lib.Dec.{eqb, leb};
 ghost use lib.ListN.{length};
 ghost use Rattle.masks.specs.Pairs.{inPair};
 ghost use Rattle.specification.specs.Geometry.{point, Hit, BlockedAmong, aligned, Decides, bendBeside, courseAmong};
+ghost use Rattle.specification.specs.Numbers.{courseCode};
 ghost use Rattle.geometry.specs.Segment.{pointOf, vertexCount};
 ghost use Rattle.geometry.specs.Steps.{Struck};
 ghost use Rattle.geometry.specs.Steps.{Diff};
@@ -145,7 +146,7 @@ pub fn course_among<'a>(
     tail: usize,
     head: usize,
 ) -> Course
-    ensures { λ r. ⌜ r ≡ courseAmong (λ w. eqb (inPair low high w) 1) (pointOf (now (columns .entry)) (now (places .entry))) (vertexCount (now (columns .entry)) (now (places .entry))) tail head ⌝ }
+    ensures { λ r. ⌜ courseCode r ≡ courseCode (courseAmong (λ w. eqb (inPair low high w) 1) (pointOf (now (columns .entry)) (now (places .entry))) (vertexCount (now (columns .entry)) (now (places .entry))) tail head) ⌝ }
 {
     if blocked_among(low, high, columns, places, tail, head) {
         return bend_beside(columns[tail], columns[head], places[4 * head + 2] - 1);

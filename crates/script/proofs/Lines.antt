@@ -1,9 +1,8 @@
--- A line read byte by byte comes to the command that it orders. Assumes nothing.
+-- A line read byte by byte comes to its order. Assumes nothing.
 use Rattle.counting.proofs.Prelude.{_≡_, refl, sym, ap, ap₂, _∙_, Bool, true, false, List, [], _∷_, ℕ, zero-le, arith, eqb}
 use Rattle.specification.specs.Count.{choose}
 use Rattle.script.specs.declared.Numeral.{Numeral}
 use Rattle.script.specs.declared.Scanner.{Scanner}
-use Rattle.script.specs.declared.Command.{Command}
 use Rattle.specification.specs.Orders.{Parts, prepend, parts, same, wordsName, addName, leadsName, Number, numberOf, Order, withOne, withTwo, read, order}
 use Rattle.script.specs.Scanning.{advanced, extended, within, nextPart, scanned, begun, scan, withNumber, finishedTwo, finishedOne, finished, cut}
 use Rattle.script.proofs.Names.{followed, followed-same}
@@ -68,19 +67,21 @@ over-rest w a l x y (Parts.more p ps) = ap (λ (s : Scanner). over (nextPart s) 
 
 -- ---- what they come to
 
-nothing : (x : Numeral) → withNumber x (λ _. Command.Unreadable) ≡ Command.Unreadable
+nothing : (x : Numeral) → withNumber x (λ _. Order.unreadable) ≡ Order.unreadable
 nothing Numeral.Empty = refl
 nothing (Numeral.Value n) = refl
 nothing Numeral.Bad = refl
 
-one-number : (t : Bool) (n : Number) → withNumber (valued n) (λ u. choose t (λ _. Command.Words u) (λ _. Command.Unreadable)) ≡ cut (choose t (λ _. withOne Order.words n) (λ _. Order.unreadable))
+one-number : (t : Bool) (n : Number) → withNumber (valued n) (λ u. choose t (λ _. Order.words u) (λ _. Order.unreadable))
+    ≡ cut (choose t (λ _. withOne Order.words n) (λ _. Order.unreadable))
 unfolding valued cut withOne
 one-number true Number.none = refl
 one-number true (Number.number n) = refl
 one-number false n = nothing (valued n)
 
 two-numbers : (t d : Bool) (m n : Number)
-    → withNumber (valued m) (λ u. withNumber (valued n) (λ v. choose t (λ _. Command.Add u v) (λ _. choose d (λ _. Command.Leads u v) (λ _. Command.Unreadable))))
+    → withNumber (valued m) (λ u. withNumber (valued n) (λ v.
+    choose t (λ _. Order.add u v) (λ _. choose d (λ _. Order.leads u v) (λ _. Order.unreadable))))
     ≡ cut (choose t (λ _. withTwo Order.add m n) (λ _. choose d (λ _. withTwo Order.leads m n) (λ _. Order.unreadable)))
 unfolding valued cut withOne withTwo
 two-numbers true d Number.none n = refl
@@ -93,7 +94,7 @@ two-numbers false false Number.none n = refl
 two-numbers false false (Number.number m) Number.none = refl
 two-numbers false false (Number.number m) (Number.number n) = refl
 
-same-number : (x : Numeral) (f g : ℕ → Command) → ((n : ℕ) → f n ≡ g n) → withNumber x f ≡ withNumber x g
+same-number : (x : Numeral) (f g : ℕ → Order) → ((n : ℕ) → f n ≡ g n) → withNumber x f ≡ withNumber x g
 same-number Numeral.Empty f g e = refl
 same-number (Numeral.Value n) f g e = e n
 same-number Numeral.Bad f g e = refl
@@ -118,17 +119,19 @@ unfolding over nextPart finished finishedOne finishedTwo read cut
 finished-over (Parts.last p) = ap finished (first-part p [] [])
 finished-over (Parts.more p (Parts.last q)) =
     ap finished (second-part p q []) ∙ gathered-number q _
-    ∙ ap (λ (t : Bool). withNumber (valued (numberOf q)) (λ u. choose t (λ _. Command.Words u) (λ _. Command.Unreadable))) (followed-same wordsName (omega arith) 0 p zero-le)
+    ∙ ap (λ (t : Bool). withNumber (valued (numberOf q)) (λ u. choose t (λ _. Order.words u) (λ _. Order.unreadable)))
+    (followed-same wordsName (omega arith) 0 p zero-le)
     ∙ one-number (same p wordsName) (numberOf q)
 finished-over (Parts.more p (Parts.more q (Parts.last r))) =
     ap finished (third-part p q r) ∙ gathered-number q _ ∙ same-number (valued (numberOf q)) _ _ (λ u. gathered-number r _)
-    ∙ ap₂ (λ (t d : Bool). withNumber (valued (numberOf q)) (λ u. withNumber (valued (numberOf r)) (λ v. choose t (λ _. Command.Add u v) (λ _. choose d (λ _. Command.Leads u v) (λ _. Command.Unreadable)))))
+    ∙ ap₂ (λ (t d : Bool). withNumber (valued (numberOf q)) (λ u. withNumber (valued (numberOf r)) (λ v.
+    choose t (λ _. Order.add u v) (λ _. choose d (λ _. Order.leads u v) (λ _. Order.unreadable)))))
     (followed-same addName (omega arith) 0 p zero-le) (followed-same leadsName (omega arith) 0 p zero-le)
     ∙ two-numbers (same p addName) (same p leadsName) (numberOf q) (numberOf r)
 finished-over (Parts.more p (Parts.more q (Parts.more r ps))) =
     ap finished (ap (λ (s : Scanner). over (nextPart s) ps) (third-part p q r) ∙ over-rest _ _ _ _ _ ps) ∙ nothing (gathered Numeral.Empty q)
 
--- EVERY LINE: read byte by byte from its begin, a line comes to the command that it orders
+-- EVERY LINE: read byte by byte from its begin, a line comes to its order
 pub every-line : (line : List ℕ) → finished (scan begun line) ≡ cut (order line)
 unfolding order
 every-line line = ap finished (scan-over begun line) ∙ finished-over (parts line)

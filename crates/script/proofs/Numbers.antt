@@ -2,8 +2,7 @@
 use Rattle.counting.proofs.Prelude.{_≡_, refl, ap, _∙_, Bool, true, false, List, [], _∷_, ℕ, _+_, _-_, _*_, min, arith}
 use Rattle.specification.specs.Count.{choose}
 use Rattle.script.specs.declared.Numeral.{Numeral}
-use Rattle.script.specs.declared.Command.{Command}
-use Rattle.specification.specs.Orders.{Number, digit?, decimal, numberOf}
+use Rattle.specification.specs.Orders.{Number, digit?, decimal, numberOf, Order}
 use Rattle.script.specs.Scanning.{appended, extended, withNumber}
 
 -- the number that a part comes to
@@ -33,7 +32,7 @@ gathered-from v (b ∷ l) = go (digit? b) (gathered-from (v * 10 + (b - 48)) l)
     go false rest = bad-stays l
 
 -- a part that is no number is as one with no byte
-pub gathered-number : (l : List ℕ) (f : ℕ → Command) → withNumber (gathered Numeral.Empty l) f ≡ withNumber (valued (numberOf l)) f
+pub gathered-number : (l : List ℕ) (f : ℕ → Order) → withNumber (gathered Numeral.Empty l) f ≡ withNumber (valued (numberOf l)) f
 unfolding gathered valued numberOf
 gathered-number [] f = refl
 gathered-number (b ∷ l) f = ap (λ (x : Numeral). withNumber x f) (gathered-from 0 (b ∷ l))

@@ -7,23 +7,22 @@ use Rattle.specification.specs.Machine.{Graph, Call, Turn, step, fresh, Lawful}
 use Rattle.editing.specs.Promise.{Represents, changeAnswer, StartPromise}
 use Rattle.editing.proofs.Machines.{leads-kept, refusedThree, unknown-add, unknown-leads, start-fails}
 use Rattle.script.specs.declared.Command.{Command}
-use Rattle.script.specs.declared.Outcome.{Outcome}
 use Rattle.script.specs.declared.Performed.{Performed}
 use Rattle.specification.specs.Orders.{Order, order}
-use Rattle.script.specs.Scanning.{begun, scan, finished, cut}
-use Rattle.script.specs.Performing.{outcomeOf, Obeyed, answered, obey, obeyAll, outcomes, orderOf, Effect, PerformPromise, Replayed, Script}
+use Rattle.script.specs.Scanning.{orderOf, cut}
+use Rattle.script.specs.Performing.{Said, saying, saidOf, Obeyed, answered, obey, obeyAll, saidAll, Effect, PerformPromise, Replayed, Script}
 use Rattle.script.specs.Performing.Replayed.{done, next}
 use Rattle.script.proofs.Lines.{every-line}
 
 -- ---- the promise follows from what the session's own call promises
 
 module _ (s : Session) (g : Graph) (p : Represents g s) (r : Performed) where
-  same-outcome : (c : Command) → Effect s c r → r .outcome ≡ obey g (orderOf c) .outcome
+  same-said : (c : Command) → Effect s c r → saidOf (r .outcome) ≡ obey g (orderOf c) .said
   unfolding Effect obey orderOf answered
-  same-outcome (Command.Words n) e = e .3 ∙ ap (λ (k : ℕ). outcomeOf (changeAnswer k)) (e .1 .refusal)
-  same-outcome (Command.Add u v) e = e .3 ∙ ap outcomeOf (e .1 .answer g p)
-  same-outcome (Command.Leads u v) e = e .3 ∙ ap outcomeOf (e .1 .answer g p)
-  same-outcome Command.Unreadable e = e .1
+  same-said (Command.Words n) e = e .3 ∙ ap (λ (k : ℕ). saying (changeAnswer k)) (e .1 .refusal)
+  same-said (Command.Add u v) e = e .3 ∙ ap saying (e .1 .answer g p)
+  same-said (Command.Leads u v) e = e .3 ∙ ap saying (e .1 .answer g p)
+  same-said Command.Unreadable e = e .1
 
   same-graph : (c : Command) → Effect s c r → Represents (obey g (orderOf c) .graph) (r .session)
   unfolding Effect obey orderOf answered
@@ -36,7 +35,7 @@ module _ (s : Session) (g : Graph) (p : Represents g s) (r : Performed) where
 pub performs : (s : Session) (c k : Command) (r : Performed) → c ≡ k → Effect s k r → PerformPromise s c r
 performs s c k r e f =
     subst (λ (x : Command). PerformPromise s x r) (sym e)
-    (record { effect = f; answer = λ g p. same-outcome s g p r k f; holds = λ g p. same-graph s g p r k f })
+    (record { effect = f; answer = λ g p. same-said s g p r k f; holds = λ g p. same-graph s g p r k f })
 
 -- ---- a number may be cut to the largest: neither is a vertex
 
@@ -61,8 +60,8 @@ cut-start g n = go (lt-or-le n 129)
         let e = start-fails (min n 129) (inr (omega arith)) in
         let f = start-fails n (inr (omega arith)) in rw (e .0, e .1, f .0, f .1)
 
-pub cut-same : (g : Graph) → Lawful g → (o : Order) → obey g (orderOf (cut o)) ≡ obey g o
-unfolding obey orderOf cut
+pub cut-same : (g : Graph) → Lawful g → (o : Order) → obey g (cut o) ≡ obey g o
+unfolding obey cut
 cut-same g l (Order.words n) = cut-start g n
 cut-same g l (Order.add u v) = ap answered (cut-call (g .vertices) (l .small) (λ x y. step g (Call.add x y)) (refusedThree g) (unknown-add g) u v)
 cut-same g l (Order.leads u v) = ap answered (cut-call (g .vertices) (l .small) (λ x y. step g (Call.leads x y)) (refusedThree g) (unknown-leads g) u v)
@@ -70,14 +69,16 @@ cut-same g l Order.unreadable = refl
 
 -- ---- every script
 
-replays : (g : Graph) {s z : Session} {lines : List (List ℕ)} {out : List Outcome} → Represents g s → Replayed s lines out z → Script g lines out z
-unfolding obeyAll outcomes
+replays : (g : Graph) {s z : Session} {lines : List (List ℕ)} {out : List Said}
+    → Represents g s → Replayed s lines out z → Script g lines out z
+unfolding obeyAll saidAll
 replays g p done = record { holds = p; same = refl }
-replays g p (next {line = line} r q h) =
-    let e : obey g (orderOf (finished (scan begun line))) ≡ obey g (order line) = ap (λ (c : Command). obey g (orderOf c)) (every-line line) ∙ cut-same g (p .lawful) (order line) in
-    let rest = replays (obey g (order line) .graph) (subst (λ (o : Obeyed). Represents (o .graph) (r .session)) e (q .holds g p)) h in
-    record { holds = rest .holds; same = ap₂ _∷_ (q .answer g p ∙ ap (λ (o : Obeyed). o .outcome) e) (rest .same) }
+replays g p (next {line = line} c r o q h) =
+    let e : obey g (orderOf c) ≡ obey g (order line) = ap (obey g) (o ∙ every-line line) ∙ cut-same g (p .lawful) (order line) in
+    let rest = replays (obey g (order line) .graph) (subst (λ (x : Obeyed). Represents (x .graph) (r .session)) e (q .holds g p)) h in
+    record { holds = rest .holds; same = ap₂ _∷_ (q .answer g p ∙ ap (λ (x : Obeyed). x .said) e) (rest .same) }
 
--- EVERY SCRIPT: from a session of no vertices on, each line's outcome is the machine's, with the numbers as they stand in the line
-pub every-script : (r : Changed) → StartPromise 0 r → {lines : List (List ℕ)} {out : List Outcome} {z : Session} → Replayed (r .session) lines out z → Script (fresh 0) lines out z
+-- EVERY SCRIPT: from a session of no vertices on, what is said to each line is the machine's answer, with the numbers as they stand in it
+pub every-script : (r : Changed) → StartPromise 0 r → {lines : List (List ℕ)} {out : List Said} {z : Session}
+    → Replayed (r .session) lines out z → Script (fresh 0) lines out z
 every-script r p h = replays (fresh 0) (p .holds) h

@@ -1,4 +1,4 @@
--- A line read byte by byte, and the command that it comes to. Assumes nothing.
+-- A line read byte by byte, and the order that it comes to. Assumes nothing.
 use mathlib.Core.Bool.{_&&_}
 use mathlib.Core.List.{List, [], _∷_}
 use Prim.Native.Nat.{ℕ, _+_, _-_, _*_, min}
@@ -64,30 +64,39 @@ unfoldable pub scan : Scanner → List ℕ → Scanner
 scan s [] = s
 scan s (b ∷ l) = scan (scanned s b) l
 
--- ---- the command
+-- ---- the order
 
-abbrev pub withNumber : Numeral → (ℕ → Command) → Command
-withNumber Numeral.Empty f = Command.Unreadable
+-- the order of each command, with its numbers
+unfoldable pub orderOf : Command → Order
+orderOf (Command.Words n) = Order.words n
+orderOf (Command.Add u v) = Order.add u v
+orderOf (Command.Leads u v) = Order.leads u v
+orderOf Command.Unreadable = Order.unreadable
+
+abbrev pub withNumber : Numeral → (ℕ → Order) → Order
+withNumber Numeral.Empty f = Order.unreadable
 withNumber (Numeral.Value n) f = f n
-withNumber Numeral.Bad f = Command.Unreadable
+withNumber Numeral.Bad f = Order.unreadable
 
--- the command with the numbers u and v
-unfoldable pub finishedTwo : Scanner → ℕ → ℕ → Command
-finishedTwo s u v = choose (eqb (s .add) 3) (λ _. Command.Add u v) (λ _. choose (eqb (s .leads) 5) (λ _. Command.Leads u v) (λ _. Command.Unreadable))
+-- the order with the numbers u and v
+unfoldable pub finishedTwo : Scanner → ℕ → ℕ → Order
+finishedTwo s u v =
+    choose (eqb (s .add) 3) (λ _. Order.add u v) (λ _.
+    choose (eqb (s .leads) 5) (λ _. Order.leads u v) (λ _. Order.unreadable))
 
--- the command whose first number is u
-unfoldable pub finishedOne : Scanner → ℕ → Command
+-- the order whose first number is u
+unfoldable pub finishedOne : Scanner → ℕ → Order
 finishedOne s u =
     choose (eqb (s .part) 1)
-    (λ _. choose (eqb (s .words) 5) (λ _. Command.Words u) (λ _. Command.Unreadable))
-    (λ _. choose (eqb (s .part) 2) (λ _. withNumber (s .second) (finishedTwo s u)) (λ _. Command.Unreadable))
+    (λ _. choose (eqb (s .words) 5) (λ _. Order.words u) (λ _. Order.unreadable))
+    (λ _. choose (eqb (s .part) 2) (λ _. withNumber (s .second) (finishedTwo s u)) (λ _. Order.unreadable))
 
-unfoldable pub finished : Scanner → Command
+unfoldable pub finished : Scanner → Order
 finished s = withNumber (s .first) (finishedOne s)
 
 -- an order as the scanner has it, with its numbers cut to the largest
-unfoldable pub cut : Order → Command
-cut (Order.words n) = Command.Words (min n largest)
-cut (Order.add u v) = Command.Add (min u largest) (min v largest)
-cut (Order.leads u v) = Command.Leads (min u largest) (min v largest)
-cut Order.unreadable = Command.Unreadable
+unfoldable pub cut : Order → Order
+cut (Order.words n) = Order.words (min n largest)
+cut (Order.add u v) = Order.add (min u largest) (min v largest)
+cut (Order.leads u v) = Order.leads (min u largest) (min v largest)
+cut Order.unreadable = Order.unreadable

@@ -3,8 +3,8 @@
 ghost use mathlib.Core.Path.{_≡_};
 ghost use Prim.Native.Nat.{min};
 ghost use Rattle.editing.specs.Promise.{changeAnswer, replyAnswer};
-ghost use Rattle.script.specs.Scanning.{advanced, appended, extended, within, scanned, begun, finishedTwo, finishedOne, finished};
-ghost use Rattle.script.specs.Performing.{outcomeOf, PerformPromise};
+ghost use Rattle.script.specs.Scanning.{advanced, appended, extended, within, scanned, begun, orderOf, finishedTwo, finishedOne, finished};
+ghost use Rattle.script.specs.Performing.{saying, saidOf, PerformPromise};
 use editing::Reply;
 use editing::Session;
 
@@ -172,7 +172,7 @@ impl Scanner {
 
     // The command with the numbers u and v.
     fn finish_two(self, u: usize, v: usize) -> Command
-        ensures { λ r. ⌜ r ≡ finishedTwo self u v ⌝ }
+        ensures { λ r. ⌜ orderOf r ≡ finishedTwo self u v ⌝ }
     {
         if self.add == 3 {
             return Command::Add(u, v);
@@ -185,7 +185,7 @@ impl Scanner {
 
     // The command whose first number is u.
     fn finish_one(self, u: usize) -> Command
-        ensures { λ r. ⌜ r ≡ finishedOne self u ⌝ }
+        ensures { λ r. ⌜ orderOf r ≡ finishedOne self u ⌝ }
     {
         if self.part == 1 {
             if self.words == 5 {
@@ -206,7 +206,7 @@ impl Scanner {
 
     // The command of the line, which ends here.
     pub fn finish(self) -> Command
-        ensures { λ r. ⌜ r ≡ finished self ⌝ }
+        ensures { λ r. ⌜ orderOf r ≡ finished self ⌝ }
     {
         let first = self.first;
         match first {
@@ -219,7 +219,7 @@ impl Scanner {
 
 // The outcome of a call that starts or changes a session.
 fn changed(refusal: u8) -> Outcome
-    ensures { λ r. ⌜ r ≡ outcomeOf (changeAnswer refusal) ⌝ }
+    ensures { λ r. ⌜ saidOf r ≡ saying (changeAnswer refusal) ⌝ }
 {
     if refusal != 0 {
         return Outcome::Refused(refusal);
@@ -229,7 +229,7 @@ fn changed(refusal: u8) -> Outcome
 
 // The outcome of a question.
 fn replied(reply: Reply) -> Outcome
-    ensures { λ r. ⌜ r ≡ outcomeOf (replyAnswer (reply .refusal) (reply .reaches)) ⌝ }
+    ensures { λ r. ⌜ saidOf r ≡ saying (replyAnswer (reply .refusal) (reply .reaches)) ⌝ }
 {
     if reply.refusal != 0 {
         return Outcome::Refused(reply.refusal);

@@ -3,3 +3,4 @@ pub mod Placing
 pub mod Written
 mod Fitting
 pub mod Writing
+pub mod Cases

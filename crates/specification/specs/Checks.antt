@@ -11,7 +11,7 @@ use lib.ListN.{length, take, drop, getD}
 use Rattle.specification.specs.declared.Fields.{Fields}
 use Rattle.specification.specs.declared.Layout.{Layout}
 use Rattle.specification.specs.declared.Layout.the-variants.{Good, Bad}
-use Rattle.specification.specs.Layout.{layoutOf}
+use Rattle.specification.specs.Layout.{layoutOf, layoutAnswer}
 use Rattle.specification.specs.Limits.{mostVertices, mostEdges}
 
 -- what is checked: vertices, edges, and the bytes of the given channels, if any are given
@@ -88,7 +88,7 @@ nothing = content 0 [] [] false []
 
 -- the number that a record gets by some of the checks: 1 'layout' before everything, then the first of them that its content fails
 abbrev pub refusalIn : (Content → ℕ) → List ℕ → Layout → ℕ
-refusalIn refuse b Bad = 1
+refusalIn refuse b Bad = layoutAnswer Bad .number
 refusalIn refuse b (Good f) = refuse (contentOf b f)
 
 unfoldable pub recordRefusal : List ℕ → ℕ

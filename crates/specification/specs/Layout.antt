@@ -8,6 +8,7 @@ use Rattle.specification.specs.Count.{choose}
 use Rattle.specification.specs.Limits.{mostBytes}
 use Rattle.specification.specs.declared.Field.{Field}
 use Rattle.specification.specs.declared.Field.the-variants.{Found, Missing}
+use Rattle.specification.specs.declared.Fields.{Fields}
 use Rattle.specification.specs.declared.Layout.{Layout}
 use Rattle.specification.specs.declared.Layout.the-variants.{Good, Bad}
 
@@ -60,3 +61,16 @@ withVertices b (Found start size) = choose (eqb size 1) (λ _. withEdges b (getD
 -- where the fields of a record stand
 unfoldable pub layoutOf : List ℕ → Layout
 layoutOf b = choose (leb (length b) mostBytes) (λ _. withVertices b (fieldAt 1 b 0)) (λ _. Bad)
+
+-- what a layout says: 0 and where the fields stand, or 1 'layout' and nothing (13.1)
+pub record LayoutAnswer : Type 0 where
+  pub number : ℕ
+  pub fields : Fields
+
+abbrev pub noFields : Fields
+noFields = record { vertices = 0; edges = 0; count = 0; given = false; lines = 0; size = 0 }
+
+-- the number and the fields of each case
+abbrev pub layoutAnswer : Layout → LayoutAnswer
+layoutAnswer (Good f) = record { number = 0; fields = f }
+layoutAnswer Bad = record { number = 1; fields = noFields }

@@ -38,6 +38,12 @@ pub data Answer : Type 0 where
   -- whether the first vertex reaches the second
   told : Bool → Answer
 
+-- the number of an answer: that of a refusal, and 0 where nothing is refused
+unfoldable pub answerNumber : Answer → ℕ
+answerNumber (Answer.refused k) = k
+answerNumber Answer.added = 0
+answerNumber (Answer.told b) = 0
+
 -- what a call leaves, and what it answers
 pub record Turn : Type 0 where
   pub graph : Graph

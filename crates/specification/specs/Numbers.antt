@@ -2,6 +2,8 @@
 use Prim.Native.Nat.{ℕ, _/_, _%_}
 use lib.Dec.{eqb}
 use Rattle.specification.specs.Count.{choose, indicator}
+use Rattle.specification.specs.Chart.{crossing}
+use Rattle.specification.specs.declared.Course.{Course}
 use Rattle.specification.specs.declared.VertexEntry.{VertexEntry}
 use Rattle.specification.specs.declared.EdgeEntry.{EdgeEntry}
 use Rattle.specification.specs.declared.BundleEntry.{BundleEntry}
@@ -15,6 +17,10 @@ codeOf Path = record { code = 0; value = 0; row = 0 }
 codeOf (PathTransitive b) = record { code = 1; value = b; row = 0 }
 codeOf Straight = record { code = 2; value = 0; row = 0 }
 codeOf (Bent b) = record { code = 3; value = b .column; row = b .row }
+
+-- a course by the number and the bend of its kind
+abbrev pub courseCode : Course → Code
+courseCode c = codeOf (crossing c)
 
 -- number f of a word: line, position, column, row, descendants
 unfoldable pub wordNumber : VertexEntry → ℕ → ℕ

@@ -1,13 +1,13 @@
-use mathlib.Core.Path.{sym, _∙_}
 use native.Mathlib.Omega.{arith}
 use borrow.Author.Needs.{needs}
+use Rattle.specification.proofs.Cases.{case-layout}
 use Rattle.fields.proofs.Standing.{LaidOut, layout-good}
 use Rattle.chart.proofs.edges_of.Statement.{statement}
 use Rattle.chart.proofs.edges_of.Tie as tie
 
 -- the fields that were found lie within the record
 laid : (c : tie.After-layout) → LaidOut (c .before .before .before .before .args .b .now) (c .layout .given .0 .0)
-laid c = layout-good _ _ (sym (c .before .before .layout-of .ensures) ∙ c .layout .given .1)
+laid c = layout-good _ _ (case-layout _ _ _ (c .before .before .layout-of .ensures) (c .layout .given .1))
 
 mul-end : tie.Need-mul-end
 mul-end c = omega (arith, laid (c .before .before) .edges)

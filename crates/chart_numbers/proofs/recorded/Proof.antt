@@ -1,7 +1,10 @@
 -- `chart_numbers::recorded` meets its contract: a record is its parts, or refused with 1 (`Leaving.antt`). Assumes nothing.
-use Rattle.counting.proofs.Prelude.{sym, _∙_, arith, needs}
+use Rattle.counting.proofs.Prelude.{_≡_, arith, needs}
 use Rattle.counting.proofs.Clearing.{cleared-length}
-use Rattle.fields.proofs.Standing.{layout-good}
+use Rattle.specification.specs.declared.Layout.the-variants.{Good}
+use Rattle.specification.specs.Layout.{layoutOf}
+use Rattle.specification.proofs.Cases.{case-layout}
+use Rattle.fields.proofs.Standing.{LaidOut, layout-good}
 use Rattle.chart_plan.proofs.Judging.{record-bad}
 use Rattle.chart_numbers.proofs.Leaving.{refused-left, record-left}
 use Rattle.chart_numbers.proofs.recorded.Statement.{statement}
@@ -11,50 +14,36 @@ use Rattle.chart_numbers.proofs.recorded.Tie as tie
 abbrev start : tie.After-struct-known → tie.Start
 start c = c .before .before .before .before .before .before .before .before .before .before
 
+-- the fields that were found stand as they must
+good : (c : tie.After-struct-known) → layoutOf (start c .args .bytes .now) ≡ Good (c .before .before .layout .given .0 .0)
+good c = case-layout _ _ _ (c .before .before .before .before .layout-of .ensures) (c .before .before .layout .given .1)
+
+laid : (c : tie.After-struct-known) → LaidOut (start c .args .bytes .now) (c .before .before .layout .given .0 .0)
+laid c = layout-good _ _ (good c)
+
 enum-told : tie.Need-enum-told
 enum-told c = search needs
 
 returns : tie.Need-returns
 returns c =
     let st = c .before .before .before .before .before .before .before .before .before in
-    refused-left _ _ _ _ _ _ _ (record-bad _ (sym (c .before .before .before .layout-of .ensures) ∙ c .before .enum-told .given .1))
-    (c .refused .ensures) (st .pre)
+    let bad = case-layout _ _ _ (c .before .before .before .layout-of .ensures) (c .before .enum-told .given .1) in
+    refused-left _ _ _ _ _ _ _ (record-bad _ bad) (c .refused .ensures) (st .pre)
 
 mul-to : tie.Need-mul-to
-mul-to c =
-    let good = sym (c .before .before .before .before .layout-of .ensures) ∙ c .before .before .layout .given .1 in
-    let k = layout-good (start c .args .bytes .now) _ good in
-    let known = start c .good .0 in
-    record { fits = omega arith }
+mul-to c = let k = laid c in let known = start c .good .0 in record { fits = omega arith }
 
 add-to : tie.Need-add-to
-add-to c =
-    let good = sym (c .before .before .before .before .layout-of .ensures) ∙ c .before .before .layout .given .1 in
-    let k = layout-good (start c .args .bytes .now) _ good in
-    let known = start c .good .0 in
-    record { fits = omega arith }
+add-to c = let k = laid c in let known = start c .good .0 in record { fits = omega arith }
 
 add-end : tie.Need-add-end
-add-end c =
-    let e = c .before in
-    let good = sym (e .before .before .before .before .layout-of .ensures) ∙ e .before .before .layout .given .1 in
-    let k = layout-good (start e .args .bytes .now) _ good in
-    let known = start e .good .0 in
-    record { fits = omega arith }
+add-end c = let k = laid (c .before) in let known = start (c .before) .good .0 in record { fits = omega arith }
 
 part-graphed-end : tie.Need-part-graphed-end
-part-graphed-end c =
-    let e = c .before in
-    let good = sym (e .before .before .before .before .layout-of .ensures) ∙ e .before .before .layout .given .1 in
-    let k = layout-good (start e .args .bytes .now) _ good in
-    omega arith
+part-graphed-end c = let k = laid (c .before) in omega arith
 
 part-graphed-end-2 : tie.Need-part-graphed-end-2
-part-graphed-end-2 c =
-    let e = c .before .before in
-    let good = sym (e .before .before .before .before .layout-of .ensures) ∙ e .before .before .layout .given .1 in
-    let k = layout-good (start e .args .bytes .now) _ good in
-    omega arith
+part-graphed-end-2 c = let k = laid (c .before .before) in omega arith
 
 graphed-requires : tie.Need-graphed-requires
 graphed-requires c κs = cleared-length 0 _ 128 (start (c .before .before .before .before .before .before .before) .pre)
@@ -63,8 +52,7 @@ returns-2 : tie.Need-returns-2
 returns-2 c =
     let called = c .before .before .before .before .before .before .before .before in
     let e = called .before .before .before .before .before .before .before .before in
-    let good = sym (e .before .before .before .before .layout-of .ensures) ∙ e .before .before .layout .given .1 in
-    record-left (start e .args .bytes .now) _ good _ _ _ _ _ _ _ (called .graphed .ensures)
+    record-left _ _ (good e) _ _ _ _ _ _ _ (called .graphed .ensures)
 
 pub recorded-spec : {M : Type 1} → statement M
 recorded-spec =

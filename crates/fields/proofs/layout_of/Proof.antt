@@ -1,7 +1,7 @@
 use Rattle.counting.proofs.Prelude.{_≡_, sym, ap, _∙_, ℕ, _+_, arith, getD, eq-eqb, ne-eqb, le-leb, lt-leb, needs}
 use Rattle.specification.specs.declared.Field.the-variants.{Found}
 use Rattle.specification.specs.declared.Layout.the-variants.{Bad}
-use Rattle.specification.specs.Layout.{fieldAt, withEdges, withVertices, layoutOf}
+use Rattle.specification.specs.Layout.{fieldAt, withEdges, withVertices, layoutOf, layoutAnswer}
 use Rattle.specification.proofs.Placing.{Inside, found-inside}
 use Rattle.fields.proofs.layout_of.Statement.{statement}
 use Rattle.fields.proofs.layout_of.Tie as tie
@@ -27,7 +27,7 @@ unfolding layoutOf withVertices
 returns-2 c =
     let b = c .before .before .before .before .before .args .b .now in
     let short : layoutOf b ≡ withVertices b (fieldAt 1 b 0) = simp (le-leb _ _ (c .before .before .before .if1 .left)) in
-    sym (short ∙ ap (withVertices b) (sym (c .before .before .field-at .ensures) ∙ c .enum-told .given .1))
+    ap layoutAnswer (sym (short ∙ ap (withVertices b) (sym (c .before .before .field-at .ensures) ∙ c .enum-told .given .1)))
 
 returns-3 : tie.Need-returns-3
 unfolding layoutOf withVertices
@@ -36,7 +36,7 @@ returns-3 c =
     let short : layoutOf b ≡ withVertices b (fieldAt 1 b 0) = simp (le-leb _ _ (c .before .before .before .before .before .if1 .left)) in
     let f = c .before .before .field .given in
     let bad : Bad ≡ withVertices b (Found (f .0 .0) (f .0 .1 .0)) = simp (ne-eqb _ _ (c .if2 .taken)) in
-    bad ∙ sym (short ∙ ap (withVertices b) (found (c .before)))
+    ap layoutAnswer (bad ∙ sym (short ∙ ap (withVertices b) (found (c .before))))
 
 shared-slice-read-wide : tie.Need-shared-slice-read-wide
 shared-slice-read-wide c = omega (arith, inside (c .before .before) .ends)
@@ -58,7 +58,7 @@ returns-4 c =
     let read : c .with-edges .result ≡ withEdges b (getD b start 0) (fieldAt 2 b (start + size)) =
     c .with-edges .ensures ∙ ap (λ (n : ℕ). withEdges b n (fieldAt 2 b (start + size))) (c .before .wide .ensures .0) in
     let here : c .with-edges .result ≡ withVertices b (Found start size) = simp (eq-eqb _ _ (c .before .before .before .if2 .left)) read in
-    here ∙ sym (short ∙ ap (withVertices b) (found (c .before .before .before .before)))
+    ap layoutAnswer (here ∙ sym (short ∙ ap (withVertices b) (found (c .before .before .before .before))))
 
 pub layout-of-spec : {M : Type 1} → statement M
 layout-of-spec =

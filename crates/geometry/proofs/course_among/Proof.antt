@@ -1,7 +1,8 @@
 -- `geometry::course_among` meets its contract. Assumes nothing.
-use Rattle.counting.proofs.Prelude.{sym, _∙_, arith, eqb, needs}
+use Rattle.counting.proofs.Prelude.{sym, ap, _∙_, arith, eqb, needs}
 use Rattle.masks.specs.Pairs.{inPair}
 use Rattle.specification.specs.Geometry.{BlockedAmong}
+use Rattle.specification.specs.Numbers.{courseCode}
 use Rattle.geometry.specs.Segment.{pointOf, vertexCount}
 use Rattle.geometry.proofs.Segments.{hit-rise}
 use Rattle.geometry.proofs.Among.{among-blocked, among-free}
@@ -19,10 +20,10 @@ sub-bend-beside : tie.Need-sub-bend-beside
 sub-bend-beside c = omega (arith, hit-rise (known (c .before .before .before) .blocked .hit))
 
 returns : tie.Need-returns
-returns c = c .bend-beside .ensures ∙ sym (among-blocked _ _ _ _ _ (known (c .before .before .before .before)))
+returns c = ap courseCode (c .bend-beside .ensures ∙ sym (among-blocked _ _ _ _ _ (known (c .before .before .before .before))))
 
 returns-2 : tie.Need-returns-2
-returns-2 c = sym (among-free _ _ _ _ _ (c .before .blocked-among .ensures .fails (c .if1 .left)))
+returns-2 c = ap courseCode (sym (among-free _ _ _ _ _ (c .before .blocked-among .ensures .fails (c .if1 .left))))
 
 pub course-among-spec : {M : Type 1} → statement M
 course-among-spec =

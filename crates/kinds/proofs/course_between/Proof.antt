@@ -3,6 +3,7 @@ use Rattle.counting.proofs.Prelude.{sym, ap₂, _∙_, _+_, _≤_, min, max, ar
 use Rattle.counting.specs.Quads.{quad}
 use Rattle.geometry.specs.Segment.{pointOf, vertexCount}
 use Rattle.specification.specs.Geometry.{courseAmong}
+use Rattle.specification.proofs.Cases.{same-course}
 use Rattle.geometry.proofs.Among.{among-low}
 use Rattle.kinds.specs.Kinds.{candidate?}
 use Rattle.kinds.proofs.Betweens.{course-masked}
@@ -26,7 +27,7 @@ returns-2 c =
     let r = w .before .before .before .before .before .before in
     let s = r .before .before .before .before in
     let a = s .before .before .args in
-    c .course-among .ensures ∙ course-masked (a .below .now) (a .left .now)
+    same-course _ _ (c .course-among .ensures) ∙ course-masked (a .below .now) (a .left .now)
     (λ x. s .before .shared-slice-known .given x .fits) (λ x. s .shared-slice-known2 .given x .fits)
     _ _ _ _ _ _ _ _ _ _
     (w .before .before .wide2 .ensures .0 ∙ r .before .row-at .ensures)

@@ -1,6 +1,6 @@
 use Rattle.counting.proofs.Prelude.{refl, needs}
 use Rattle.script.specs.declared.Command.{Command}
-use Rattle.script.specs.Performing.{Effect}
+use Rattle.script.specs.Performing.{saidOf, Effect}
 use Rattle.script.proofs.Performing.{performs}
 use Rattle.script.proofs.perform.Statement.{statement}
 use Rattle.script.proofs.perform.Tie as tie
@@ -30,7 +30,7 @@ returns-3 c =
     performs (a .s) (a .command) (Command.Leads _ _) _ (c .before .before .before .command3 .given .1) (call .result, call .ensures, refl, c .replied .ensures)
 
 returns-4 : tie.Need-returns-4
-unfolding Effect
+unfolding Effect saidOf
 returns-4 c =
     let a = c .before .before .args in
     performs (a .s) (a .command) Command.Unreadable _ (c .enum-told .given .1) (refl, refl)

@@ -1,12 +1,13 @@
 use Rattle.counting.proofs.Prelude.{_≡_, refl, _≢_, Bool, ℕ, zero, suc}
+use Rattle.specification.specs.Machine.{answerNumber}
 use Rattle.editing.specs.Promise.{replyAnswer}
 use Rattle.script.specs.declared.Outcome.{Outcome}
-use Rattle.script.specs.Performing.{outcomeOf}
+use Rattle.script.specs.Performing.{saying, saidOf}
 use Rattle.script.proofs.replied.Statement.{statement}
 use Rattle.script.proofs.replied.Tie as tie
 
-refused : (k : ℕ) (b : Bool) → k ≢ 0 → Outcome.Refused k ≡ outcomeOf (replyAnswer k b)
-unfolding outcomeOf replyAnswer
+refused : (k : ℕ) (b : Bool) → k ≢ 0 → saidOf (Outcome.Refused k) ≡ saying (replyAnswer k b)
+unfolding saidOf answerNumber replyAnswer
 refused zero b h = absurd (h refl)
 refused (suc k) b h = refl
 
@@ -14,11 +15,11 @@ returns : tie.Need-returns
 returns c = refused _ _ (c .if1 .taken)
 
 returns-2 : tie.Need-returns-2
-unfolding outcomeOf replyAnswer
+unfolding saidOf answerNumber replyAnswer
 returns-2 c = rw (c .before .if1 .left, c .if2 .taken)
 
 returns-3 : tie.Need-returns-3
-unfolding outcomeOf replyAnswer
+unfolding saidOf answerNumber replyAnswer
 returns-3 c = rw (c .before .if1 .left, c .if2 .left)
 
 pub replied-spec : {M : Type 1} → statement M

@@ -1,6 +1,7 @@
-use Rattle.counting.proofs.Prelude.{_≡_, refl, sym, _∙_, arith, needs}
+use Rattle.counting.proofs.Prelude.{_≡_, refl, arith, needs}
 use Rattle.specification.specs.declared.Layout.the-variants.{Good}
 use Rattle.specification.specs.Layout.{layoutOf}
+use Rattle.specification.proofs.Cases.{case-layout}
 use Rattle.fields.proofs.Standing.{LaidOut, layout-good}
 use Rattle.record.proofs.Readings.{bad-refusal, unread-reads}
 use Rattle.record.proofs.Handing.{read-refused, read-passed}
@@ -9,7 +10,7 @@ use Rattle.record.proofs.reading.read.Tie as tie
 
 -- the fields that were found stand as they must
 good : (c : tie.After-layout) → layoutOf (c .before .before .before .before .args .b .now) ≡ Good (c .layout .given .0 .0)
-good c = sym (c .before .before .layout-of .ensures) ∙ c .layout .given .1
+good c = case-layout _ _ _ (c .before .before .layout-of .ensures) (c .layout .given .1)
 
 laid : (c : tie.After-layout) → LaidOut (c .before .before .before .before .args .b .now) (c .layout .given .0 .0)
 laid c = layout-good _ _ (good c)
@@ -20,7 +21,8 @@ enum-told c = search needs
 returns : tie.Need-returns
 returns c =
     let st = c .before .before .before in
-    unread-reads (st .before .before .args .b .now) 1 _ (bad-refusal _ (sym (st .layout-of .ensures) ∙ c .before .enum-told .given .1)) (λ z. absurd (omega arith)) (c .unread .ensures)
+    let bad = case-layout _ _ _ (st .layout-of .ensures) (c .before .enum-told .given .1) in
+    unread-reads (st .before .before .args .b .now) 1 _ (bad-refusal _ bad) (λ z. absurd (omega arith)) (c .unread .ensures)
 
 mul-to : tie.Need-mul-to
 mul-to c = omega (arith, laid (c .before .before) .edges)

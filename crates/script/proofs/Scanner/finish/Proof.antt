@@ -1,6 +1,6 @@
 use Rattle.counting.proofs.Prelude.{sym, ap, _∙_, needs}
 use Rattle.script.specs.declared.Numeral.{Numeral}
-use Rattle.script.specs.Scanning.{withNumber, finishedOne, finished}
+use Rattle.script.specs.Scanning.{orderOf, withNumber, finishedOne, finished}
 use Rattle.script.proofs.Scanner.finish.Statement.{statement}
 use Rattle.script.proofs.Scanner.finish.Tie as tie
 
@@ -8,15 +8,15 @@ enum-told : tie.Need-enum-told
 enum-told c = search needs
 
 returns : tie.Need-returns
-unfolding finished
+unfolding orderOf finished
 returns c = rw (c .enum-told .given .1)
 
 returns-2 : tie.Need-returns-2
-unfolding finished
+unfolding orderOf finished
 returns-2 c = c .finish-one .ensures ∙ sym (ap (λ (n : Numeral). withNumber n (finishedOne (c .before .before .before .before .args .self))) (c .before .before .first .given .1))
 
 returns-3 : tie.Need-returns-3
-unfolding finished
+unfolding orderOf finished
 returns-3 c = rw (c .enum-told2 .given .1)
 
 pub finish-spec : {M : Type 1} → statement M

@@ -1,37 +1,37 @@
 use Rattle.counting.proofs.Prelude.{sym, ap, _∙_, eq-eqb, ne-eqb, needs}
 use Rattle.script.specs.declared.Numeral.{Numeral}
-use Rattle.script.specs.Scanning.{withNumber, finishedTwo, finishedOne}
+use Rattle.script.specs.Scanning.{orderOf, withNumber, finishedTwo, finishedOne}
 use Rattle.script.proofs.Scanner.finish_one.Statement.{statement}
 use Rattle.script.proofs.Scanner.finish_one.Tie as tie
 
 returns : tie.Need-returns
-unfolding finishedOne
+unfolding orderOf finishedOne
 returns c = rw (eq-eqb _ _ (c .before .before .if1 .taken), eq-eqb _ _ (c .if2 .taken))
 
 returns-2 : tie.Need-returns-2
-unfolding finishedOne
+unfolding orderOf finishedOne
 returns-2 c = rw (eq-eqb _ _ (c .before .before .if1 .taken), ne-eqb _ _ (c .if2 .left))
 
 returns-3 : tie.Need-returns-3
-unfolding finishedOne
+unfolding orderOf finishedOne
 returns-3 c = rw (ne-eqb _ _ (c .before .before .if1 .left), ne-eqb _ _ (c .if3 .taken))
 
 enum-told : tie.Need-enum-told
 enum-told c = search needs
 
 returns-4 : tie.Need-returns-4
-unfolding finishedOne
+unfolding orderOf finishedOne
 returns-4 c = rw (ne-eqb _ _ (c .before .before .before .before .if1 .left), eq-eqb _ _ (c .before .before .if3 .left), c .enum-told .given .1)
 
 returns-5 : tie.Need-returns-5
-unfolding finishedOne
+unfolding orderOf finishedOne
 returns-5 c =
     let a = c .before .before .before .before .before .before .before .before .args in
     rw (ne-eqb _ _ (c .before .before .before .before .before .before .if1 .left), eq-eqb _ _ (c .before .before .before .before .if3 .left))
     (c .finish-two .ensures ∙ sym (ap (λ (n : Numeral). withNumber n (finishedTwo (a .self) (a .u))) (c .before .before .second .given .1)))
 
 returns-6 : tie.Need-returns-6
-unfolding finishedOne
+unfolding orderOf finishedOne
 returns-6 c = rw (ne-eqb _ _ (c .before .before .before .before .if1 .left), eq-eqb _ _ (c .before .before .if3 .left), c .enum-told2 .given .1)
 
 pub finish-one-spec : {M : Type 1} → statement M

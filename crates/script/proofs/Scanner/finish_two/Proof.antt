@@ -1,18 +1,18 @@
 use borrow.Author.Tests.{eq-eqb, ne-eqb}
-use Rattle.script.specs.Scanning.{finishedTwo}
+use Rattle.script.specs.Scanning.{orderOf, finishedTwo}
 use Rattle.script.proofs.Scanner.finish_two.Statement.{statement}
 use Rattle.script.proofs.Scanner.finish_two.Tie as tie
 
 returns : tie.Need-returns
-unfolding finishedTwo
+unfolding orderOf finishedTwo
 returns c = rw (eq-eqb _ _ (c .if1 .taken))
 
 returns-2 : tie.Need-returns-2
-unfolding finishedTwo
+unfolding orderOf finishedTwo
 returns-2 c = rw (ne-eqb _ _ (c .before .before .if1 .left), eq-eqb _ _ (c .if2 .taken))
 
 returns-3 : tie.Need-returns-3
-unfolding finishedTwo
+unfolding orderOf finishedTwo
 returns-3 c = rw (ne-eqb _ _ (c .before .before .if1 .left), ne-eqb _ _ (c .if2 .left))
 
 pub finish-two-spec : {M : Type 1} → statement M
