@@ -1,22 +1,24 @@
 -- The number that is answered is that of the first check that fails. Assumes nothing.
-use Rattle.counting.proofs.Prelude.{_≡_, refl, sym, ap, _∙_, subst, _↔_, _⊎_, inl, inr, ⊎-elim, Bool, true, false, true≢false, false≢true, _||_, List, ℕ, _<_, arith}
+use Rattle.counting.proofs.Prelude.{_≡_, refl, sym, ap, _∙_, subst, _↔_, _≢_, _⊎_, inl, inr, ⊎-elim, Bool, true, false, true≢false, false≢true, _||_, List, ℕ, _≤_, _<_, arith}
 use Rattle.counting.proofs.Truth.{true-or-false, or-neither}
 use Rattle.specification.specs.Count.{choose}
+use Rattle.specification.specs.Limits.{mostVertices, mostEdges, mostBundles}
 use Rattle.specification.specs.Layout.{layoutOf}
 use Rattle.specification.specs.declared.Fields.{Fields}
 use Rattle.specification.specs.declared.Layout.{Layout}
 use Rattle.specification.specs.declared.Layout.the-variants.{Good, Bad}
-use Rattle.specification.specs.Checks.{Content, size?, stranger?, double?, ring?, repeated?, lacking?, unled?, looseChecks, laterChecks, firstOf, refusalOf, contentOf, refusalIn, recordRefusal, said, Sound, SoundRecord}
+use Rattle.specification.specs.Checks.{Content, size?, stranger?, double?, ring?, repeated?, lacking?, unled?, looseChecks, laterChecks, firstOf, refusalOf, contentOf, refusalIn, recordRefusal, said, Sized, Distinct, Acyclic, Once, Led, Sound, SoundRecord}
 use Rattle.specification.specs.Drawn.{Drawn, recordDrawn, short?}
 use Rattle.specification.specs.declared.ChartCounts.{ChartCounts}
 use Rattle.record.proofs.Soundness.{size-says, stranger-says, double-says, ring-says, cover-says, led-says, record-sound}
+use Rattle.chart_laws.proofs.Bundling.{bundles-256}
 use Rattle.chart_plan.proofs.Refusals.{lent-eight, record-sound as record-quiet}
 use Rattle.chart_plan.proofs.Shortage.{lent-short, lent-whole}
 use Rattle.demands.specs.Demands.{Entries, Roomy}
-use Rattle.demands.specs.Refusals.{Sized, Known, Distinct, Acyclic, Once, Led, Fails, Answered}
+use Rattle.demands.specs.Refusals.{Known, Fails, Answered}
 use Rattle.demands.specs.Refusals.Fails.{size, stranger, double, ring, cover, broken}
 use Rattle.demands.specs.Refusals.Answered.{accepted, layout, graph, short}
-use Rattle.demands.proofs.Accepting.{Handed, roomy, roomy-enough, said-accepted}
+use Rattle.demands.proofs.Accepting.{Handed, roomy, roomy-enough, said-accepted, said-fields}
 
 -- ---- a test that says P where it is false
 
@@ -134,3 +136,29 @@ module _ (v e k : ℕ) (b : List ℕ) (r : ChartCounts) (n : Entries) (h : Hande
 
   pub said-answered : (i : ℕ) → (r .refusal ≡ i) ↔ Answered b room i
   said-answered i = ((λ p. let w = found in subst (Answered b room) (sym (number (w .1)) ∙ p) (w .1)), number)
+
+-- ---- lists for the most vertices, edges and bundles have room for every chart
+
+most-room : (c : Content) → Sound c → Roomy c mostVertices mostEdges mostBundles
+most-room c s = record { vertices = s .size .1; edges = s .size .2; bundles = bundles-256 c s }
+
+below-eight : {c : Content} {k : ℕ} → Fails c k → k < 8
+below-eight (size n) = omega arith
+below-eight (stranger z n) = omega arith
+below-eight (double z k n) = omega arith
+below-eight (ring z k d n) = omega arith
+below-eight (cover z k d a n) = omega arith
+below-eight (broken z k d a o n) = omega arith
+
+pub never-short : (b : List ℕ) (v e k : ℕ) → mostVertices ≤ v → mostEdges ≤ e → mostBundles ≤ k
+    → {i : ℕ} → Answered b (Roomy (said b) v e k) i → i ≢ 8
+never-short b v e k hv he hk (accepted s m) = λ p. omega arith
+never-short b v e k hv he hk (layout ne) = λ p. omega arith
+never-short b v e k hv he hk (graph f p q) = λ p. let l = below-eight q in omega arith
+never-short b v e k hv he hk (short s ne) =
+    let m = most-room (said b) (subst Sound (sym (said-fields b s)) (s .2)) in
+    λ p. ne (record {
+      vertices = omega (arith, m .vertices);
+      edges = omega (arith, m .edges);
+      bundles = omega (arith, m .bundles);
+    })

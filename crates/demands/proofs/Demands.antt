@@ -1,8 +1,8 @@
 -- THE DEMANDS, proved of the chart that the definitions give of every sound graph, and of what every call leaves. Of a call nothing is
 -- asked but its promise. The statements are in specs/Demands.antt and specs/Refusals.antt, and in specification's specs/Lawful.antt.
 -- Assumes nothing.
-use Rattle.counting.proofs.Prelude.{_≡_, _↔_, Bool, List, ℕ, _/_, length}
-use Rattle.specification.specs.Checks.{Content, Sound, SoundRecord, contentOf, said}
+use Rattle.counting.proofs.Prelude.{_≡_, refl, _≢_, _↔_, Bool, List, ℕ, _/_, arith, length}
+use Rattle.specification.specs.Checks.{Content, Sized, Distinct, Acyclic, Once, Led, Sound, SoundRecord, contentOf, said}
 use Rattle.specification.specs.Chart.{channelsOf, planOf, rowCount, reducedEdges, tracksIn}
 use Rattle.specification.specs.declared.VertexEntry.{VertexEntry}
 use Rattle.specification.specs.declared.EdgeEntry.{EdgeEntry}
@@ -13,15 +13,15 @@ use Rattle.chart_entries.specs.Promise.{HandedOver}
 use Rattle.chart_entries.proofs.Refusals.{refused-untouched, Refused}
 use Rattle.chart_numbers.specs.Chart.{HandedFlat}
 use Rattle.ceviloneth.proofs.Refusing as flat
-use Rattle.demands.specs.Demands.{Entries, entriesIn, entriesOf, oursOf, seen, Faithful, Roomy, Smallest, Counted, Carried}
+use Rattle.demands.specs.Demands.{Entries, entriesIn, entriesOf, oursOf, seen, Faithful, Roomy, Ample, Smallest, Counted, Carried}
 use Rattle.demands.specs.Numbers.{entriesFrom}
-use Rattle.demands.specs.Refusals.{Sized, Known, Distinct, Acyclic, Once, Led, Answered}
+use Rattle.demands.specs.Refusals.{Known, Answered}
 use Rattle.demands.proofs.Agreeing.{defined-shown, ours-agrees}
 use Rattle.demands.proofs.Least.{agreed-smallest, agreed-counted}
 use Rattle.demands.proofs.Showing.{shown-faithful}
 use Rattle.demands.proofs.Accepting.{said-fields, said-accepted, said-clear, said-least, graph-accepted, graph-clear, graph-least}
 use Rattle.demands.proofs.Handing.{handed-lists, handed-numbers}
-use Rattle.demands.proofs.Answering.{sound-parts, said-answered}
+use Rattle.demands.proofs.Answering.{sound-parts, said-answered, never-short}
 use Rattle.specification.specs.declared.ChartCounts.{ChartCounts}
 
 -- ---- the chart of a sound graph
@@ -106,6 +106,12 @@ module _ (b ws ws′ es es′ bs bs′ : List ℕ) (r : ChartCounts) (h : Handed
   -- and every number is answered exactly where its check is the first that fails (13.1)
   pub exported-answered-exactly : (k : ℕ) → (r .refusal ≡ k) ↔ Answered b room k
   exported-answered-exactly = said-answered _ _ _ b r read (handed-numbers b ws ws′ es es′ bs bs′ r h)
+
+  -- lists of the lengths that the header names hold every chart: 8 is not answered
+  pub exported-never-short : Ample ws es bs → r .refusal ≢ 8
+  exported-never-short m p =
+      never-short b _ _ _ (omega (arith, m .words)) (omega (arith, m .arrows)) (omega (arith, m .bundles))
+      (exported-answered-exactly 8 .0 p) refl
 
   -- a refusal changes no list, and every count is 0 then (9.3)
   pub exported-refused : (r .refusal ≡ 0 → ⊥) → flat.Refused ws es bs r ws′ es′ bs′

@@ -105,6 +105,12 @@ pub record Roomy (c : Content) (v e b : ℕ) : Type 0 where
   pub edges : edgesOf c ≤ e
   pub bundles : length (planOf c .bundles) ≤ b
 
+-- lists of numbers as long as the header names (CEVILONETH_WORDS, CEVILONETH_ARROWS, CEVILONETH_BUNDLES)
+pub record Ample (ws es bs : List ℕ) : Type 0 where
+  pub words : 640 ≤ length ws
+  pub arrows : 20480 ≤ length es
+  pub bundles : 1024 ≤ length bs
+
 -- ---- no lawful chart is smaller
 
 pub record Smallest (c : Content) (x : Chart) : Type 0 where

@@ -1,17 +1,19 @@
--- A record of 128 vertices and 4,096 edges passes every check. Assumes nothing.
-use Rattle.counting.proofs.Prelude.{_≡_, refl, ap, _∙_, true, false, _&&_, List, _∷_, ℕ, zero, suc, _+_, _*_, _/_, _%_, _≤_, _<_, arith, eqb, leb, length, getD, take, drop, eqb-true, lt-leb}
+-- A record of 128 vertices and 4,096 edges passes every check, and one with a vertex or an edge more does not. Assumes nothing.
+use Rattle.counting.proofs.Prelude.{_≡_, refl, ap, _∙_, true, false, _&&_, List, [], _∷_, ℕ, zero, suc, _+_, _*_, _/_, _%_, _≤_, _<_, arith, eqb, leb, length, getD, take, drop, eqb-true, lt-leb}
 use lib.Seq.{take-length}
 use Rattle.specification.specs.Count.{some}
 use Rattle.specification.specs.Graph.{Reaches, one, more, edgeCount, Edge, outsized?, strange?, reachable?, alternate, tailsOf, headsOf, alike?, duplicate?, unsized?}
 use Rattle.specification.specs.declared.Fields.{Fields}
 use Rattle.specification.specs.declared.Layout.the-variants.{Good}
 use Rattle.specification.specs.Layout.{sizeAt, fieldAt, afterEdges, withEdges, withVertices, layoutOf}
-use Rattle.specification.specs.Checks.{edgesOf, size?, stranger?, double?, ring?, repeated?, lacking?, unled?, looseChecks, laterChecks, firstOf, refusalOf, contentOf, recordRefusal, said}
+use Rattle.specification.specs.Checks.{content, edgesOf, size?, stranger?, double?, ring?, repeated?, lacking?, unled?, looseChecks, laterChecks, firstOf, refusalOf, contentOf, recordRefusal, said}
 use Rattle.counting.proofs.Somes.{some-none}
 use Rattle.counting.proofs.Truth.{and-elim}
 use Rattle.counting.proofs.Falsity.{not-true, neither}
 use Rattle.reach.proofs.Decide.{reachable-decided}
-use Rattle.proof_table.specs.Table.{values, pairs, fullTail, fullHead, full, fullRecord}
+use Rattle.specification.specs.Table.{Refused}
+use Rattle.specification.proofs.Table.{table}
+use Rattle.proof_table.specs.Table.{values, pairs, fullTail, fullHead, full, recordWith, recordWithOneMore}
 
 -- ---- its lists
 
@@ -119,31 +121,64 @@ accepted : refusalOf full ≡ 0
 unfolding refusalOf firstOf looseChecks laterChecks repeated? lacking? unled? full
 accepted = rw (size, stranger, double, ring)
 
--- ---- the record
+-- ---- the records
 
-abbrev fields : Fields
-fields = record { vertices = 128; edges = 7; count = 4096; given = false; lines = 0; size = 0 }
+abbrev bytes : List ℕ
+bytes = pairs fullTail fullHead 4096 0
 
-laid-out-with : (s : List ℕ) → length s ≡ 8192 → layoutOf (1 ∷ 0 ∷ 1 ∷ 128 ∷ 2 ∷ 32 ∷ 0 ∷ s) ≡ Good fields
+-- 4,096 edges of n vertices, whatever n is
+abbrev fields : ℕ → Fields
+fields n = record { vertices = n; edges = 7; count = 4096; given = false; lines = 0; size = 0 }
+
+laid-out-with : (n : ℕ) (s : List ℕ) → length s ≡ 8192 → layoutOf (1 ∷ 0 ∷ 1 ∷ n ∷ 2 ∷ 32 ∷ 0 ∷ s) ≡ Good (fields n)
 unfolding layoutOf withVertices withEdges afterEdges fieldAt sizeAt
-laid-out-with s h = simp h
+laid-out-with n s h = simp h
 
-laid-out : layoutOf fullRecord ≡ Good fields
-unfolding fullRecord
-laid-out = laid-out-with (pairs fullTail fullHead 4096 0) (pairs-long fullTail fullHead 4096 0)
+laid-out : (n : ℕ) → layoutOf (recordWith n) ≡ Good (fields n)
+unfolding recordWith
+laid-out n = laid-out-with n bytes (pairs-long fullTail fullHead 4096 0)
 
-says : contentOf fullRecord fields ≡ full
-unfolding contentOf tailsOf headsOf fullRecord full
-says = rw (pairs-whole fullTail fullHead 4096 0, pairs-tails fullTail fullHead 4096 0, pairs-heads fullTail fullHead 4096 0)
+says : (n : ℕ) → contentOf (recordWith n) (fields n) ≡ content n tails heads false []
+unfolding contentOf tailsOf headsOf recordWith
+says n = rw (pairs-whole fullTail fullHead 4096 0, pairs-tails fullTail fullHead 4096 0, pairs-heads fullTail fullHead 4096 0)
 
 pub full-edges : edgesOf full ≡ 4096
 unfolding full
 full-edges = edges
 
-pub full-passes : recordRefusal fullRecord ≡ 0
-unfolding recordRefusal
-full-passes = rw (laid-out, says) accepted
+pub full-passes : recordRefusal (recordWith 128) ≡ 0
+unfolding recordRefusal full
+full-passes = rw (laid-out 128, says 128) accepted
 
-pub full-said : said fullRecord ≡ full
-unfolding said
-full-said = rw (full-passes, laid-out) says
+pub full-said : said (recordWith 128) ≡ full
+unfolding said full
+full-said = rw (full-passes, laid-out 128) (says 128)
+
+-- ---- one more
+
+-- the fields stand as they must, and what they say is too large
+refused-size : (b : List ℕ) (f : Fields) → layoutOf b ≡ Good f → refusalOf (contentOf b f) ≡ 2 → Refused b 2
+unfolding recordRefusal said
+refused-size b f l r = (rw l r, rw (l, r))
+
+pub more-words : Refused (recordWith 129) 2
+more-words = refused-size (recordWith 129) (fields 129) (laid-out 129) (rw (says 129) (table .more-words _ refl))
+
+abbrev fieldsMore : Fields
+fieldsMore = record { vertices = 128; edges = 7; count = 4097; given = false; lines = 0; size = 0 }
+
+laid-out-more : (s : List ℕ) → length s ≡ 8194 → layoutOf (1 ∷ 0 ∷ 1 ∷ 128 ∷ 2 ∷ 32 ∷ 2 ∷ s) ≡ Good fieldsMore
+unfolding layoutOf withVertices withEdges afterEdges fieldAt sizeAt
+laid-out-more s h = simp h
+
+-- two bytes and 4,096 edges are 4,097
+one-more : edgesOf (contentOf recordWithOneMore fieldsMore) ≡ 4097
+unfolding contentOf tailsOf headsOf recordWithOneMore alternate
+one-more =
+    rw (pairs-whole fullTail fullHead 4096 0, pairs-tails fullTail fullHead 4096 0, after-one fullTail fullHead 1 4096 0)
+    (rw (values-long fullTail 4096 0, values-long fullHead 4096 0))
+
+pub more-arrows : Refused recordWithOneMore 2
+unfolding recordWithOneMore
+more-arrows = refused-size recordWithOneMore fieldsMore (laid-out-more (0 ∷ 1 ∷ bytes) (ap (λ k. suc (suc k)) (pairs-long fullTail fullHead 4096 0)))
+    (table .more-arrows _ one-more)

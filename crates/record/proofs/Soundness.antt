@@ -3,7 +3,7 @@ use Rattle.counting.proofs.Prelude.{_≡_, refl, sym, ap, _∙_, subst, _↔_, 
 use Rattle.specification.specs.Count.{choose, some}
 use Rattle.specification.specs.Channels.{times, linked, every, allLinked, linesOf, verticesOf, unknown?, repeats?, lacks?, broken?}
 use Rattle.specification.specs.Graph.{Edge, outsized?, strange?, verdict, refusal, reachable?, alike?, duplicate?}
-use Rattle.specification.specs.Checks.{Content, edgesOf, size?, stranger?, double?, ring?, repeated?, lacking?, unled?, looseChecks, laterChecks, firstOf, refusalOf, contentOf, refusalIn, recordRefusal, Leads, givenLine, Sound, SoundRecord}
+use Rattle.specification.specs.Checks.{Content, edgesOf, size?, stranger?, double?, ring?, repeated?, lacking?, unled?, looseChecks, laterChecks, firstOf, refusalOf, contentOf, refusalIn, recordRefusal, Sized, EndsKnown, GivenKnown, Distinct, Acyclic, Once, Led, Sound, SoundRecord}
 use Rattle.specification.specs.declared.Layout.{Layout}
 use Rattle.specification.specs.declared.Layout.the-variants.{Good, Bad}
 use Rattle.specification.specs.Layout.{layoutOf}
@@ -85,27 +85,24 @@ module _ (n m : ℕ) (tails heads : List ℕ) where
   unfolding strange?
   known-ends h = some-none m (strange? n tails heads) (λ i l. neither _ _ (lt-leb n _ (h i l .0)) (lt-leb n _ (h i l .1)))
 
-module _ (m : ℕ) (tails heads : List ℕ) where
-  abbrev Distinct : Type 0
-  Distinct = (i j : ℕ) → i < m → j < m → getD tails i 0 ≡ getD tails j 0 → getD heads i 0 ≡ getD heads j 0 → i ≡ j
-
-  none-before : duplicate? m tails heads ≡ false → (i j : ℕ) → i < m → j < i → getD tails j 0 ≡ getD tails i 0 → getD heads j 0 ≡ getD heads i 0 → ⊥
-  unfolding duplicate? alike?
+module _ (c : Content) where
+  none-before : double? c ≡ false → (i j : ℕ) → i < edgesOf c → j < i → getD (c .tails) j 0 ≡ getD (c .tails) i 0 → getD (c .heads) j 0 ≡ getD (c .heads) i 0 → ⊥
+  unfolding double? duplicate? alike?
   none-before e i j l k p q =
-      true≢false (sym (and-intro _ _ (eq-eqb _ _ p) (eq-eqb _ _ q)) ∙ none-found i (alike? tails heads i) (none-found m (λ i. some i (alike? tails heads i)) e i l) j k)
+      true≢false (sym (and-intro _ _ (eq-eqb _ _ p) (eq-eqb _ _ q)) ∙ none-found i (alike? (c .tails) (c .heads) i) (none-found (edgesOf c) (λ i. some i (alike? (c .tails) (c .heads) i)) e i l) j k)
 
-  no-double : duplicate? m tails heads ≡ false → Distinct
+  no-double : double? c ≡ false → Distinct c
   no-double e i j l k p q =
       ⊎-elim
       (λ h. absurd (none-before e j i k h p q))
       (λ h. ⊎-elim (λ o. absurd (none-before e i j l o (sym p) (sym q))) (λ o. omega arith) (lt-or-le j i))
       (lt-or-le i j)
 
-  distinct-no-double : Distinct → duplicate? m tails heads ≡ false
-  unfolding duplicate? alike?
+  distinct-no-double : Distinct c → double? c ≡ false
+  unfolding double? duplicate? alike?
   distinct-no-double d =
-      some-none m (λ i. some i (alike? tails heads i)) (λ i l. some-none i (alike? tails heads i) (λ j k. not-true (alike? tails heads i j) (λ t.
-      let p = and-elim (eqb (getD tails j 0) (getD tails i 0)) (eqb (getD heads j 0) (getD heads i 0)) t in
+      some-none (edgesOf c) (λ i. some i (alike? (c .tails) (c .heads) i)) (λ i l. some-none i (alike? (c .tails) (c .heads) i) (λ j k. not-true (alike? (c .tails) (c .heads) i j) (λ t.
+      let p = and-elim (eqb (getD (c .tails) j 0) (getD (c .tails) i 0)) (eqb (getD (c .heads) j 0) (getD (c .heads) i 0)) t in
       let z = d j i (omega arith) l (eqb-true _ _ (p .0)) (eqb-true _ _ (p .1)) in
       omega arith)))
 
@@ -155,19 +152,11 @@ module _ (c : Content) where
   abbrev vs : List ℕ
   vs = verticesOf (c .field)
 
-  abbrev Sized : Type 0
-  Sized = (0 < n) × (n ≤ 128) × (m ≤ 4096)
-
-  abbrev Known : Type 0
-  Known =
-      ((i : ℕ) → i < m → (getD (c .tails) i 0 < n) × (getD (c .heads) i 0 < n))
-      × (c .given ≡ true → (v : ℕ) → n ≤ v → times v vs ≡ 0)
-
-  pub size-says : (size? c ≡ false) ↔ Sized
+  pub size-says : (size? c ≡ false) ↔ Sized c
   unfolding size?
   size-says = (outsized-back n m, of-size n m)
 
-  pub stranger-says : (stranger? c ≡ false) ↔ Known
+  pub stranger-says : (stranger? c ≡ false) ↔ (EndsKnown c × GivenKnown c)
   unfolding stranger?
   stranger-says = (
     (λ e.
@@ -178,16 +167,15 @@ module _ (c : Content) where
     λ k. neither _ _ (known-ends n m (c .tails) (c .heads) (k .0)) (passes-given (c .given) _ (λ g. within-unknown n vs (k .1 g))),
   )
 
-  pub double-says : (double? c ≡ false) ↔ Distinct m (c .tails) (c .heads)
-  unfolding double?
-  double-says = (no-double m (c .tails) (c .heads), distinct-no-double m (c .tails) (c .heads))
+  pub double-says : (double? c ≡ false) ↔ Distinct c
+  double-says = (no-double c, distinct-no-double c)
 
   -- size and known ends are all that the reachability layer asks
   graph-accepted : outsized? n m ≡ false → some m (strange? n (c .tails) (c .heads)) ≡ false → refusal n (c .tails) (c .heads) ≡ 0
   unfolding refusal verdict
   graph-accepted o s = rw (o, s) refl
 
-  module _ (z : Sized) (k : Known) where
+  module _ (z : Sized c) (k : EndsKnown c × GivenKnown c) where
     taken : refusal n (c .tails) (c .heads) ≡ 0
     taken = graph-accepted (of-size n m z) (known-ends n m (c .tails) (c .heads) (k .0))
 
@@ -195,7 +183,7 @@ module _ (c : Content) where
     unfolding Edge
     tails-known u v e = subst (λ x. x < n) (e .2) (k .0 (e .0) (e .1) .0)
 
-    pub ring-says : (ring? c ≡ false) ↔ ((u : ℕ) → Leads c u u → ⊥)
+    pub ring-says : (ring? c ≡ false) ↔ Acyclic c
     unfolding ring?
     ring-says = (
       (λ e u r.
@@ -206,7 +194,7 @@ module _ (c : Content) where
       λ a. some-none 128 (λ u. reach u u) (λ u l. not-true _ (λ e. a u (reachable-decided n (c .tails) (c .heads) u u .1 e .1))),
     )
 
-    pub cover-says : ((repeated? c || lacking? c) ≡ false) ↔ (c .given ≡ true → (v : ℕ) → v < n → times v vs ≡ 1)
+    pub cover-says : ((repeated? c || lacking? c) ≡ false) ↔ Once c
     unfolding repeated? lacking?
     cover-says = (
       (λ e g v l.
@@ -219,9 +207,7 @@ module _ (c : Content) where
           (passes-given (c .given) _ (λ g. has-lacks n vs (λ v l. times-has v vs (omega (arith, o g v l))))),
     )
 
-    pub led-says : (unled? c ≡ false)
-        ↔ (c .given ≡ true → (i j : ℕ) → suc j < length (givenLine c i)
-        → Leads c (getD (givenLine c i) j 0) (getD (givenLine c i) (suc j) 0))
+    pub led-says : (unled? c ≡ false) ↔ Led c
     unfolding unled? broken?
     led-says = (
       (λ e g i j h.
@@ -254,7 +240,7 @@ module _ (c : Content) where
 
   pub sound-accepted : Sound c → refusalOf c ≡ 0
   sound-accepted s =
-      let k : Known = (s .ends, s .named) in
+      let k : EndsKnown c × GivenKnown c = (s .ends, s .named) in
       let o = or-neither (repeated? c) (lacking? c) (cover-says (s .size) k .1 (s .once)) in
       passes-accepted c (record {
         size = size-says .1 (s .size);

@@ -110,20 +110,47 @@ Leads c = Reaches (Edge (c .tails) (c .heads))
 abbrev pub givenLine : Content → ℕ → List ℕ
 givenLine c k = getD (linesOf (c .field)) k []
 
+-- ---- what the checks ask of a graph, one by one
+
+-- not 2: a vertex, and no more vertices and edges than the most
+abbrev pub Sized : Content → Type 0
+Sized c = (0 < c .vertices) × (c .vertices ≤ mostVertices) × (edgesOf c ≤ mostEdges)
+
+-- not 3: edges and given channels name vertices alone
+abbrev pub EndsKnown : Content → Type 0
+EndsKnown c = (i : ℕ) → i < edgesOf c → (getD (c .tails) i 0 < c .vertices) × (getD (c .heads) i 0 < c .vertices)
+
+abbrev pub GivenKnown : Content → Type 0
+GivenKnown c = c .given ≡ true → (v : ℕ) → c .vertices ≤ v → times v (verticesOf (c .field)) ≡ 0
+
+-- not 4: two edge numbers with the same ends are one number
+abbrev pub Distinct : Content → Type 0
+Distinct c =
+    (i j : ℕ) → i < edgesOf c → j < edgesOf c
+    → getD (c .tails) i 0 ≡ getD (c .tails) j 0 → getD (c .heads) i 0 ≡ getD (c .heads) j 0 → i ≡ j
+
+-- not 5: no vertex reaches itself
+abbrev pub Acyclic : Content → Type 0
+Acyclic c = (u : ℕ) → Leads c u u → ⊥
+
+-- not 6: each vertex stands in the given channels once
+abbrev pub Once : Content → Type 0
+Once c = c .given ≡ true → (v : ℕ) → v < c .vertices → times v (verticesOf (c .field)) ≡ 1
+
+-- not 7: each vertex of a given channel is reached from the one before
+abbrev pub Led : Content → Type 0
+Led c =
+    c .given ≡ true → (k j : ℕ) → suc j < length (givenLine c k)
+    → Leads c (getD (givenLine c k) j 0) (getD (givenLine c k) (suc j) 0)
+
 pub record Sound (c : Content) : Type 0 where
-  -- not 2: a vertex, and no more vertices and edges than the most
-  pub size : (0 < c .vertices) × (c .vertices ≤ mostVertices) × (edgesOf c ≤ mostEdges)
-  -- not 3: edges and given channels name vertices alone
-  pub ends : (i : ℕ) → i < edgesOf c → (getD (c .tails) i 0 < c .vertices) × (getD (c .heads) i 0 < c .vertices)
-  pub named : c .given ≡ true → (v : ℕ) → c .vertices ≤ v → times v (verticesOf (c .field)) ≡ 0
-  -- not 4: two edge numbers with the same ends are one number
-  pub distinct : (i j : ℕ) → i < edgesOf c → j < edgesOf c → getD (c .tails) i 0 ≡ getD (c .tails) j 0 → getD (c .heads) i 0 ≡ getD (c .heads) j 0 → i ≡ j
-  -- not 5: no vertex reaches itself
-  pub acyclic : (u : ℕ) → Leads c u u → ⊥
-  -- not 6: each vertex stands in the given channels once
-  pub once : c .given ≡ true → (v : ℕ) → v < c .vertices → times v (verticesOf (c .field)) ≡ 1
-  -- not 7: each vertex of a given channel is reached from the one before
-  pub led : c .given ≡ true → (k j : ℕ) → suc j < length (givenLine c k) → Leads c (getD (givenLine c k) j 0) (getD (givenLine c k) (suc j) 0)
+  pub size : Sized c
+  pub ends : EndsKnown c
+  pub named : GivenKnown c
+  pub distinct : Distinct c
+  pub acyclic : Acyclic c
+  pub once : Once c
+  pub led : Led c
 
 -- a record is sound: its fields stand as they must, and what they say is sound
 abbrev pub SoundRecord : List ℕ → Type 0
