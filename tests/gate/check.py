@@ -4,9 +4,16 @@
     check.py listed [ROOT]      every folder under crates/ is in crates.txt
     check.py promises [ROOT]    every public call keeps the rules of a promise
     check.py named [ROOT]       docs/PROMISES.md names files, must-fail edits and names that are there, and every edit
+    check.py sizes [ROOT]       the lengths of lists that the header names are those of the theorem that 8 is not answered
+    check.py lines [ROOT]       no line of a definition or a proof (.antt) has more than 140 characters
+    check.py logs [ROOT]        after rt ci: every must-fail edit was refused by the fact that its comment names
 
 The rules: a public call (`pub fn`, exported ones and methods too; not `pub(crate)`) has no `requires`, has a result, has an `ensures`
 that speaks of the result, and for each `&mut` parameter an `ensures` that speaks of it at exit. Exit status 1 where something is wrong.
+
+An edit has a line `# breaks: FILE, DEFINITION: the fact, in words`: where the prover's first error lies. FILE is without its ending, from
+the crate's folder; in a record the row follows the definition, `table.p2`. Of a function without a proof file the place is `crate::name`
+and the part that is not proved. An error that only follows from one before (`was not admitted`) is passed over.
 """
 import re
 import sys
@@ -14,7 +21,15 @@ from pathlib import Path
 
 CALL = re.compile(r'\bpub\s+(?:extern\s+"C"\s+)?fn\s+(\w+)\s*(?:<[^>]*>)?\s*\(')
 CLAUSE = re.compile(r'\s*(requires|ensures|ghost)\b\s*\w*\s*\{')
+WIDTH = 140
 LENT = re.compile(r"(\w+)\s*:\s*&\s*(?:'\w+\s+)?mut\b")
+
+BREAKS = re.compile(r'^# breaks: (\S+), (\S+): \S', re.M)
+ERROR = re.compile(r'^(\S+)\.(?:antt|rt)(?::(\d+):\d+)?: error: (?:`([^`]+)`: )?(.*)')
+UNPROVED = re.compile(r'^fn (\S+): no proof: .* does not close `([^`]+)`')
+# what the prover says where a proof file does not fit the code, or a name is not there: then no fact was tried
+UNFIT = re.compile(r'has no (field|function|such)|(not in|in no) scope|can(not)? be named|is not (declared|there)|does not define'
+                   r'|no such|no equation of the list has an instance|no occurrence')
 
 
 def without_comments(text):
@@ -115,8 +130,107 @@ def check_named(root):
     return not wrong
 
 
+def row_at(source, definition, line):
+    """`definition`, and the row where the line stands in a record's row: `table.p2`."""
+    row = None
+    for text in reversed(source[:line]):
+        own = re.match(r'\s*(pub )?' + re.escape(definition) + r'(\s|$)', text)
+        found = re.match(r'\s+([^\s(]+) =(\s|$)', text)
+        if found and not row and not own:
+            row = found.group(1)
+        if row and 'record {' in text:
+            return f'{definition}.{row}'
+        if own:
+            break
+    return definition
+
+
+def first_error(log, folder):
+    """Where the first error of a log lies, as a comment names it, and what it says."""
+    for text in log.splitlines():
+        if found := UNPROVED.match(text):
+            return found.groups(), ''
+        found = ERROR.match(text)
+        if found and 'was not admitted' not in found.group(4):
+            file, line, definition, said = found.groups()
+            file = file.removeprefix(f'{folder}/')
+            source = folder / f'{file}.antt'
+            lines = source.read_text().splitlines() if source.exists() else []
+            return (file, row_at(lines, definition or '?', int(line or 0))), said
+    return ('nowhere', '?'), 'no error'
+
+
+def restates(folder, file, definition):
+    """Whether a law only opens a definition's clauses: `unfolding`, and by computation alone. Examples and functions' proofs do not."""
+    source = folder / f'{file}.antt'
+    if not source.exists() or file == 'proofs/Table' or file.endswith('/Proof') or '/Examples/' in file:
+        return False
+    name = re.escape(definition.split('.')[0])
+    law = re.search(rf'^[ ]*(?:pub )?{name} :.*?(?=\n\s*\n|\Z)', source.read_text(), re.M | re.S)
+    clauses = re.findall(rf'^[ ]*{name}\b[^:\n]* =\s+(.*)', law.group(), re.M) if law else []
+    return bool(clauses) and 'unfolding' in law.group() and all(re.match(r'(refl|rw|simp)\b', clause) for clause in clauses)
+
+
+def edit_faults(edit, folder):
+    """What is wrong with an edit and its log, in words."""
+    named = BREAKS.search(edit.read_text())
+    log = folder / '.log'
+    if not named:
+        yield 'has no line `# breaks: FILE, DEFINITION: the fact`'
+    if not log.exists():
+        yield 'has no log: run rt ci first'
+        return
+    place, said = first_error(log.read_text(), folder)
+    if UNFIT.search(said) or re.match(r'(Inv|μ)-', place[1]):
+        yield f'fails since a proof does not fit, no fact: {", ".join(place)}: {said[:200]}'
+    if place[0].startswith('specs/') and '/Examples/' not in place[0]:
+        yield f'is no definition: {", ".join(place)}: {said[:200]}'
+    if restates(folder, *place):
+        yield f'fails in a law that only restates a definition: {", ".join(place)}'
+    if named and named.groups() != place:
+        yield f'breaks {", ".join(place)}, not {", ".join(named.groups())}'
+
+
+def check_logs(root):
+    seen, wrong = 0, []
+    for edit in sorted(root.glob('crates/*/must-fail/*.edit')):
+        seen += 1
+        crate = edit.parts[-3]
+        wrong += [f'{crate}/{edit.stem} {fault}' for fault in edit_faults(edit, root / 'target' / 'must-fail' / crate / edit.stem)]
+    print('\n'.join(wrong + [f'{seen} edits, {len(wrong)} faults']))
+    return seen > 0 and not wrong
+
+
+def check_sizes(root):
+    header = (root / 'include' / 'ceviloneth.h').read_text()
+    stated = (root / 'crates' / 'demands' / 'specs' / 'Demands.antt').read_text()
+    wrong = []
+    for name in ('words', 'arrows', 'bundles'):
+        defined = re.findall(rf'#define CEVILONETH_{name.upper()} (\d+)', header)
+        proved = re.findall(rf'pub {name} : (\d+) ≤ length', stated)
+        if len(defined) != 1 or defined != proved:
+            wrong.append(f'{name}: the header has {defined}, the theorem {proved}')
+    print('\n'.join(wrong + [f'3 sizes, {len(wrong)} faults']))
+    return not wrong
+
+
+def check_lines(root):
+    paths = sorted(root.glob('crates/**/*.antt'))
+    lines = ((path, number, line) for path in paths for number, line in enumerate(path.read_text().splitlines(), 1))
+    wrong = [f'{path.relative_to(root)}:{number}: {len(line)} characters' for path, number, line in lines if len(line) > WIDTH]
+    print('\n'.join(wrong + [f'{len(paths)} files, {len(wrong)} lines of more than {WIDTH} characters']))
+    return not wrong
+
+
 def main():
-    checks = {'listed': check_listed, 'promises': check_promises, 'named': check_named}
+    checks = {
+        'listed': check_listed,
+        'promises': check_promises,
+        'named': check_named,
+        'sizes': check_sizes,
+        'lines': check_lines,
+        'logs': check_logs,
+    }
     if len(sys.argv) not in (2, 3) or sys.argv[1] not in checks:
         sys.exit(__doc__)
     root = Path(sys.argv[2]) if len(sys.argv) == 3 else Path(__file__).resolve().parents[2]

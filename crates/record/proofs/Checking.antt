@@ -1,5 +1,5 @@
 -- What the checks of a graph hand over, by what the layers below promise. Assumes nothing.
-use Rattle.counting.proofs.Prelude.{_≡_, refl, sym, ap, _∙_, subst, _≢_, Bool, true, false, _&&_, List, ℕ, zero, suc, _*_, _≤_, _<_, min, arith, leb, length}
+use Rattle.counting.proofs.Prelude.{_≡_, refl, sym, ap, _∙_, subst, _≢_, Bool, true, false, _&&_, List, ℕ, zero, suc, _*_, _≤_, _<_, min, arith, leb, length, eq-eqb, ne-eqb}
 use Rattle.counting.proofs.Sizes.{size-taken, sized}
 use Rattle.specification.specs.Count.{choose}
 use Rattle.specification.specs.Graph.{outsized?, verdict, reachable?, tailsOf, headsOf, unsized?}
@@ -17,7 +17,7 @@ use Rattle.channels.specs.Promise.{Answers}
 use Rattle.planning.specs.declared.Channels.{Channels}
 use Rattle.record.specs.declared.checks.Checked.{Checked}
 use Rattle.record.specs.Checked.{uncheckedBy, channelsBy, Tables, Checks}
-use Rattle.record.specs.Steps.{channelsRefusal}
+use Rattle.record.specs.Steps.{channelsRefusal, settledBy}
 use Rattle.record.proofs.Judging.{refused-edges, edges-accepted, bare-refusal, given-refusal, first-high}
 
 -- a graph of no vertex is refused
@@ -120,7 +120,7 @@ module _ (n : ℕ) (ends : List ℕ) (given : Bool) (field e b t l p : List ℕ)
       tables = record { used = d .used; descended = descended; past = promised .rows-past passed }
 
       -- the given channels are refused
-      pub channels-fail : (r : Checked) → ch .refusal ≢ 0 → r ≡ uncheckedBy (ch .refusal)
+      channels-fail : (r : Checked) → ch .refusal ≢ 0 → r ≡ uncheckedBy (ch .refusal)
           → Checks n ends given field e b t l p r e′ b′ t′ l′ p′
       channels-fail r ne made =
           let same : r .refusal ≡ ch .refusal = ap (λ (x : Checked). x .refusal) made in
@@ -135,7 +135,7 @@ module _ (n : ℕ) (ends : List ℕ) (given : Bool) (field e b t l p : List ℕ)
             long = long;
           }
 
-      pub all-pass : (r : Checked) → ch .refusal ≡ 0 → r ≡ record { refusal = 0; used = d .used; channels = ch .count }
+      all-pass : (r : Checked) → ch .refusal ≡ 0 → r ≡ record { refusal = 0; used = d .used; channels = ch .count }
           → Checks n ends given field e b t l p r e′ b′ t′ l′ p′
       all-pass r z made =
           subst (λ (x : Checked). Checks n ends given field e b t l p x e′ b′ t′ l′ p′) (sym made) (record {
@@ -148,3 +148,18 @@ module _ (n : ℕ) (ends : List ℕ) (given : Bool) (field e b t l p : List ℕ)
             past = past;
             long = long;
           })
+
+      settled-when : (k : ℕ) → ch .refusal ≡ k → (r : Checked) → r ≡ settledBy (d .used) ch
+          → Checks n ends given field e b t l p r e′ b′ t′ l′ p′
+      settled-when zero z r made = all-pass r z (made ∙ simp (eq-eqb (ch .refusal) 0 z))
+      settled-when (suc k) q r made =
+          let ne : ch .refusal ≢ 0 = λ z. absurd (omega arith) in
+          channels-fail r ne (made ∙ simp (ne-eqb (ch .refusal) 0 ne))
+
+    -- channels are given, or planned, by what reaches what
+    pub settles : (g : Bool) → given ≡ g → (ch : Channels) (p′ : List ℕ)
+        → Answers n (channelsRefusal n t′ g field) (channelsBy n t′ g field) p₁ ch p′
+        → (r : Checked) → r ≡ settledBy (d .used) ch → Checks n ends given field e b t l p r e′ b′ t′ l′ p′
+    settles g q ch p′ lined =
+        settled-when ch p′
+        (subst (λ (x : Bool). Answers n (channelsRefusal n t′ x field) (channelsBy n t′ x field) p₁ ch p′) (sym q) lined) (ch .refusal) refl

@@ -4,9 +4,8 @@ ghost use mathlib.Core.Bool.{_&&_};
 ghost use lib.Dec.{leb};
 ghost use Rattle.specification.specs.Count.{choose};
 ghost use Rattle.specification.specs.Channels.{verticesOf, unknown?};
-ghost use Rattle.channels.specs.Promise.{Answers};
-ghost use Rattle.record.specs.Checked.{uncheckedBy, channelsBy, Checks};
-ghost use Rattle.record.specs.Steps.{channelsRefusal};
+ghost use Rattle.record.specs.Checked.{uncheckedBy, Checks};
+ghost use Rattle.record.specs.Steps.{settledBy};
 use descent::descend;
 use planning::Channels;
 
@@ -45,20 +44,18 @@ fn first_of(k: u8, n: usize, given: bool, field: &[u8]) -> u8
     k
 }
 
-// The given channels, or the planned ones.
-fn channels_of<'a>(
-    n: usize,
-    table: &'a [u64],
-    given: bool,
-    field: &'a [u8],
-    places: &mut [u8],
-) -> Channels
-    ensures { λ r. ⌜ Answers n (channelsRefusal n (now (table .entry)) given (now (field .entry))) (channelsBy n (now (table .entry)) given (now (field .entry))) (now (places .entry)) r (now (places .exit)) ⌝ }
+// The answer where nothing but the channels may still be refused, and so many rows are used.
+fn settled(used: u8, laid: Channels) -> Checked
+    ensures { λ r. ⌜ r ≡ settledBy used laid ⌝ }
 {
-    if given {
-        return channels::given(n, table, field, places);
+    if laid.refusal != 0 {
+        return refused(laid.refusal);
     }
-    channels::plan(n, table, places)
+    Checked {
+        refusal: 0,
+        used,
+        channels: laid.count,
+    }
 }
 
 // The checks of n vertices, the edges whose ends are bytes, tail and head in turn, and the given channels in the bytes of their field, if
@@ -82,13 +79,10 @@ pub fn check<'a, 'f, 'e, 'b, 't, 'l, 'p>(
     if d.refusal != 0 {
         return refused(first_of(d.refusal, n, given, field));
     }
-    let channels = channels_of(n, table, given, field, places);
-    if channels.refusal != 0 {
-        return refused(channels.refusal);
+    if given {
+        let laid = channels::given(n, table, field, places);
+        return settled(d.used, laid);
     }
-    Checked {
-        refusal: 0,
-        used: d.used,
-        channels: channels.count,
-    }
+    let laid = channels::plan(n, table, places);
+    settled(d.used, laid)
 }

@@ -156,8 +156,12 @@ pub record Table : Type 0 where
   pub p9 : Refused record9 5
   -- P10: an edge two times, 4
   pub p10 : Refused record10 4
-  -- both: 4 goes before 5
-  pub double-first : refusalOf (content 2 (0 ∷ 1 ∷ 0 ∷ []) (1 ∷ 0 ∷ 1 ∷ []) false []) ≡ 4
+  -- of two checks that fail the first refuses: 3 before 4, by an edge and by a given channel; 4 before 5; 6 before 7, both ways to be 6
+  pub stranger-first : Refused (1 ∷ 0 ∷ 1 ∷ 2 ∷ 2 ∷ 0 ∷ 4 ∷ 0 ∷ 2 ∷ 0 ∷ 2 ∷ []) 3
+  pub named-first : Refused (1 ∷ 0 ∷ 1 ∷ 2 ∷ 2 ∷ 0 ∷ 4 ∷ 0 ∷ 1 ∷ 0 ∷ 1 ∷ 3 ∷ 0 ∷ 4 ∷ 3 ∷ 0 ∷ 1 ∷ 2 ∷ []) 3
+  pub double-first : Refused (1 ∷ 0 ∷ 1 ∷ 2 ∷ 2 ∷ 0 ∷ 6 ∷ 0 ∷ 1 ∷ 1 ∷ 0 ∷ 0 ∷ 1 ∷ []) 4
+  pub repeated-first : Refused (1 ∷ 0 ∷ 1 ∷ 2 ∷ 2 ∷ 0 ∷ 0 ∷ 3 ∷ 0 ∷ 5 ∷ 2 ∷ 0 ∷ 1 ∷ 1 ∷ 0 ∷ []) 6
+  pub lacking-first : Refused (1 ∷ 0 ∷ 1 ∷ 3 ∷ 2 ∷ 0 ∷ 0 ∷ 3 ∷ 0 ∷ 3 ∷ 2 ∷ 0 ∷ 1 ∷ []) 6
   -- the sample listing: its header, words and arrows
   pub header : (graph1 .vertices ≡ 5) × (edgesOf graph1 ≡ 6) × (rowCount graph1 ≡ 4) × (length (channelsOf graph1) ≡ 2) × (reducedEdges graph1 ≡ 5) × (length (planOf graph1 .bundles) ≡ 0) × (widthOf (planOf graph1) ≡ 6)
   pub words : Word graph1 0 0 0 1 0 4 × Word graph1 1 0 1 1 1 2 × Word graph1 2 1 0 4 1 2 × Word graph1 3 1 1 4 2 1 × Word graph1 4 0 2 1 3 0

@@ -1,6 +1,7 @@
-use Rattle.counting.proofs.Prelude.{_≡_, sym, ap, _∙_, ℕ, _+_, arith, getD, eq-eqb, ne-eqb, le-leb, lt-leb, needs}
+use Rattle.counting.proofs.Prelude.{_≡_, sym, ap, _∙_, ℕ, _+_, arith, length, getD, eq-eqb, ne-eqb, le-leb, lt-leb, needs}
 use Rattle.specification.specs.declared.Field.the-variants.{Found}
 use Rattle.specification.specs.declared.Layout.the-variants.{Bad}
+use Rattle.specification.specs.Limits.{mostBytes}
 use Rattle.specification.specs.Layout.{fieldAt, withEdges, withVertices, layoutOf, layoutAnswer}
 use Rattle.specification.proofs.Placing.{Inside, found-inside}
 use Rattle.fields.proofs.layout_of.Statement.{statement}
@@ -8,7 +9,7 @@ use Rattle.fields.proofs.layout_of.Tie as tie
 
 returns : tie.Need-returns
 unfolding layoutOf
-returns c = simp (lt-leb _ _ (c .if1 .taken))
+returns c = simp (lt-leb (length (c .before .before .args .b .now)) mostBytes (c .if1 .taken))
 
 -- the field that was found, and where it lies
 found : (c : tie.After-known-told) → fieldAt 1 (c .before .before .before .before .before .before .args .b .now) 0 ≡ Found (c .before .field .given .0 .0) (c .before .field .given .0 .1 .0)

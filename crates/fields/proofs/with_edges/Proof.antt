@@ -1,4 +1,4 @@
-use Rattle.counting.proofs.Prelude.{_≡_, sym, ap, _∙_, arith, eq-eqb, ne-eqb, needs}
+use Rattle.counting.proofs.Prelude.{_≡_, sym, ap, _∙_, _%_, arith, eq-eqb, ne-eqb, needs}
 use Rattle.specification.specs.declared.Field.the-variants.{Found}
 use Rattle.specification.specs.declared.Layout.the-variants.{Bad}
 use Rattle.specification.specs.Layout.{fieldAt, withEdges}
@@ -29,7 +29,7 @@ unfolding withEdges
 returns-2 c =
     let a = c .before .before .before .before .before .before .args in
     let f = c .before .before .field .given in
-    let bad : Bad ≡ withEdges (a .b .now) (a .n) (Found (f .0 .0) (f .0 .1 .0)) = simp (ne-eqb _ _ (c .if1 .taken)) in
+    let bad : Bad ≡ withEdges (a .b .now) (a .n) (Found (f .0 .0) (f .0 .1 .0)) = simp (ne-eqb (f .0 .1 .0 % 2) 0 (c .if1 .taken)) in
     bad ∙ ap (withEdges (a .b .now) (a .n)) (sym (found (c .before)))
 
 add-after-edges : tie.Need-add-after-edges

@@ -1,4 +1,4 @@
-use Rattle.counting.proofs.Prelude.{_≡_, sym, ap, _∙_, true, false, ℕ, _+_, _-_, arith, take, drop, eq-eqb, ne-eqb, needs}
+use Rattle.counting.proofs.Prelude.{_≡_, sym, ap, _∙_, true, false, ℕ, _+_, _-_, arith, length, take, drop, eq-eqb, ne-eqb, needs}
 use Rattle.specification.specs.declared.Field.the-variants.{Found}
 use Rattle.specification.specs.declared.Layout.the-variants.{Good, Bad}
 use Rattle.specification.specs.Layout.{fieldAt, lined, withLines}
@@ -32,7 +32,8 @@ unfolding withLines
 returns-2 c =
     let a = c .before .before .before .before .before .before .args in
     let f = c .before .before .field .given in
-    let bad : Bad ≡ withLines (a .b .now) (a .n) (a .edges) (a .m) (Found (f .0 .0) (f .0 .1 .0)) = simp (ne-eqb _ _ (c .if1 .taken)) in
+    let bad : Bad ≡ withLines (a .b .now) (a .n) (a .edges) (a .m) (Found (f .0 .0) (f .0 .1 .0)) =
+    simp (ne-eqb (f .0 .0 + f .0 .1 .0) (length (a .b .now)) (c .if1 .taken)) in
     bad ∙ ap (withLines (a .b .now) (a .n) (a .edges) (a .m)) (sym (found (c .before)))
 
 part-is-lined-end : tie.Need-part-is-lined-end

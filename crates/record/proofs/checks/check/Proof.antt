@@ -1,5 +1,5 @@
-use Rattle.counting.proofs.Prelude.{refl, needs}
-use Rattle.record.proofs.Checking.{edges-fail, channels-fail, all-pass}
+use Rattle.counting.proofs.Prelude.{true, false, needs}
+use Rattle.record.proofs.Checking.{edges-fail, settles}
 use Rattle.record.proofs.checks.check.Statement.{statement}
 use Rattle.record.proofs.checks.check.Tie as tie
 
@@ -11,19 +11,23 @@ returns c =
 
 returns-2 : tie.Need-returns-2
 returns-2 c =
-    let laid = c .before .before .before .before .before in
-    let past = laid .before .before .before in
+    let laid = c .before .before .before in
+    let test = laid .before .before .before in
+    let past = test .before in
     let d = past .before .before .before .before .before .before .before .before .before .before .before .before in
     let a = d .before .before .before .before .before .before .before .before .before .before .before .before .before .args in
-    channels-fail _ _ (a .given) (a .field .now) _ _ _ _ _ _ _ _ _ _ _ (d .descend .ensures) (past .if1 .left) _ _ (laid .channels-of .ensures) _ (c .before .if2 .taken) (c .refused2 .ensures)
+    settles _ _ (a .given) (a .field .now) _ _ _ _ _ _ _ _ _ _ _ (d .descend .ensures) (past .if1 .left)
+    true (test .if2 .taken) _ _ (laid .given .ensures) _ (c .settled .ensures)
 
 returns-3 : tie.Need-returns-3
 returns-3 c =
-    let laid = c .before .before .before .before in
-    let past = laid .before .before .before in
+    let laid = c .before .before .before in
+    let test = laid .before .before .before in
+    let past = test .before in
     let d = past .before .before .before .before .before .before .before .before .before .before .before .before in
     let a = d .before .before .before .before .before .before .before .before .before .before .before .before .before .args in
-    all-pass _ _ (a .given) (a .field .now) _ _ _ _ _ _ _ _ _ _ _ (d .descend .ensures) (past .if1 .left) _ _ (laid .channels-of .ensures) _ (c .if2 .left) refl
+    settles _ _ (a .given) (a .field .now) _ _ _ _ _ _ _ _ _ _ _ (d .descend .ensures) (past .if1 .left)
+    false (test .if2 .left) _ _ (laid .plan .ensures) _ (c .settled2 .ensures)
 
 pub check-spec : {M : Type 1} → statement M
 check-spec =
@@ -46,6 +50,8 @@ check-spec =
     (λ c. search needs)
     (λ c. search needs)
     returns-2
+    (λ c κs. search needs)
+    (λ c κs. search needs)
     (λ c. search needs)
     (λ c. search needs)
     (λ c. search needs)

@@ -5,7 +5,7 @@ use Rattle.script.proofs.Scanner.finish_two.Tie as tie
 
 returns : tie.Need-returns
 unfolding orderOf finishedTwo
-returns c = rw (eq-eqb _ _ (c .if1 .taken))
+returns c = rw (eq-eqb (c .before .before .args .self .add) 3 (c .if1 .taken))
 
 returns-2 : tie.Need-returns-2
 unfolding orderOf finishedTwo
