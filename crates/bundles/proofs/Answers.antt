@@ -1,5 +1,6 @@
 -- What the call answers: the bundles of the rule, channel after channel. Assumes nothing.
-use Rattle.counting.proofs.Prelude.{_≡_, refl, sym, ap, ap₂, _∙_, subst, Bool, true, false, List, ℕ, _+_, _*_, _/_, _≤_, _<_, min, arith, ltb, length, getD, lt-ltb}
+use Rattle.counting.proofs.Prelude.{_≡_, refl, sym, ap, ap₂, _∙_, subst, Bool, true, false, List, ℕ, _+_, _*_, _/_, _≤_, _<_, min, arith}
+use Rattle.counting.proofs.Prelude.{ltb, length, getD, lt-ltb}
 use Rattle.counting.specs.Quads.{quad}
 use Rattle.counting.proofs.Truth.{and-elim, same-truth, and-intro}
 use Rattle.specification.specs.Bundles.{Bundle, along, bundles}

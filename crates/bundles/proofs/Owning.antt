@@ -1,6 +1,8 @@
 -- The masks of each channel's vertices: how they are filled, and which edges out of a vertex they leave; and how a loop finds that there is
 -- none to bundle. Assumes nothing.
-use Rattle.counting.proofs.Prelude.{_≡_, sym, ap, _∙_, subst, ⊎-elim, Bool, true, false, not, _&&_, List, ℕ, _+_, _-_, _*_, _/_, _%_, _^_, _≤_, _<_, min, arith, eqb, ltb, getD, set, replicate, length-replicate, eq-eqb, eqb-true, lt-ltb, le-ltb, ltb-true}
+use Rattle.counting.proofs.Prelude.{_≡_, sym, ap, _∙_, subst, ⊎-elim, Bool, true, false, not, _&&_, List, ℕ, _+_, _-_, _*_, _/_, _%_, _^_}
+use Rattle.counting.proofs.Prelude.{_≤_, _<_, min, arith, eqb, ltb, getD, set, replicate, length-replicate, eq-eqb, eqb-true, lt-ltb}
+use Rattle.counting.proofs.Prelude.{le-ltb, ltb-true}
 use native.Mathlib.Nat.{not-suc-le-zero, mul-le-mul-left}
 use native.Mathlib.Decide.{ℕ-discrete}
 use lib.Bits.{bitAnd, bitOr}

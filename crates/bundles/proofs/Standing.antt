@@ -1,5 +1,7 @@
 -- The state stands for the bundles made so far: at the start, after a bundle, and at the end. Assumes nothing.
-use Rattle.counting.proofs.Prelude.{_≡_, refl, sym, ap, ap₂, _∙_, _≢_, _⊎_, inl, inr, ⊎-elim, Bool, true, false, true≢false, not, _&&_, List, [], _∷_, _++_, ℕ, zero, suc, _+_, _*_, _≤_, _<_, min, max, arith, eqb, ltb, length, getD, set, length-set, length-append, List·getD-append, List·getD-eq-default, eq-eqb, ne-eqb, lt-ltb, ltb-true}
+use Rattle.counting.proofs.Prelude.{_≡_, refl, sym, ap, ap₂, _∙_, _≢_, _⊎_, inl, inr, ⊎-elim, Bool, true, false, true≢false, not, _&&_}
+use Rattle.counting.proofs.Prelude.{List, [], _∷_, _++_, ℕ, zero, suc, _+_, _*_, _≤_, _<_, min, max, arith, eqb, ltb, length, getD, set}
+use Rattle.counting.proofs.Prelude.{length-set, length-append, List·getD-append, List·getD-eq-default, eq-eqb, ne-eqb, lt-ltb, ltb-true}
 use native.Mathlib.Decide.{ℕ-discrete}
 use lib.Seq.{getD-set-same, getD-set-other, getD-append-seam}
 use Rattle.specification.specs.Count.{indicator, count}

@@ -1,5 +1,6 @@
 -- From `editing`'s promises to those of the calls on lists that spell sessions. Assumes nothing.
-use Rattle.counting.proofs.Prelude.{_≡_, refl, sym, ap, subst, _∙_, false, List, ℕ, _<_, _≤_, arith, length, take, drop, getD, lt-ltb, le-ltb}
+use Rattle.counting.proofs.Prelude.{_≡_, refl, sym, ap, subst, _∙_, false, List, ℕ, _<_, _≤_, arith, length, take, drop, getD, lt-ltb}
+use Rattle.counting.proofs.Prelude.{le-ltb}
 use Rattle.editing.specs.Promise.{StartPromise, AddPromise, LeadsPromise}
 use Rattle.editing.specs.declared.Session.{Session}
 use Rattle.editing.specs.declared.Changed.{Changed}
@@ -9,7 +10,8 @@ use Rattle.ceviloneth.specs.State.{sessionOf, stateRefusal, Kept, Starts
 use Rattle.specification.specs.Asked.{toldBy}
 use Rattle.ceviloneth.specs.Steps.{Stored}
 
-pub spelt : (s e r : List ℕ) → e ≡ take 256 (drop 2 s) → r ≡ take 256 (drop 258 s) → record { vertices = getD s 0 0; count = getD s 1 0; edges = e; reach = r } ≡ sessionOf s
+pub spelt : (s e r : List ℕ) → e ≡ take 256 (drop 2 s) → r ≡ take 256 (drop 258 s)
+    → record { vertices = getD s 0 0; count = getD s 1 0; edges = e; reach = r } ≡ sessionOf s
 unfolding sessionOf
 spelt s e r h k = rw (h, k) refl
 
@@ -63,7 +65,8 @@ module _ (was : List ℕ) where
       add-refused ne = record {
         refusal = promised .refusal ∙ sym (whole _ long);
         kept = all-kept _;
-        added = λ _. subst (AddPromise (sessionOf was) u v) (changed r (r .refusal) (sessionOf was) refl (sym (promised .kept ne))) promised;
+        added =
+            λ _. subst (AddPromise (sessionOf was) u v) (changed r (r .refusal) (sessionOf was) refl (sym (promised .kept ne))) promised;
       }
 
       pub add-done : r .refusal ≡ 0 → (is : List ℕ) → Stored was (r .session) is → Adds was u v 0 is
@@ -77,5 +80,7 @@ module _ (was : List ℕ) where
     pub tells-short : length was < 514 → (r : Leading) → r ≡ toldBy 8 false → Tells was u v r
     tells-short h r e = record { short = λ _. e; told = λ l. absurd (omega arith) }
 
-    pub tells : 514 ≤ length was → (s : Session) → s ≡ sessionOf was → (a : Reply) → LeadsPromise s u v a → (r : Leading) → r ≡ toldBy (a .refusal) (a .reaches) → Tells was u v r
-    tells h s e a p r is = record { short = λ l. absurd (omega arith); told = λ _. (a, subst (λ (y : Session). LeadsPromise y u v a) e p, is) }
+    pub tells : 514 ≤ length was → (s : Session) → s ≡ sessionOf was → (a : Reply) → LeadsPromise s u v a → (r : Leading)
+        → r ≡ toldBy (a .refusal) (a .reaches) → Tells was u v r
+    tells h s e a p r is =
+        record { short = λ l. absurd (omega arith); told = λ _. (a, subst (λ (y : Session). LeadsPromise y u v a) e p, is) }

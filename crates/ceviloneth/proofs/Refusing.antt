@@ -17,7 +17,8 @@ pub record Refused (ws es bs : List ℕ) (r : ChartCounts) (ws′ es′ bs′ : 
   pub counts : Zeroed r
 
 module _ (b : List ℕ) where
-  pub refused-untouched : (ws ws′ es es′ bs bs′ : List ℕ) (r : ChartCounts) → HandedFlat b ws es bs r ws′ es′ bs′ → (r .refusal ≡ 0 → ⊥) → Refused ws es bs r ws′ es′ bs′
+  pub refused-untouched : (ws ws′ es es′ bs bs′ : List ℕ) (r : ChartCounts) → HandedFlat b ws es bs r ws′ es′ bs′ → (r .refusal ≡ 0 → ⊥)
+      → Refused ws es bs r ws′ es′ bs′
   refused-untouched ws ws′ es es′ bs bs′ r h ne =
       let none = lent-quiet (recordDrawn b) (record-sound b) (length ws / 5) (length es / 5) (length bs / 4) (λ z. ne (h .refusal ∙ z)) in
       let l = subst (λ (c : Content). Numbered c (planOf c) ws es bs r ws′ es′ bs′) none (h .numbered) in

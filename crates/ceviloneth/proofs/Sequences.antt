@@ -1,6 +1,7 @@
 -- Every list of calls on a lent list, starts among them: from the first accepted start on, every answer and the session that the list
 -- spells are the machine's. Assumes nothing.
-use Rattle.counting.proofs.Prelude.{_≡_, refl, sym, ap, subst, _∙_, Bool, true, false, List, ℕ, _≤_, arith, eqb, length, ap₂, [], _∷_, map, zero, suc, _<_, getD}
+use Rattle.counting.proofs.Prelude.{_≡_, refl, sym, ap, subst, _∙_, Bool, true, false, List, ℕ, _≤_, arith, eqb, length, ap₂, [], _∷_, map}
+use Rattle.counting.proofs.Prelude.{zero, suc, _<_, getD}
 use Rattle.specification.specs.Count.{indicator}
 use Rattle.specification.specs.Machine.{Call, Answer, Graph, step, run, answers}
 use Rattle.specification.specs.Graph.{sizeRefusal}
@@ -8,7 +9,8 @@ use Rattle.editing.specs.Promise.{replyAnswer, changeAnswer}
 use Rattle.specification.specs.declared.Leading.{Leading}
 use Rattle.ceviloneth.specs.State.{Starts}
 use Rattle.specification.specs.Asked.{toldBy}
-use Rattle.ceviloneth.specs.Calls.{Called, Calls, LentCall, LentAnswer, startAnswer, Life, begun, lifeStep, lifeRun, Right, AllRight, Spells, Lived, Short}
+use Rattle.ceviloneth.specs.Calls.{Called, Calls, LentCall, LentAnswer, startAnswer, Life, begun, lifeStep, lifeRun, Right, AllRight}
+use Rattle.ceviloneth.specs.Calls.{Spells, Lived, Short}
 use Rattle.ceviloneth.specs.Calls.Called.{adds, asks, starts}
 use Rattle.ceviloneth.specs.Calls.Calls.{done, next}
 use native.Mathlib.Nat.{suc-ne-zero}

@@ -1,5 +1,6 @@
 -- The answers of the public calls, case by case. Assumes nothing.
-use Rattle.counting.proofs.Prelude.{_≡_, refl, sym, ap, _∙_, subst, _≢_, Bool, true, false, true≢false, _||_, List, ℕ, _*_, _≤_, min, arith, length}
+use Rattle.counting.proofs.Prelude.{_≡_, refl, sym, ap, _∙_, subst, _≢_, Bool, true, false, true≢false, _||_, List, ℕ, _*_, _≤_, min, arith}
+use Rattle.counting.proofs.Prelude.{length}
 use Rattle.planning.proofs.Laying.{kept-same}
 use Rattle.specification.specs.Count.{choose}
 use Rattle.counting.proofs.Sizes.{size-taken}
@@ -58,7 +59,8 @@ module _ (leads : ℕ → ℕ → Bool) (n : ℕ) (field : List ℕ) where
       choose (repeats? (verticesOf field) || lacks? n (verticesOf field)) (λ _. 6) (λ _.
       choose (broken? leads (linesOf field)) (λ _. 7) (λ _. 0))))
     where
-      go : (b : Bool) (k : ℕ) → _≢_ {A = ℕ} (choose b (λ _. 2) (λ _. 0)) 0 → _≡_ {A = ℕ} (choose b (λ _. 2) (λ _. k)) (choose b (λ _. 2) (λ _. 0))
+      go : (b : Bool) (k : ℕ) → _≢_ {A = ℕ} (choose b (λ _. 2) (λ _. 0)) 0
+          → _≡_ {A = ℕ} (choose b (λ _. 2) (λ _. k)) (choose b (λ _. 2) (λ _. 0))
       go true k d = refl
       go false k d = absurd (d refl)
 

@@ -1,9 +1,12 @@
 -- The checks of given channels: what each says, and what each step of its loop keeps. Assumes nothing.
-use Rattle.counting.proofs.Prelude.{_≡_, refl, sym, ap, _∙_, subst, _≢_, Bool, true, false, true≢false, not, _&&_, _||_, List, [], _∷_, ℕ, suc, _+_, _-_, _≤_, _<_, arith, eqb, leb, length, getD, drop, replicate, eq-eqb, ne-eqb, lt-ltb, le-leb, lt-leb, leb-false, not-false}
+use Rattle.counting.proofs.Prelude.{_≡_, refl, sym, ap, _∙_, subst, _≢_, Bool, true, false, true≢false, not, _&&_, _||_, List, [], _∷_, ℕ}
+use Rattle.counting.proofs.Prelude.{suc, _+_, _-_, _≤_, _<_, arith, eqb, leb, length, getD, drop, replicate, eq-eqb, ne-eqb, lt-ltb, le-leb}
+use Rattle.counting.proofs.Prelude.{lt-leb, leb-false, not-false}
 use native.Mathlib.Decide.{ℕ-discrete}
 use Rattle.specification.specs.Count.{indicator, choose}
 use Rattle.specification.specs.Sets.{member?, inserted}
-use Rattle.specification.specs.Channels.{times, has, linked, every, allLinked, front, lines, filled, linesOf, verticesOf, unknown?, repeats?, lacks?, broken?}
+use Rattle.specification.specs.Channels.{times, has, linked, every, allLinked, front, lines, filled, linesOf, verticesOf, unknown?}
+use Rattle.specification.specs.Channels.{repeats?, lacks?, broken?}
 use Rattle.counting.proofs.Truth.{indicator-le, or-neither}
 use Rattle.counting.proofs.Somes.{some-found, some-none}
 use Rattle.masks.proofs.Members.{length-inserted, inserted-here, inserted-other, member-zeros}
@@ -74,7 +77,8 @@ filled-full ([] ∷ ls) = filled-full ls
 filled-full ((v ∷ l) ∷ ls) = rw (lt-ltb 0 (suc (length l)) (omega arith)) (filled-full ls)
 
 -- channels that pass all checks
-pub given-covers : (leads : ℕ → ℕ → Bool) (n : ℕ) (field : List ℕ) → unknown? n (verticesOf field) ≡ false → repeats? (verticesOf field) ≡ false → lacks? n (verticesOf field) ≡ false
+pub given-covers : (leads : ℕ → ℕ → Bool) (n : ℕ) (field : List ℕ) → unknown? n (verticesOf field) ≡ false
+    → repeats? (verticesOf field) ≡ false → lacks? n (verticesOf field) ≡ false
     → broken? leads (linesOf field) ≡ false → Covers leads n (linesOf field)
 unfolding linesOf
 given-covers leads n field u p q b = record {
@@ -128,7 +132,12 @@ module _ (field : List ℕ) where
 
   module _ (i : ℕ) (h : i < length field) (k : ℕ) (seen : List ℕ) (o : Once i k seen) where
     pub once-length : k ≡ 0 → (x : ℕ) → x ≡ getD field i 0 → Once (i + 1) x seen
-    once-length e x ex = record { masks = o .masks; often = λ v. o .often v ∙ ap (λ l. indicator (member? seen 0 v) + times v l) (left-length field i h k e ∙ ap (left field (i + 1)) (sym ex)) }
+    once-length e x ex =
+        record {
+          masks = o .masks;
+          often = λ v. o .often v
+              ∙ ap (λ l. indicator (member? seen 0 v) + times v l) (left-length field i h k e ∙ ap (left field (i + 1)) (sym ex));
+        }
 
     module _ (d : k ≢ 0) (x : ℕ) (ex : x ≡ getD field i 0) where
       abbrev rest : List ℕ
@@ -148,7 +157,15 @@ module _ (field : List ℕ) where
         where
           go : (v : ℕ) → Dec (v ≡ x) → times v (verticesOf field) ≡ indicator (member? (inserted seen 0 x) 0 v) + times v rest
           go v (yes q) = subst (λ y. times y (verticesOf field) ≡ indicator (member? (inserted seen 0 x) 0 y) + times y rest) (sym q)
-              (omega (arith, o .often x, ap indicator e, ap indicator (inserted-here seen 0 x (omega (arith, o .masks))), ap (times x) left-is, times-here x rest))
+              (omega (
+                arith,
+                o .often x,
+                ap indicator e,
+                ap indicator (inserted-here seen 0 x (omega (arith, o .masks))),
+                ap (times x)
+                    left-is,
+                times-here x rest,
+              ))
           go v (no q) = omega (arith, o .often v, ap indicator (inserted-other seen 0 x v q), ap (times v) left-is, times-other x v rest q)
 
   pub once-all : (i k : ℕ) (seen : List ℕ) → Once i k seen → length field ≤ i → repeats? (verticesOf field) ≡ false
@@ -194,11 +211,14 @@ module _ (leads : ℕ → ℕ → Bool) where
   linked-two u v [] = and-shift (leads u v) true true
   linked-two u v (l ∷ ls) = and-shift (leads u v) (linked leads (v ∷ l)) (allLinked leads ls)
 
-  linked-next : (last v : ℕ) (ls : List (List ℕ)) → allLinked leads (after last (front v ls)) ≡ ((eqb last 256 || leads last v) && allLinked leads (front v ls))
+  linked-next : (last v : ℕ) (ls : List (List ℕ))
+      → allLinked leads (after last (front v ls)) ≡ ((eqb last 256 || leads last v) && allLinked leads (front v ls))
   linked-next last v ls = go (ℕ-discrete last 256)
     where
       go : Dec (last ≡ 256) → allLinked leads (after last (front v ls)) ≡ ((eqb last 256 || leads last v) && allLinked leads (front v ls))
-      go (yes e) = ap (allLinked leads) (after-none last (front v ls) e) ∙ sym (ap (λ b. (b || leads last v) && allLinked leads (front v ls)) (eq-eqb last 256 e))
+      go (yes e) =
+          ap (allLinked leads) (after-none last (front v ls) e)
+          ∙ sym (ap (λ b. (b || leads last v) && allLinked leads (front v ls)) (eq-eqb last 256 e))
       go (no e) =
           ap (allLinked leads) (after-some last (front v ls) e) ∙ linked-two last v ls
           ∙ sym (ap (λ b. (b || leads last v) && allLinked leads (front v ls)) (ne-eqb last 256 e))
@@ -211,19 +231,30 @@ module _ (leads : ℕ → ℕ → Bool) where
 
     pub linking-none : Linking 0 0 256
     unfolding linesOf
-    linking-none = record { small = omega arith; same = linked-filled leads (lines 0 field) ∙ ap (allLinked leads) (sym (after-none 256 (lines 0 field) refl)) }
+    linking-none =
+        record {
+          small = omega arith;
+          same = linked-filled leads (lines 0 field)
+              ∙ ap (allLinked leads) (sym (after-none 256 (lines 0 field) refl));
+        }
 
     module _ (i : ℕ) (h : i < length field) (k last : ℕ) (o : Linking i k last) where
       pub linking-length : k ≡ 0 → (x : ℕ) → x ≡ getD field i 0 → Linking (i + 1) x 256
       linking-length e x ex = rw ex (record {
         small = omega arith;
-        same = o .same ∙ ap (λ ls. allLinked leads (after last ls)) (lines-length field i h k e) ∙ linked-ended last (lines (getD field i 0) (drop (i + 1) field))
+        same =
+            o .same ∙ ap (λ ls. allLinked leads (after last ls)) (lines-length field i h k e)
+            ∙ linked-ended last (lines (getD field i 0) (drop (i + 1) field))
             ∙ ap (allLinked leads) (sym (after-none 256 (lines (getD field i 0) (drop (i + 1) field)) refl));
       })
 
       module _ (d : k ≢ 0) (x : ℕ) (ex : x ≡ getD field i 0) where
-        step : allLinked leads (linesOf field) ≡ ((eqb last 256 || leads last x) && allLinked leads (front x (lines (k - 1) (drop (i + 1) field))))
-        step = o .same ∙ ap (λ ls. allLinked leads (after last ls)) (lines-vertex field i h k d ∙ ap (λ y. front y (lines (k - 1) (drop (i + 1) field))) (sym ex)) ∙ linked-next last x (lines (k - 1) (drop (i + 1) field))
+        step : allLinked leads (linesOf field)
+            ≡ ((eqb last 256 || leads last x) && allLinked leads (front x (lines (k - 1) (drop (i + 1) field))))
+        step =
+            o .same ∙ ap (λ ls. allLinked leads (after last ls))
+            (lines-vertex field i h k d ∙ ap (λ y. front y (lines (k - 1) (drop (i + 1) field))) (sym ex))
+            ∙ linked-next last x (lines (k - 1) (drop (i + 1) field))
 
         pub linking-broken : (eqb last 256 || leads last x) ≡ false → broken? leads (linesOf field) ≡ true
         unfolding broken?

@@ -38,15 +38,18 @@ pub record Passed (leads : ℕ → ℕ → Bool) (n : ℕ) (field : List ℕ) : 
 
 pub given-passed : (leads : ℕ → ℕ → Bool) (n : ℕ) (field : List ℕ) → givenRefusal leads n field ≡ 0 → Passed leads n field
 unfolding givenRefusal
-given-passed leads n field e = let p = go (unsized? n) (unknown? n (verticesOf field)) (repeats? (verticesOf field)) (lacks? n (verticesOf field)) (broken? leads (linesOf field)) e in record {
-  size = p .0;
-  known = p .1;
-  once = p .2;
-  none-lacks = p .3;
-  led = p .4;
-}
+given-passed leads n field e =
+    let p = go (unsized? n) (unknown? n (verticesOf field)) (repeats? (verticesOf field)) (lacks? n (verticesOf field))
+    (broken? leads (linesOf field)) e in record {
+      size = p .0;
+      known = p .1;
+      once = p .2;
+      none-lacks = p .3;
+      led = p .4;
+    }
   where
-    go : (a b c d f : Bool) → _≡_ {A = ℕ} (choose a (λ _. 2) (λ _. choose b (λ _. 3) (λ _. choose (c || d) (λ _. 6) (λ _. choose f (λ _. 7) (λ _. 0))))) 0
+    go : (a b c d f : Bool)
+        → _≡_ {A = ℕ} (choose a (λ _. 2) (λ _. choose b (λ _. 3) (λ _. choose (c || d) (λ _. 6) (λ _. choose f (λ _. 7) (λ _. 0))))) 0
         → (a ≡ false) × (b ≡ false) × (c ≡ false) × (d ≡ false) × (f ≡ false)
     go true b c d f p = absurd (omega arith)
     go false true c d f p = absurd (omega arith)
@@ -57,7 +60,8 @@ given-passed leads n field e = let p = go (unsized? n) (unknown? n (verticesOf f
 
 -- ---- channels that cover the vertices, handed over
 
-module _ (leads : ℕ → ℕ → Bool) (n : ℕ) (o : Order leads n) (ls : List (List ℕ)) (count : ℕ) (p : List ℕ) (a : Arranged n ls count p) (c : Covers leads n ls) where
+module _ (leads : ℕ → ℕ → Bool) (n : ℕ) (o : Order leads n) (ls : List (List ℕ)) (count : ℕ) (p : List ℕ) (a : Arranged n ls count p)
+    (c : Covers leads n ls) where
   sound-arranged : Sound leads n count p
   sound-arranged =
       let s : Channelled leads n (length ls) (channelOf ls) (positionOf ls) = channelled leads n o ls c in

@@ -1,5 +1,6 @@
 -- The walk over the bytes of given channels, one byte after the other. Assumes nothing.
-use Rattle.counting.proofs.Prelude.{_≡_, refl, sym, ap, _∙_, subst, _≢_, Bool, true, false, not, false≢true, _||_, List, ℕ, _+_, _-_, _≤_, _<_, arith, eqb, length, getD, replicate, eq-eqb, ne-eqb}
+use Rattle.counting.proofs.Prelude.{_≡_, refl, sym, ap, _∙_, subst, _≢_, Bool, true, false, not, false≢true, _||_, List, ℕ, _+_, _-_, _≤_}
+use Rattle.counting.proofs.Prelude.{_<_, arith, eqb, length, getD, replicate, eq-eqb, ne-eqb}
 use native.Mathlib.Decide.{ℕ-discrete}
 use Rattle.specification.specs.Count.{choose}
 use Rattle.specification.specs.Sets.{member?, inserted}
@@ -13,7 +14,9 @@ use Rattle.matching.proofs.Lists.{Within, has-false, length-times}
 use Rattle.channels.specs.Promise.{givenRefusal}
 use Rattle.channels.specs.Steps.Walked.{weighed, settled}
 use Rattle.channels.proofs.Fields.{left, left-all, left-length, left-vertex, left-end}
-use Rattle.channels.proofs.Checks.{unknown-within, repeats-once, lacks-has, Known, known-none, known-length, known-found, known-more, known-all, Once, once-none, once-length, once-again, once-more, once-all, Linking, linking-none, linking-length, linking-broken, linking-more, linking-all}
+use Rattle.channels.proofs.Checks.{unknown-within, repeats-once, lacks-has, Known, known-none, known-length, known-found, known-more}
+use Rattle.channels.proofs.Checks.{known-all, Once, once-none, once-length, once-again, once-more, once-all, Linking, linking-none}
+use Rattle.channels.proofs.Checks.{linking-length, linking-broken, linking-more, linking-all}
 use Rattle.channels.proofs.Answers.{given-unknown, given-repeats, given-lacks, given-broken, given-taken}
 
 -- ---- as many vertices as there should be

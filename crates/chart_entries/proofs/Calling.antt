@@ -11,7 +11,8 @@ use prog.Routine.{Routine}
 use prog.Wp.{Heap, Env, Tables}
 use ghost.Atoms.{Atoms, sem}
 use contract.Monad.{Fun, fact}
-use types.Kit.{Given, Item, Go, Post as After, lands, mean, ‵, raw, _⊛_, some, later, ⋆, Sq, runs, _$_, _∵_, !, qed, move, drop, use1, use2, split, join, pick, fsplit, fjoin, frame, await, done}
+use types.Kit.{Given, Item, Go, Post as After, lands, mean, ‵, raw, _⊛_, some, later, ⋆, Sq, runs, _$_, _∵_, !, qed, move, drop, use1, use2}
+use types.Kit.{split, join, pick, fsplit, fjoin, frame, await, done}
 use types.Run.{Opds}
 use sound.WpLaws.{fmOf}
 use denote.RattleType.{owns}
@@ -63,7 +64,10 @@ module _ {M : Type 1} (𝓤 : URA M) (H : Heap 𝓤) (A : Atoms 𝓤) (mem : Mem
     to-hand = ((κs P, qs P, tt, args, vals), tt)
 
     abbrev all-own : Fml
-    all-own = owns (S.the-row ∷ ShrSlice (named 0) (P .κ₀) u8 ∷ MutSlice (named 1) (P .κ₁) Vt.the-row ∷ MutSlice (named 2) (P .κ₂) Et.the-row ∷ MutSlice (named 3) (P .κ₃) Bt.the-row ∷ []) args vals
+    all-own =
+        owns
+        (S.the-row ∷ ShrSlice (named 0) (P .κ₀) u8 ∷ MutSlice (named 1) (P .κ₁) Vt.the-row ∷ MutSlice (named 2) (P .κ₂) Et.the-row
+        ∷ MutSlice (named 3) (P .κ₃) Bt.the-row ∷ []) args vals
 
     goes-hand : Room d (n₁ P) (n₂ P) (n₃ P) → ent 𝓤 (sep 𝓤 (mean 𝓤 H A (tokens P 𝓤 H A W)) (sem 𝓤 H A all-own)) (HandC .pre to-hand)
     goes-hand room = qed W (tokens P 𝓤 H A W ∷ ‵ all-own ∷ []) ∵ says ! room $ frame ! $ done !
@@ -74,9 +78,12 @@ module _ {M : Type 1} (𝓤 : URA M) (H : Heap 𝓤) (A : Atoms 𝓤) (mem : Mem
     abbrev Lasts : Type 0
     Lasts = Unit {0} × (Unit {0} × (List VertexEntry × (List EdgeEntry × (List BundleEntry × Unit {0}))))
 
-    pub hands : Is S.the-row d (LL.vals S.the-type S′.the-laws d) → Room d (n₁ P) (n₂ P) (n₃ P) → (𝓣 : Tables 𝓤 H) → Triple 𝓤 (𝓣 .C #hand) HandC
-        → {Γ : List (Item 𝓤)} {E : Env 𝓤 H} {xs : List Opd} {to : Place} {rest : Body} {Q : After 𝓤 H} → Opds (Go {0}) W (raw (HandC .pre to-hand) ∷ Γ) E xs (HandC .args to-hand)
-        → ((r : ChartCounts) (w : Val) (zs₁ : List VertexEntry) (zs₂ : List EdgeEntry) (zs₃ : List BundleEntry) → Over r zs₁ zs₂ zs₃ → Is Ct.the-row r (w ∷ [])
+    pub hands : Is S.the-row d (LL.vals S.the-type S′.the-laws d) → Room d (n₁ P) (n₂ P) (n₃ P) → (𝓣 : Tables 𝓤 H)
+        → Triple 𝓤 (𝓣 .C #hand) HandC
+        → {Γ : List (Item 𝓤)} {E : Env 𝓤 H} {xs : List Opd} {to : Place} {rest : Body} {Q : After 𝓤 H}
+        → Opds (Go {0}) W (raw (HandC .pre to-hand) ∷ Γ) E xs (HandC .args to-hand)
+        → ((r : ChartCounts) (w : Val) (zs₁ : List VertexEntry) (zs₂ : List EdgeEntry) (zs₃ : List BundleEntry) → Over r zs₁ zs₂ zs₃
+        → Is Ct.the-row r (w ∷ [])
         → Sq W (ending P 𝓤 H A W r w zs₁ zs₂ zs₃ ++ Γ) (lands (𝓣 .C) (𝓣 .Λ) E to w rest Q))
         → Sq W (‵ (token₀ P) ∷ ‵ (part P y) ∷ (lists P 𝓤 H A W ++ Γ)) (runs (𝓣 .C) (𝓣 .Λ) E (seq (call #hand xs to) rest) Q)
     hands is-d room 𝓣 known operands k =
@@ -87,8 +94,14 @@ module _ {M : Type 1} (𝓤 : URA M) (H : Heap 𝓤) (A : Atoms 𝓤) (mem : Mem
         owned ! S.the-row (Is S.the-row) ((LL.makes S.the-type S′.the-plain) 𝓤 H A) d _ is-d $ fjoin ! $ move ! (1 ∷ 0 ∷ []) $
         use2 W (raw (HandC .pre to-hand)) (goes-hand room) $
         calls-at ! (fmOf 𝓤 H (W .laws) 𝓣) HandC known to-hand operands (λ w.
-        use1 W (later (some (λ (r : ChartCounts). (tokens P 𝓤 H A W ⊛ ‵ (Ct.the-row .own r (w ∷ []))) ⊛ raw (ensured 𝓤 H A hand.ended (hand.clauses 𝓤 H A mem run) (κs P) args tt r)))) (id⊢ 𝓤 _) $ await ! tt $ pick ! (λ r.
-        split ! $ move ! (1 ∷ []) $ use1 W (some (λ (zs : Lasts). ‵ (lasts hand.ended (κs P) args zs) ⊛ raw (fact 𝓤 (Over r (zs .1 .1 .0) (zs .1 .1 .1 .0) (zs .1 .1 .1 .1 .0))))) (id⊢ 𝓤 _) $ pick ! (λ zs.
+        use1 W
+        (later
+        (some (λ (r : ChartCounts). (tokens P 𝓤 H A W ⊛ ‵ (Ct.the-row .own r (w ∷ [])))
+        ⊛ raw (ensured 𝓤 H A hand.ended (hand.clauses 𝓤 H A mem run) (κs P) args tt r)))) (id⊢ 𝓤 _) $ await ! tt $ pick ! (λ r.
+        split ! $ move ! (1 ∷ []) $
+        use1 W
+        (some (λ (zs : Lasts). ‵ (lasts hand.ended (κs P) args zs)
+        ⊛ raw (fact 𝓤 (Over r (zs .1 .1 .0) (zs .1 .1 .1 .0) (zs .1 .1 .1 .1 .0))))) (id⊢ 𝓤 _) $ pick ! (λ zs.
         split ! $ move ! (1 ∷ []) $ heard ! (Over r (zs .1 .1 .0) (zs .1 .1 .1 .0) (zs .1 .1 .1 .1 .0)) (λ e.
         fsplit ! $ drop ! $ fsplit ! $ drop ! $ fsplit ! $ fsplit ! $ move ! (1 ∷ []) $ drop ! $ move ! (1 ∷ []) $ fsplit ! $ fsplit ! $
         move ! (1 ∷ []) $ drop ! $ move ! (1 ∷ []) $

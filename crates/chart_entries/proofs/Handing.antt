@@ -52,7 +52,8 @@ module _ (vs vs′ : List VertexEntry) (es es′ : List EdgeEntry) (bs bs′ : L
         };
       })
 
-  pub of-graph : (n : ℕ) (ends : List ℕ) (given : Bool) (field : List ℕ) → GraphSheet n ends given field (length vs) (length es) (length bs) d
+  pub of-graph : (n : ℕ) (ends : List ℕ) (given : Bool) (field : List ℕ)
+      → GraphSheet n ends given field (length vs) (length es) (length bs) d
       → Leaves d ends vs es bs r vs′ es′ bs′ → HandedOver (graphDrawn n ends given field) vs es bs r vs′ es′ bs′
   of-graph n ends given field = handed (graphDrawn n ends given field) ends
 

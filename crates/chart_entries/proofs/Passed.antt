@@ -47,13 +47,18 @@ pub record Passed : Type 0 where
 
 -- ---- the parameters that are lists, of a function with four lifetimes: each is given up
 abbrev pub slots : List (Slot 4)
-slots = mutSliceOf (1 ∷ []) tt (plain (λ _. Vt.the-row)) ∷ mutSliceOf (2 ∷ []) tt (plain (λ _. Et.the-row)) ∷ mutSliceOf (3 ∷ []) tt (plain (λ _. Bt.the-row)) ∷ []
+slots =
+    mutSliceOf (1 ∷ []) tt (plain (λ _. Vt.the-row)) ∷ mutSliceOf (2 ∷ []) tt (plain (λ _. Et.the-row))
+    ∷ mutSliceOf (3 ∷ []) tt (plain (λ _. Bt.the-row)) ∷ []
 
 abbrev pub kept : Kepts slots
 kept = (yes, (yes, (yes, tt)))
 
 abbrev pub gave : Stays slots kept
-gave = (gave-slice (1 ∷ []) tt (plain (λ _. Vt.the-row)), (gave-slice (2 ∷ []) tt (plain (λ _. Et.the-row)), (gave-slice (3 ∷ []) tt (plain (λ _. Bt.the-row)), tt)))
+gave = (
+  gave-slice (1 ∷ []) tt (plain (λ _. Vt.the-row)),
+  (gave-slice (2 ∷ []) tt (plain (λ _. Et.the-row)), (gave-slice (3 ∷ []) tt (plain (λ _. Bt.the-row)), tt)),
+)
 
 abbrev rows : Lfts 4 → List RattleType
 rows κs = typesAt slots κs
@@ -62,19 +67,27 @@ abbrev pub spelled : (κs : Lfts 4) → Spells (rows κs)
 spelled κs = (slice-vals, (slice-vals, (slice-vals, tt)))
 
 pub told : (κs : Lfts 4) → Tellss (rows κs) (Ises (rows κs)) (spelled κs)
-told κs = (mut-slice-tells (named 1) (κs .1 .0) Vt.the-row, (mut-slice-tells (named 2) (κs .1 .1 .0) Et.the-row, (mut-slice-tells (named 3) (κs .1 .1 .1 .0) Bt.the-row, tt)))
+told κs = (
+  mut-slice-tells (named 1) (κs .1 .0) Vt.the-row,
+  (mut-slice-tells (named 2) (κs .1 .1 .0) Et.the-row, (mut-slice-tells (named 3) (κs .1 .1 .1 .0) Bt.the-row, tt)),
+)
 
 pub gone : {M : Type 1} (𝓤 : URA M) (H : Heap 𝓤) (A : Atoms 𝓤) (W : Given 𝓤 H A) → AllGo 𝓤 H A W 4 slots kept gave
-gone 𝓤 H A W = (goes-gave-slice 𝓤 H A W 4 1 tt (plain (λ _. Vt.the-row)), (goes-gave-slice 𝓤 H A W 4 2 tt (plain (λ _. Et.the-row)), (goes-gave-slice 𝓤 H A W 4 3 tt (plain (λ _. Bt.the-row)), tt)))
+gone 𝓤 H A W = (
+  goes-gave-slice 𝓤 H A W 4 1 tt (plain (λ _. Vt.the-row)),
+  (goes-gave-slice 𝓤 H A W 4 2 tt (plain (λ _. Et.the-row)), (goes-gave-slice 𝓤 H A W 4 3 tt (plain (λ _. Bt.the-row)), tt)),
+)
 
 -- .. and the others, of which nothing is had at the end
 abbrev pub partSlot : Slot 4
 partSlot = shrSliceOf (0 ∷ []) tt (plain (λ _. u8))
 
-pub unsaid : {M : Type 1} (𝓤 : URA M) (H : Heap 𝓤) (A : Atoms 𝓤) (W : Given 𝓤 H A) (s : Slot 4) → Silent 𝓤 H A W 4 s yes → Goes 𝓤 H A W 4 s yes (stay-dropped s yes)
+pub unsaid : {M : Type 1} (𝓤 : URA M) (H : Heap 𝓤) (A : Atoms 𝓤) (W : Given 𝓤 H A) (s : Slot 4) → Silent 𝓤 H A W 4 s yes
+    → Goes 𝓤 H A W 4 s yes (stay-dropped s yes)
 unsaid 𝓤 H A W s = goes-dropped 𝓤 H A W 4 s yes
 
-abbrev pub lend : (κs : Lfts 4) → Shares 4 → (a : Denots (rows κs)) → Are (rows κs) (Ises (rows κs)) a (valss (rows κs) (spelled κs) a) → Passed
+abbrev pub lend : (κs : Lfts 4) → Shares 4 → (a : Denots (rows κs)) → Are (rows κs) (Ises (rows κs)) a (valss (rows κs) (spelled κs) a)
+    → Passed
 lend κs qs a are = record {
   κ₀ = κs .0;
   κ₁ = κs .1 .0;
@@ -144,13 +157,19 @@ module _ (P : Passed) where
     module _ (r : ChartCounts) (w : Val) (zs₁ : List VertexEntry) (zs₂ : List EdgeEntry) (zs₃ : List BundleEntry) where
       -- what a walk has at its end: the answer, the last lists and the tokens
       abbrev pub ending : List (Item 𝓤)
-      ending = ‵ (Ct.the-row .own r (w ∷ [])) ∷ ‵ token₃ ∷ ‵ (finally Bt.the-row (P .x₃ .name) zs₃) ∷ ‵ token₂ ∷ ‵ (finally Et.the-row (P .x₂ .name) zs₂)
+      ending =
+          ‵ (Ct.the-row .own r (w ∷ [])) ∷ ‵ token₃ ∷ ‵ (finally Bt.the-row (P .x₃ .name) zs₃) ∷ ‵ token₂
+          ∷ ‵ (finally Et.the-row (P .x₂ .name) zs₂)
           ∷ ‵ token₁ ∷ ‵ (finally Vt.the-row (P .x₁ .name) zs₁) ∷ ‵ token₀ ∷ []
 
       abbrev pub finals : Fml
-      finals = fsep (finally Vt.the-row (P .x₁ .name) zs₁) (fsep (finally Et.the-row (P .x₂ .name) zs₂) (fsep (finally Bt.the-row (P .x₃ .name) zs₃) ftrue))
+      finals =
+          fsep (finally Vt.the-row (P .x₁ .name) zs₁)
+          (fsep (finally Et.the-row (P .x₂ .name) zs₂) (fsep (finally Bt.the-row (P .x₃ .name) zs₃) ftrue))
 
       pub gathered : ent 𝓤 (⋆ 𝓤 H A ending) (⋆ 𝓤 H A (tokens ∷ ‵ finals ∷ ‵ (Ct.the-row .own r (w ∷ [])) ∷ []))
-      gathered = qed W ending ∵ nothing ! $ move ! (2 ∷ 0 ∷ []) $ join ! $ move ! (3 ∷ 0 ∷ []) $ join ! $ move ! (4 ∷ 0 ∷ []) $ join ! $ move ! (5 ∷ 0 ∷ []) $ join ! $
+      gathered =
+          qed W ending ∵ nothing ! $ move ! (2 ∷ 0 ∷ []) $ join ! $ move ! (3 ∷ 0 ∷ []) $ join ! $ move ! (4 ∷ 0 ∷ []) $ join ! $
+          move ! (5 ∷ 0 ∷ []) $ join ! $
           nothing ! $ move ! (3 ∷ 0 ∷ []) $ fjoin ! $ move ! (3 ∷ 0 ∷ []) $ fjoin ! $ move ! (3 ∷ 0 ∷ []) $ fjoin ! $
           move ! (1 ∷ 0 ∷ []) $ done !

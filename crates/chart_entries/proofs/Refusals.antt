@@ -14,13 +14,15 @@ use Rattle.specification.specs.declared.ChartCounts.{ChartCounts}
 use Rattle.specification.specs.Lent.{Untouched}
 use Rattle.chart_entries.specs.Promise.{Listed, HandedOver}
 
-pub record Refused (vs : List VertexEntry) (es : List EdgeEntry) (bs : List BundleEntry) (r : ChartCounts) (vs′ : List VertexEntry) (es′ : List EdgeEntry) (bs′ : List BundleEntry) : Type 0 where
+pub record Refused (vs : List VertexEntry) (es : List EdgeEntry) (bs : List BundleEntry) (r : ChartCounts) (vs′ : List VertexEntry)
+    (es′ : List EdgeEntry) (bs′ : List BundleEntry) : Type 0 where
   pub vertex-list : Untouched vs vs′
   pub edge-list : Untouched es es′
   pub bundle-list : Untouched bs bs′
   pub counts : Zeroed r
 
-module _ (d : Drawn) (ok : Sound d) (vs vs′ : List VertexEntry) (es es′ : List EdgeEntry) (bs bs′ : List BundleEntry) (r : ChartCounts) (h : HandedOver d vs es bs r vs′ es′ bs′) where
+module _ (d : Drawn) (ok : Sound d) (vs vs′ : List VertexEntry) (es es′ : List EdgeEntry) (bs bs′ : List BundleEntry) (r : ChartCounts)
+    (h : HandedOver d vs es bs r vs′ es′ bs′) where
   pub refused-untouched : (r .refusal ≡ 0 → ⊥) → Refused vs es bs r vs′ es′ bs′
   refused-untouched ne =
       let none = lent-quiet d ok (length vs) (length es) (length bs) (λ z. ne (h .refusal ∙ z)) in

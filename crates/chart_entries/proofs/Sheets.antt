@@ -1,5 +1,6 @@
 -- What a sheet has: the entries of the chart, over a plan's tables, or none. Cites drawing's laws. Assumes nothing.
-use Rattle.counting.proofs.Prelude.{_≡_, refl, sym, ap, ap₂, subst, _∙_, Bool, true, List, ℕ, _+_, _-_, _*_, _/_, _<_, _≤_, min, arith, length, getD, take, drop, replicate}
+use Rattle.counting.proofs.Prelude.{_≡_, refl, sym, ap, ap₂, subst, _∙_, Bool, true, List, ℕ, _+_, _-_, _*_, _/_, _<_, _≤_, min, arith}
+use Rattle.counting.proofs.Prelude.{length, getD, take, drop, replicate}
 use Rattle.counting.specs.Quads.{quad}
 use Rattle.counting.proofs.Zeros.{zeros}
 use Rattle.specification.specs.Sets.{member?}
@@ -24,7 +25,8 @@ use Rattle.chart_plan.proofs.Nothing.{empty}
 use Rattle.chart_plan.proofs.Shortage.{short-vertices, short-edges, short-bundles, enough, lent-short, lent-whole}
 use Rattle.chart_entries.specs.declared.Sheet.{Sheet}
 use Rattle.chart_entries.specs.Steps.Entries.{vertexAt, kindBy, kindAt, transitive?, edgeAt, bundleAt}
-use Rattle.chart_entries.specs.Steps.Sheets.{blankOf, sheetOf, Drafted, Tables, Room, SheetOf, GraphSheet, RecordSheet, endsIn, endsOf}
+use Rattle.chart_entries.specs.Steps.Sheets.{blankOf, sheetOf, Drafted, Tables, Room, SheetOf, GraphSheet, RecordSheet, endsIn}
+use Rattle.chart_entries.specs.Steps.Sheets.{endsOf}
 
 -- ---- an edge's entry
 

@@ -31,5 +31,6 @@ pub record Left (d : Drawn) (vs : List VertexEntry) (es : List EdgeEntry) (bs : 
   pub refusal : r .refusal ≡ d .refusal
   pub listed : Listed (d .graph) (planOf (d .graph)) vs es bs r vs′ es′ bs′
 
-abbrev pub HandedOver : Drawn → List VertexEntry → List EdgeEntry → List BundleEntry → ChartCounts → List VertexEntry → List EdgeEntry → List BundleEntry → Type 0
+abbrev pub HandedOver : Drawn → List VertexEntry → List EdgeEntry → List BundleEntry → ChartCounts → List VertexEntry → List EdgeEntry
+    → List BundleEntry → Type 0
 HandedOver d vs es bs = Left (lent (length vs) (length es) (length bs) d) vs es bs

@@ -1,6 +1,7 @@
 -- The bundles and tracks of a sound graph: every path-transitive edge is in a bundle of its channel, and how many of both there are.
 -- Assumes nothing.
-use Rattle.counting.proofs.Prelude.{_≡_, refl, ap, Bool, true, false, not, List, ℕ, _*_, _≤_, _<_, min, arith, eqb, length, eq-eqb, eqb-true, lt-ltb}
+use Rattle.counting.proofs.Prelude.{_≡_, refl, ap, Bool, true, false, not, List, ℕ, _*_, _≤_, _<_, min, arith, eqb, length, eq-eqb}
+use Rattle.counting.proofs.Prelude.{eqb-true, lt-ltb}
 use Rattle.specification.specs.Count.{count}
 use Rattle.specification.specs.Graph.{edge?}
 use Rattle.specification.specs.Channels.{channelOf, positionOf}
@@ -96,21 +97,30 @@ module _ (c : Content) (s : Sound c) where
     -- which is the lower of those that its ends have
     pub side-number : min (numberFrom 0 bs true v) (numberFrom 0 bs false u) ≡ bundleOf bs u v
     unfolding planOf bundled tracked
-    side-number = theorems.numbered n (c .tails) (c .heads) (length ls) (channelOf ls) (positionOf ls) (rowOf c) u v low e (vertices-small c s) .0
+    side-number =
+        theorems.numbered n (c .tails) (c .heads) (length ls) (channelOf ls) (positionOf ls) (rowOf c) u v low e (vertices-small c s) .0
 
   -- ---- tracks
 
   pub bundle-intervals : Intervals (length bs) (λ b. bundleIn p b .first) (λ b. bundleIn p b .last)
-  bundle-intervals = record { ordered = bundle-ordered; below = λ b l. omega (arith, bundle-ordered b l, bundle-rows b l, rows-few c s, vertices-small c s) }
+  bundle-intervals =
+      record {
+        ordered = bundle-ordered;
+        below = λ b l. omega (arith, bundle-ordered b l, bundle-rows b l, rows-few c s, vertices-small c s);
+      }
 
   -- tracks are lawful, and no lawful ones are fewer
   pub plan-packed : Packed (length bs) (λ b. bundleIn p b .channel) (λ b. bundleIn p b .first) (λ b. bundleIn p b .last) (trackIn p)
   unfolding planOf bundled tracked
-  plan-packed = tracks-packed (length bs) (λ b. bundleIn p b .channel) (λ b. bundleIn p b .first) (λ b. bundleIn p b .last) bundles-256 bundle-intervals
+  plan-packed =
+      tracks-packed (length bs) (λ b. bundleIn p b .channel) (λ b. bundleIn p b .first) (λ b. bundleIn p b .last) bundles-256
+      bundle-intervals
 
   pub track-below : (b : ℕ) → b < length bs → trackIn p b < tracksIn p (bundleIn p b .channel)
   unfolding tracksIn
-  track-below b l = above-each (length bs) (λ x. eqb (bundleIn p x .channel) (bundleIn p b .channel)) (trackIn p) b l (eq-eqb (bundleIn p b .channel) (bundleIn p b .channel) refl)
+  track-below b l =
+      above-each (length bs) (λ x. eqb (bundleIn p x .channel) (bundleIn p b .channel)) (trackIn p) b l
+      (eq-eqb (bundleIn p b .channel) (bundleIn p b .channel) refl)
 
   -- 1 + the highest track of a channel is the number of different ones
   pub tracks-different : (l : ℕ) → differentIn (length bs) (λ b. eqb (bundleIn p b .channel) l) (trackIn p) ≡ tracksIn p l
@@ -119,13 +129,18 @@ module _ (c : Content) (s : Sound c) where
 
   -- a channel has at most two a vertex
   pub tracks-few : (l : ℕ) → tracksIn p l ≤ 2 * sizeOf c l
-  tracks-few l = omega (arith, tracks-different l, different-count (length bs) (λ b. eqb (bundleIn p b .channel) l) (trackIn p), few-of-channel l)
+  tracks-few l =
+      omega (arith, tracks-different l, different-count (length bs) (λ b. eqb (bundleIn p b .channel) l) (trackIn p), few-of-channel l)
 
   -- and none past the last channel
   pub tracks-past : (l : ℕ) → length ls ≤ l → tracksIn p l ≡ 0
   unfolding tracksIn
   tracks-past l h =
-      omega (arith, above-le (length bs) (λ b. eqb (bundleIn p b .channel) l) (trackIn p) 0 (λ b k e. absurd (omega (arith, bundle-channel b k, eqb-true (bundleIn p b .channel) l e))))
+      omega (
+        arith,
+        above-le (length bs) (λ b. eqb (bundleIn p b .channel) l) (trackIn p) 0
+            (λ b k e. absurd (omega (arith, bundle-channel b k, eqb-true (bundleIn p b .channel) l e))),
+      )
 
   -- the track of an edge's bundle is one of its channel
   pub side-track : (u v : ℕ) → sideEdge? c u v ≡ true → trackIn p (bundleOf bs u v) < tracksIn p (channelOf ls u)

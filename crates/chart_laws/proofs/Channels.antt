@@ -1,10 +1,13 @@
--- The channels of a sound graph, given or planned: they cover the vertices and divide them, and planned ones are the fewest. Assumes nothing.
-use Rattle.counting.proofs.Prelude.{_≡_, refl, sym, ap, _∙_, ⊎-elim, Bool, true, false, true≢false, _&&_, List, ℕ, _≤_, _<_, arith, eqb, length, eq-eqb}
+-- The channels of a sound graph, given or planned: they cover the vertices and
+-- divide them, and planned ones are the fewest. Assumes nothing.
+use Rattle.counting.proofs.Prelude.{_≡_, refl, sym, ap, _∙_, ⊎-elim, Bool, true, false, true≢false, _&&_, List, ℕ, _≤_, _<_, arith, eqb}
+use Rattle.counting.proofs.Prelude.{length, eq-eqb}
 use Rattle.specification.specs.Count.{indicator, choose, sum, count, some}
 use Rattle.specification.specs.Graph.{strange?}
 use Rattle.specification.specs.Channels.{channelOf, positionOf, linesOf, verticesOf, unknown?}
 use Rattle.specification.specs.Planning.{planned}
-use Rattle.specification.specs.Checks.{Content, edgesOf, size?, stranger?, double?, ring?, repeated?, lacking?, unled?, looseChecks, laterChecks, firstOf, refusalOf, Sound}
+use Rattle.specification.specs.Checks.{Content, edgesOf, size?, stranger?, double?, ring?, repeated?, lacking?, unled?, looseChecks}
+use Rattle.specification.specs.Checks.{laterChecks, firstOf, refusalOf, Sound}
 use Rattle.specification.specs.Chart.{leads?, channelsOf}
 use Rattle.counting.proofs.Truth.{true-or-false, or-neither}
 use Rattle.counting.proofs.Classes.{sum-one, sum-term, count-classes}
@@ -20,7 +23,11 @@ use Rattle.chart_laws.proofs.Leading.{leads-order}
 
 -- of seven checks in a row none fails
 none-fails : (a b d e f g h : Bool)
-    → _≡_ {A = ℕ} (choose a (λ _. 2) (λ _. choose b (λ _. 3) (λ _. choose d (λ _. 4) (λ _. choose e (λ _. 5) (λ _. choose f (λ _. 6) (λ _. choose g (λ _. 6) (λ _. choose h (λ _. 7) (λ _. 0)))))))) 0
+    → _≡_ {A = ℕ}
+    (choose a (λ _. 2)
+    (λ _. choose b (λ _. 3)
+    (λ _. choose d (λ _. 4)
+    (λ _. choose e (λ _. 5) (λ _. choose f (λ _. 6) (λ _. choose g (λ _. 6) (λ _. choose h (λ _. 7) (λ _. 0)))))))) 0
     → (b ≡ false) × (f ≡ false) × (g ≡ false) × (h ≡ false)
 none-fails true b d e f g h z = absurd (omega arith)
 none-fails false true d e f g h z = absurd (omega arith)
@@ -59,7 +66,9 @@ module _ (c : Content) (s : Sound c) where
   unfolding stranger? repeated? lacking? unled? leads?
   lines-cover g =
       given-covers (leads? c) n (c .field)
-      (given-passes (c .given) _ (or-neither (some (edgesOf c) (strange? n (c .tails) (c .heads))) (c .given && unknown? n (verticesOf (c .field))) (passes .0) .1) g)
+      (given-passes (c .given) _
+      (or-neither (some (edgesOf c) (strange? n (c .tails) (c .heads))) (c .given && unknown? n (verticesOf (c .field))) (passes .0) .1)
+      g)
       (given-passes (c .given) _ (passes .1) g)
       (given-passes (c .given) _ (passes .2) g)
       (given-passes (c .given) _ (passes .3) g)
@@ -101,7 +110,12 @@ module _ (c : Content) (s : Sound c) where
   unfolding count
   size-positive l h =
       let u = channels-divide .used l h in
-      omega (arith, sum-term n (λ v. indicator (eqb (channelOf ls v) l)) (u .0) (u .1), ap indicator (eq-eqb (channelOf ls (u .0)) l (u .2)))
+      omega (
+        arith,
+        sum-term n (λ v. indicator (eqb (channelOf ls v) l)) (u .0) (u .1),
+        ap indicator
+            (eq-eqb (channelOf ls (u .0)) l (u .2)),
+      )
 
   pub channels-few : length ls ≤ n
   channels-few = omega (arith, channels-bound (length ls) (sizeOf c) size-positive, sizes-sum)

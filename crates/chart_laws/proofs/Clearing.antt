@@ -9,7 +9,8 @@ use Rattle.specification.specs.Geometry.{Point, ownColumn, Clear, courseOf}
 use Rattle.specification.specs.declared.Course.{Course}
 use Rattle.specification.specs.declared.Kind.{Kind}
 use Rattle.specification.specs.declared.Kind.the-variants.{Path, PathTransitive}
-use Rattle.specification.specs.Chart.{rowOf, tailOf, headOf, Plan, channelsOf, tracked, bundled, planOf, widths, columnIn, placeOf, crossing, kindBetween, vertexEntry, edgeEntry, bundleEntry, polylineOf}
+use Rattle.specification.specs.Chart.{rowOf, tailOf, headOf, Plan, channelsOf, tracked, bundled, planOf, widths, columnIn, placeOf}
+use Rattle.specification.specs.Chart.{crossing, kindBetween, vertexEntry, edgeEntry, bundleEntry, polylineOf}
 use Rattle.specification.specs.declared.Course.the-variants as course
 use Rattle.geometry.specs.Placement.{Placement}
 use Rattle.geometry.specs.Polylines.{Drawn, path, track}
@@ -71,14 +72,16 @@ module _ (c : Content) (s : Sound c) where
     unfolding polylineOf vertexEntry
     path-drawn e a = path e (next e a)
 
-    side-drawn : channelOf ls u ≡ channelOf ls v → adjacent? (positionOf ls u) (positionOf ls v) ≡ false → DrawnBy u v (PathTransitive (bundleOf (p .bundles) u v))
+    side-drawn : channelOf ls u ≡ channelOf ls v → adjacent? (positionOf ls u) (positionOf ls v) ≡ false
+        → DrawnBy u v (PathTransitive (bundleOf (p .bundles) u v))
     unfolding planOf bundled tracked columnIn polylineOf vertexEntry bundleEntry
     side-drawn e a = track _ e (side-track c s u v (side-edge c s u v edge hu hv e a))
 
     cross-drawn : channelOf ls u ≢ channelOf ls v → DrawnBy u v (crossing (courseOf (placeOf c p) n u v))
     cross-drawn e =
         rw (line-crossing u v (courseOf (placeOf c p) n u v))
-        (course-drawn n (placeOf c p) (channelOf ls) (positionOf ls) (ownColumn (widths p)) (widths p) chart-placement u v hu hv e (omega arith) (omega arith))
+        (course-drawn n (placeOf c p) (channelOf ls) (positionOf ls) (ownColumn (widths p)) (widths p) chart-placement u v hu hv e
+        (omega arith) (omega arith))
 
     pub edge-drawn : DrawnBy u v (kindBetween c p u v)
     edge-drawn = ⊎-elim
@@ -98,6 +101,7 @@ module _ (c : Content) (s : Sound c) where
   unfolding edgeEntry
   chart-clear i l =
       let b = s .ends i l in
-      drawn-clear n (placeOf c p) (channelOf ls) (positionOf ls) (ownColumn (widths p)) (widths p) chart-placement (tailOf c i) (headOf c i) _ (b .0) (b .1)
+      drawn-clear n (placeOf c p) (channelOf ls) (positionOf ls) (ownColumn (widths p)) (widths p) chart-placement (tailOf c i) (headOf c i)
+      _ (b .0) (b .1)
       (edge-rises c s i l)
       (edge-drawn (tailOf c i) (headOf c i) (b .0) (b .1) (edge-there c s i l) (edge-rises c s i l))

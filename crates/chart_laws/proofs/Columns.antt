@@ -22,7 +22,8 @@ module _ (c : Content) (s : Sound c) where
   -- a channel's own column, and the gap after it
   pub own-on-page : (l : ℕ) → l < length ls → ownColumn (widths p) l + gapWidth < pageColumns
   own-on-page =
-      column-bound (widths p) (length ls) 3 128 (sizeOf c) (λ l h. tracks-few c s l) (λ l h. omega arith) (size-positive c s) (omega (arith, sizes-sum c s, vertices-small c s))
+      column-bound (widths p) (length ls) 3 128 (sizeOf c) (λ l h. tracks-few c s l) (λ l h. omega arith) (size-positive c s)
+      (omega (arith, sizes-sum c s, vertices-small c s))
 
   pub column-own : (v : ℕ) → columnIn p v ≡ ownColumn (widths p) (channelOf ls v)
   unfolding planOf bundled tracked columnIn

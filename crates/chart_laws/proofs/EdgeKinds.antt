@@ -18,7 +18,8 @@ module _ (c : Content) (u v : ℕ) where
   unfolding planOf bundled tracked kindBetween
   kind-path e a = rw (eq-eqb _ _ e, a)
 
-  pub kind-side : channelOf ls u ≡ channelOf ls v → adjacent? (positionOf ls u) (positionOf ls v) ≡ false → kindBetween c p u v ≡ PathTransitive (bundleOf (p .bundles) u v)
+  pub kind-side : channelOf ls u ≡ channelOf ls v → adjacent? (positionOf ls u) (positionOf ls v) ≡ false
+      → kindBetween c p u v ≡ PathTransitive (bundleOf (p .bundles) u v)
   unfolding planOf bundled tracked kindBetween
   kind-side e a = rw (eq-eqb _ _ e, a)
 

@@ -23,10 +23,12 @@ module _ (c : Content) (s : Sound c) where
   -- an edge is marked where a route of two or more edges goes the same way
   pub marked-longer : (i : ℕ) → i < edgesOf c → (transitiveEdge? c i ≡ true) ↔ Longer (Edge (c .tails) (c .heads)) (tailOf c i) (headOf c i)
   unfolding transitiveEdge?
-  marked-longer i l = let b = s .ends i l in transitive-longer (leads? c) n (c .tails) (c .heads) chart-dag (tailOf c i) (headOf c i) (b .0) (b .1)
+  marked-longer i l =
+      let b = s .ends i l in transitive-longer (leads? c) n (c .tails) (c .heads) chart-dag (tailOf c i) (headOf c i) (b .0) (b .1)
 
   -- an edge that is not marked is a reduced one
-  pub unmarked-reduced : (i : ℕ) → i < edgesOf c → transitiveEdge? c i ≡ false → Reduced (leads? c) n (c .tails) (c .heads) (tailOf c i) (headOf c i)
+  pub unmarked-reduced : (i : ℕ) → i < edgesOf c → transitiveEdge? c i ≡ false
+      → Reduced (leads? c) n (c .tails) (c .heads) (tailOf c i) (headOf c i)
   unfolding transitiveEdge?
   unmarked-reduced i l e = (edge-decided (c .tails) (c .heads) _ _ .1 (edge-there c s i l), e)
 

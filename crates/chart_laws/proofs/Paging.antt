@@ -8,7 +8,8 @@ use Rattle.specification.specs.Geometry.{gapWidth, trackAt, courseOf}
 use Rattle.specification.specs.declared.Course.{Course}
 use Rattle.specification.specs.declared.Kind.{Kind}
 use Rattle.specification.specs.declared.Kind.the-variants.{Path, PathTransitive, Bent}
-use Rattle.specification.specs.Chart.{tailOf, headOf, Plan, channelsOf, planOf, columnIn, placeOf, crossing, kindBetween, vertexEntry, edgeEntry, bundleEntry, polylineOf, OnPage, none, more}
+use Rattle.specification.specs.Chart.{tailOf, headOf, Plan, channelsOf, planOf, columnIn, placeOf, crossing, kindBetween, vertexEntry}
+use Rattle.specification.specs.Chart.{edgeEntry, bundleEntry, polylineOf, OnPage, none, more}
 use Rattle.specification.specs.declared.Course.the-variants as course
 use Rattle.specification.specs.Limits.{pageColumns, pageRows}
 use Rattle.geometry.proofs.Crossing.{course-within}
@@ -63,7 +64,8 @@ module _ (c : Content) (s : Sound c) where
         (λ a. rw (kind-path c u v e a) path-paged)
         (λ a. rw (kind-side c u v e a) (side-paged (bundleOf (p .bundles) u v)))
         (true-or-false (adjacent? (positionOf ls u) (positionOf ls v))))
-        (λ q. let e : channelOf ls u ≢ channelOf ls v = eqb-false _ _ q in rw (kind-cross c u v e) (cross-paged (courseOf (placeOf c p) n u v) refl))
+        (λ q. let e : channelOf ls u ≢ channelOf ls v = eqb-false _ _ q in
+        rw (kind-cross c u v e) (cross-paged (courseOf (placeOf c p) n u v) refl))
         (true-or-false (eqb (channelOf ls u) (channelOf ls v)))
 
   -- ON THE PAGE: no stroke refuses a place of the chart

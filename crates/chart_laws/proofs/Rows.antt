@@ -1,4 +1,5 @@
--- The rows of a sound graph: they rise along every edge, are fewer than the vertices, and no other rows that rise are lower. Assumes nothing.
+-- The rows of a sound graph: they rise along every edge, are fewer than the
+-- vertices, and no other rows that rise are lower. Assumes nothing.
 use Rattle.counting.proofs.Prelude.{_≡_, refl, ap, Bool, true, ℕ, _≤_, _<_, arith}
 use Rattle.specification.specs.Count.{above}
 use Rattle.specification.specs.Graph.{Edge, edge?}

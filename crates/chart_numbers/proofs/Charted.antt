@@ -1,5 +1,6 @@
 -- From what the fills leave to the chart: over a plan's lists the entries are the chart's. Cites drawing's laws. Assumes nothing.
-use Rattle.counting.proofs.Prelude.{_≡_, refl, sym, ap, ap₂, _∙_, Bool, not, List, ℕ, _+_, _*_, _/_, _%_, _<_, _≤_, min, arith, length, getD, take}
+use Rattle.counting.proofs.Prelude.{_≡_, refl, sym, ap, ap₂, _∙_, Bool, not, List, ℕ, _+_, _*_, _/_, _%_, _<_, _≤_, min, arith, length}
+use Rattle.counting.proofs.Prelude.{getD, take}
 use Rattle.specification.specs.Count.{count}
 use Rattle.counting.proofs.Sums.{count-ext}
 use Rattle.specification.specs.Lent.{Filled}
@@ -8,14 +9,16 @@ use Rattle.specification.specs.Sets.{member?}
 use Rattle.reach.proofs.Ends.{tail-at, head-at}
 use Rattle.specification.specs.Marks.{reducedCount}
 use Rattle.specification.specs.Checks.{Content, edgesOf}
-use Rattle.specification.specs.Chart.{planOf, transitiveEdge?, reducedEdges, vertexEntry, edgeEntry, bundleEntry, tailOf, headOf, kindBetween}
+use Rattle.specification.specs.Chart.{planOf, transitiveEdge?, reducedEdges, vertexEntry, edgeEntry, bundleEntry, tailOf, headOf}
+use Rattle.specification.specs.Chart.{kindBetween}
 use Rattle.specification.specs.declared.VertexEntry.{VertexEntry}
 use Rattle.specification.specs.declared.EdgeEntry.{EdgeEntry}
 use Rattle.specification.specs.declared.BundleEntry.{BundleEntry}
 use Rattle.specification.specs.Drawn.{graphContent}
 use Rattle.chart_plan.specs.Laid.{Lists, Laid}
 use Rattle.chart_plan.specs.declared.Plan.{Plan}
-use Rattle.chart_plan.proofs.Entries.{edges-counted, small, edges-few, bundles-few, ends-known, vertex-drawn, bundle-drawn, kind-among, mark-drawn}
+use Rattle.chart_plan.proofs.Entries.{edges-counted, small, edges-few, bundles-few, ends-known, vertex-drawn, bundle-drawn, kind-among}
+use Rattle.chart_plan.proofs.Entries.{mark-drawn}
 use Rattle.chart_numbers.specs.declared.Counts.{Counts}
 use Rattle.chart_numbers.specs.Chart.{Numbered}
 use Rattle.specification.specs.Numbers.{wordNumber, arrowNumber, bundleNumber, words, bundles}

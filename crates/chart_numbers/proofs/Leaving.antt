@@ -1,5 +1,6 @@
 -- From the lists and the counts to the promise. Assumes nothing.
-use Rattle.counting.proofs.Prelude.{_≡_, refl, sym, ap, ap₂, subst, _∙_, Bool, true, false, _||_, List, ℕ, _+_, _-_, _*_, _/_, _≤_, arith, ltb, length, take, drop, replicate, eq-eqb, ne-eqb, ltb-false}
+use Rattle.counting.proofs.Prelude.{_≡_, refl, sym, ap, ap₂, subst, _∙_, Bool, true, false, _||_, List, ℕ, _+_, _-_, _*_, _/_, _≤_, arith}
+use Rattle.counting.proofs.Prelude.{ltb, length, take, drop, replicate, eq-eqb, ne-eqb, ltb-false}
 use native.Mathlib.Decide.{ℕ-discrete}
 use Rattle.specification.specs.Count.{choose}
 use Rattle.specification.specs.Checks.{Content, edgesOf, refusalOf, nothing}

@@ -1,5 +1,6 @@
 -- Entries, one more at a time. Assumes nothing.
-use Rattle.counting.proofs.Prelude.{_≡_, refl, sym, ap, ap₂, _∙_, Bool, true, false, not, List, ℕ, zero, suc, _+_, _-_, _*_, _/_, _%_, _^_, _<_, arith, eqb, getD, set}
+use Rattle.counting.proofs.Prelude.{_≡_, refl, sym, ap, ap₂, _∙_, Bool, true, false, not, List, ℕ, zero, suc, _+_, _-_, _*_, _/_, _%_, _^_}
+use Rattle.counting.proofs.Prelude.{_<_, arith, eqb, getD, set}
 use native.Mathlib.Nat.{add-zero}
 use lib.Bits.{bitAnd}
 use Rattle.specification.specs.Count.{count, sum, indicator}

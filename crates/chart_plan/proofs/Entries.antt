@@ -1,5 +1,6 @@
 -- What the tables of a plan are, entry by entry: the chart's entries. Cites the chart's laws. Assumes nothing.
-use Rattle.counting.proofs.Prelude.{_≡_, refl, sym, ap, ap₂, _∙_, subst, _↔_, Bool, true, false, List, ℕ, _+_, _*_, _/_, _≤_, _<_, min, arith, eqb, length, getD, take, eqb-true}
+use Rattle.counting.proofs.Prelude.{_≡_, refl, sym, ap, ap₂, _∙_, subst, _↔_, Bool, true, false, List, ℕ, _+_, _*_, _/_, _≤_, _<_, min}
+use Rattle.counting.proofs.Prelude.{arith, eqb, length, getD, take, eqb-true}
 use lib.Seq.{getD-take, length-take-le}
 use Rattle.specification.specs.Count.{choose}
 use Rattle.specification.specs.Sets.{member?, at}
@@ -7,7 +8,8 @@ use Rattle.specification.specs.Channels.{channelOf, positionOf}
 use Rattle.specification.specs.Checks.{Content, edgesOf}
 use Rattle.specification.specs.Bundles.{bundleOf, adjacent?}
 use Rattle.specification.specs.Geometry.{Point, point, isHit, isBlocked, ownColumn, courseOf}
-use Rattle.specification.specs.Chart.{planOf, rowCount, widths, columnIn, placeOf, tailOf, headOf, crossing, transitiveEdge?, kindBetween, vertexEntry, bundleEntry}
+use Rattle.specification.specs.Chart.{planOf, rowCount, widths, columnIn, placeOf, tailOf, headOf, crossing, transitiveEdge?, kindBetween}
+use Rattle.specification.specs.Chart.{vertexEntry, bundleEntry}
 use Rattle.specification.specs.declared.Kind.{Kind}
 use Rattle.specification.specs.declared.Kind.the-variants.{Path, PathTransitive}
 use Rattle.specification.specs.declared.VertexEntry.{VertexEntry}

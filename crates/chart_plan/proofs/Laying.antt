@@ -1,6 +1,7 @@
--- What the lower layers promise of a graph that passes the checks is what its chart is drawn from. Cites their promises alone. Assumes
--- nothing.
-use Rattle.counting.proofs.Prelude.{_≡_, refl, sym, ap, _∙_, subst, _↔_, ⊎-elim, _&&_, List, ℕ, _*_, _/_, _≤_, _<_, min, arith, eqb, length, getD, eq-eqb, eqb-true}
+-- What the lower layers promise of a graph that passes the checks is what its
+-- chart is drawn from. Cites their promises alone. Assumes nothing.
+use Rattle.counting.proofs.Prelude.{_≡_, refl, sym, ap, _∙_, subst, _↔_, ⊎-elim, _&&_, List, ℕ, _*_, _/_, _≤_, _<_, min, arith, eqb, length}
+use Rattle.counting.proofs.Prelude.{getD, eq-eqb, eqb-true}
 use Rattle.specification.specs.Count.{choose, above}
 use Rattle.specification.specs.Sets.{member?, at, has?}
 use Rattle.specification.specs.Channels.{channelOf, positionOf, linesOf}
@@ -169,7 +170,8 @@ module _ {n : ℕ} {k : Checked} {e p spans number used column : List ℕ} (x : 
     all-of : counted ≡ n
     all-of =
         let r = x .room in
-        fitting-all n _ _ _ small (omega (arith, r .masks .places, small)) (omega (arith, r .spans, small)) (omega (arith, r .number, small))
+        fitting-all n _ _ _ small (omega (arith, r .masks .places, small)) (omega (arith, r .spans, small))
+        (omega (arith, r .number, small))
 
     all-channels : min m 128 ≡ length ls
     all-channels = omega (arith, known, arranged .counted, channels-small)

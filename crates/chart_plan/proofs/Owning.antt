@@ -17,9 +17,11 @@ module _ (tracks : ℕ → ℕ) (j : ℕ) where
   unfolding blockStart
   block-more = omega (arith, sum-more j (blockWidth (evenGaps tracks)))
 
-  pub block-within : (channels : ℕ) → j < channels → blockStart (evenGaps tracks) j + tracks j + 1 + 1 + 1 ≤ blockStart (evenGaps tracks) channels
+  pub block-within : (channels : ℕ) → j < channels
+      → blockStart (evenGaps tracks) j + tracks j + 1 + 1 + 1 ≤ blockStart (evenGaps tracks) channels
   unfolding blockStart
-  block-within channels h = omega (arith, sum-more j (blockWidth (evenGaps tracks)), sum-longer (j + 1) channels (blockWidth (evenGaps tracks)) (omega arith))
+  block-within channels h =
+      omega (arith, sum-more j (blockWidth (evenGaps tracks)), sum-longer (j + 1) channels (blockWidth (evenGaps tracks)) (omega arith))
 
   pub owns-more : {own : List ℕ} {start : ℕ} → j < 128 → Owns (evenGaps tracks) j own start
       → Owns (evenGaps tracks) (j + 1) (set own j (start + tracks j + 1)) (start + tracks j + 1 + 1 + 1)

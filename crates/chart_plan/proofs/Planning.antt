@@ -1,5 +1,6 @@
 -- What planning answers, by what the checks hand over. Assumes nothing.
-use Rattle.counting.proofs.Prelude.{_≡_, refl, sym, ap, _∙_, _≢_, Bool, true, false, true≢false, List, ℕ, _*_, _≤_, _<_, min, arith, leb, length, leb-true, le-leb}
+use Rattle.counting.proofs.Prelude.{_≡_, refl, sym, ap, _∙_, _≢_, Bool, true, false, true≢false, List, ℕ, _*_, _≤_, _<_, min, arith, leb}
+use Rattle.counting.proofs.Prelude.{length, leb-true, le-leb}
 use native.Mathlib.Decide.{decLt}
 use Rattle.counting.proofs.Truth.{and-intro, and-elim}
 use Rattle.descent.specs.Promise.{Sized}
@@ -56,7 +57,18 @@ module _ (n : ℕ) (t : Lists) where
         tables = λ h. absurd (true≢false (sym (roomy-tested h) ∙ fails));
         places-past = λ i v l h. refl;
         column-past = λ v h. refl;
-        long = record { edges = refl; below = refl; table = refl; longer = refl; places = refl; spans = refl; number = refl; used = refl; column = refl };
+        long =
+            record {
+              edges = refl;
+              below = refl;
+              table = refl;
+              longer = refl;
+              places = refl;
+              spans = refl;
+              number = refl;
+              used = refl;
+              column = refl;
+            };
       }
 
 -- what is not short is long enough

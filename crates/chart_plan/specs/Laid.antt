@@ -20,9 +20,9 @@ use Rattle.record.specs.Checked.{Tables}
 use Rattle.bundles.specs.Promise.{Listed}
 use Rattle.chart_plan.specs.declared.Plan.{Plan}
 
--- the lists that are lent: four of masks; of each vertex the channel, its position there, its row and how many vertices it reaches, in turn; of
--- each bundle the channel, the first row, the last row and the track; the bundle at each end of a vertex; how many tracks each channel has; the
--- column of each vertex
+-- the lists that are lent: four of masks; of each vertex the channel, its position there, its row and how many vertices it
+-- reaches, in turn; of each bundle the channel, the first row, the last row and the track; the bundle at each end of a
+-- vertex; how many tracks each channel has; the column of each vertex
 pub record Lists : Type 0 where
   pub edges : List ℕ
   pub below : List ℕ
@@ -71,7 +71,8 @@ pub record Laid (c : Content) (p : Plan) (t : Lists) : Type 0 where
   pub used : (l : ℕ) → l < length (t .used) → getD (t .used) l 0 ≡ tracksIn (planOf c) l
   pub column : (v : ℕ) → v < c .vertices → getD (t .column) v 0 ≡ columnIn (planOf c) v
   pub width : p .width ≡ widthOf (planOf c)
-  pub longer-pairs : (u v : ℕ) → u < c .vertices → v < c .vertices → member? (t .longer) (2 * u) v ≡ transitive? (leads? c) (c .vertices) u v
+  pub longer-pairs : (u v : ℕ) → u < c .vertices → v < c .vertices
+      → member? (t .longer) (2 * u) v ≡ transitive? (leads? c) (c .vertices) u v
   pub below-rows : (k v : ℕ) → k ≤ rowCount c → v < mostVertices → at 2 (t .below) k v ≡ 1 ↔ ((v < c .vertices) × (rowOf c v < k))
   pub room : Roomy (c .vertices) t
 
@@ -105,7 +106,8 @@ pub record Plans (n : ℕ) (ends : List ℕ) (given : Bool) (field : List ℕ) (
   pub short : (Roomy n t → ⊥) → (p .refusal ≡ 8) × Untouched t s
   pub laid : p .refusal ≡ 0 → Laid (graphContent n ends given field) p s
   pub none : p .refusal ≢ 0 → p ≡ unplannedBy (p .refusal)
-  pub kept : p .refusal ≢ 0 → s ≡ lists (s .edges) (s .below) (s .table) (s .longer) (s .places) (t .spans) (t .number) (t .used) (t .column)
+  pub kept : p .refusal ≢ 0
+      → s ≡ lists (s .edges) (s .below) (s .table) (s .longer) (s .places) (t .spans) (t .number) (t .used) (t .column)
   pub left : Roomy n t → edgesRefusal n (tailsOf ends) (headsOf ends) ≢ 0
       → Left (edgesRefusal n (tailsOf ends) (headsOf ends)) n ends (t .edges) (t .below) (t .table) (t .longer) (t .places)
       (s .edges) (s .below) (s .table) (s .longer) (s .places)

@@ -62,7 +62,8 @@ pub record Filled (n : ℕ) (k : Checked) (edges places spans number used column
     : Type 0 where
   pub refusal : p .refusal ≡ 0
   pub laid : (x : Passed n k edges places spans number used column)
-      → Laid (graphContent n (x .ends) (x .given) (x .field)) p (lists edges (x .below) (x .table) (x .longer) places spans′ number′ used′ column′)
+      → Laid (graphContent n (x .ends) (x .given) (x .field)) p
+      (lists edges (x .below) (x .table) (x .longer) places spans′ number′ used′ column′)
   pub past : (v : ℕ) → n ≤ v → getD column′ v 0 ≡ getD column v 0
   pub long : (length spans′ ≡ length spans) × (length number′ ≡ length number) × (length used′ ≡ length used)
       × (length column′ ≡ length column)

@@ -1,5 +1,6 @@
 -- Laws of `above`. Assumes nothing.
-use Rattle.counting.proofs.Prelude.{_≡_, refl, sym, ap, ap₂, _∙_, ⊎-elim, Bool, true, false, false≢true, ℕ, zero, suc, _+_, _≤_, _<_, max, arith}
+use Rattle.counting.proofs.Prelude.{_≡_, refl, sym, ap, ap₂, _∙_, ⊎-elim, Bool, true, false, false≢true, ℕ, zero, suc, _+_, _≤_, _<_}
+use Rattle.counting.proofs.Prelude.{max, arith}
 use native.Mathlib.Nat.{not-suc-le-zero}
 use native.Mathlib.Decide.{ℕ-discrete}
 use native.Mathlib.Numerals.{add-one}

@@ -1,5 +1,6 @@
 -- Laws of sums that count by classes: one of several, at most one, rows and columns, a change at one place. Assumes nothing.
-use Rattle.counting.proofs.Prelude.{_≡_, refl, sym, ap, _∙_, subst, _≢_, Bool, true, false, true≢false, _&&_, _||_, ℕ, zero, suc, _+_, _≤_, _<_, arith, eqb, leb, ltb, eq-eqb, ne-eqb, le-leb, lt-leb, lt-ltb, le-ltb}
+use Rattle.counting.proofs.Prelude.{_≡_, refl, sym, ap, _∙_, subst, _≢_, Bool, true, false, true≢false, _&&_, _||_, ℕ, zero, suc}
+use Rattle.counting.proofs.Prelude.{_+_, _≤_, _<_, arith, eqb, leb, ltb, eq-eqb, ne-eqb, le-leb, lt-leb, lt-ltb, le-ltb}
 use native.Mathlib.Nat.{not-suc-le-zero}
 use native.Mathlib.Decide.{ℕ-discrete, decLt}
 use Rattle.specification.specs.Count.{indicator, sum, count}
@@ -31,9 +32,12 @@ pub indicator-below : (a h : ℕ) → indicator (ltb a (suc h)) ≡ indicator (l
 indicator-below a h = go (ℕ-discrete h a) (decLt a h)
   where
     go : Dec (h ≡ a) → Dec (a < h) → indicator (ltb a (suc h)) ≡ indicator (ltb a h) + indicator (eqb h a)
-    go (yes q) d = omega (arith, ap indicator (lt-ltb a (suc h) (omega arith)), ap indicator (le-ltb a h (omega arith)), ap indicator (eq-eqb h a q))
-    go (no q) (yes d) = omega (arith, ap indicator (lt-ltb a (suc h) (omega arith)), ap indicator (lt-ltb a h d), ap indicator (ne-eqb h a q))
-    go (no q) (no d) = omega (arith, ap indicator (le-ltb a (suc h) (omega arith)), ap indicator (le-ltb a h (omega arith)), ap indicator (ne-eqb h a q))
+    go (yes q) d =
+        omega (arith, ap indicator (lt-ltb a (suc h) (omega arith)), ap indicator (le-ltb a h (omega arith)), ap indicator (eq-eqb h a q))
+    go (no q) (yes d) =
+        omega (arith, ap indicator (lt-ltb a (suc h) (omega arith)), ap indicator (lt-ltb a h d), ap indicator (ne-eqb h a q))
+    go (no q) (no d) =
+        omega (arith, ap indicator (le-ltb a (suc h) (omega arith)), ap indicator (le-ltb a h (omega arith)), ap indicator (ne-eqb h a q))
 
 -- ---- sums
 
@@ -111,10 +115,14 @@ unfolding sum
 one-of zero x = omega (arith, ap indicator (le-leb 0 x (omega arith)))
 one-of (suc n) x = go (ℕ-discrete x n) (decLt n x) (one-of n x)
   where
-    go : Dec (x ≡ n) → Dec (n < x) → sum n (λ a. indicator (eqb x a)) + indicator (leb n x) ≡ 1 → sum n (λ a. indicator (eqb x a)) + indicator (eqb x n) + indicator (leb (suc n) x) ≡ 1
-    go (yes q) d i = omega (arith, ap indicator (eq-eqb x n q), ap indicator (le-leb n x (omega arith)), ap indicator (lt-leb (suc n) x (omega arith)))
-    go (no q) (yes d) i = omega (arith, ap indicator (ne-eqb x n q), ap indicator (le-leb n x (omega arith)), ap indicator (le-leb (suc n) x d))
-    go (no q) (no d) i = omega (arith, ap indicator (ne-eqb x n q), ap indicator (lt-leb n x (omega arith)), ap indicator (lt-leb (suc n) x (omega arith)))
+    go : Dec (x ≡ n) → Dec (n < x) → sum n (λ a. indicator (eqb x a)) + indicator (leb n x) ≡ 1
+        → sum n (λ a. indicator (eqb x a)) + indicator (eqb x n) + indicator (leb (suc n) x) ≡ 1
+    go (yes q) d i =
+        omega (arith, ap indicator (eq-eqb x n q), ap indicator (le-leb n x (omega arith)), ap indicator (lt-leb (suc n) x (omega arith)))
+    go (no q) (yes d) i =
+        omega (arith, ap indicator (ne-eqb x n q), ap indicator (le-leb n x (omega arith)), ap indicator (le-leb (suc n) x d))
+    go (no q) (no d) i =
+        omega (arith, ap indicator (ne-eqb x n q), ap indicator (lt-leb n x (omega arith)), ap indicator (lt-leb (suc n) x (omega arith)))
 
 -- a number below n is one of the first n
 pub one-below : (n x : ℕ) → x < n → sum n (λ a. indicator (eqb x a)) ≡ 1

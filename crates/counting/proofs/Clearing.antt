@@ -1,5 +1,6 @@
 -- A list's entries set to one value, one after the other. Assumes nothing.
-use Rattle.counting.proofs.Prelude.{_≡_, refl, sym, ap, _∙_, List, ℕ, _+_, _≤_, _<_, arith, length, getD, set, replicate, length-set, length-replicate, getD-replicate}
+use Rattle.counting.proofs.Prelude.{_≡_, refl, sym, ap, _∙_, List, ℕ, _+_, _≤_, _<_, arith, length, getD, set, replicate, length-set}
+use Rattle.counting.proofs.Prelude.{length-replicate, getD-replicate}
 use native.Mathlib.Decide.{ℕ-discrete}
 use lib.Seq.{getD-set-same, getD-set-other, ext-getD}
 use Rattle.counting.proofs.Zeros.{zeros}

@@ -1,5 +1,6 @@
 -- Counts of what is mapped one to one, or onto. Assumes nothing.
-use Rattle.counting.proofs.Prelude.{_≡_, refl, sym, ap, _∙_, Bool, true, false, false≢true, _&&_, ℕ, _≤_, _<_, arith, eqb, eq-eqb, eqb-true}
+use Rattle.counting.proofs.Prelude.{_≡_, refl, sym, ap, _∙_, Bool, true, false, false≢true, _&&_, ℕ, _≤_, _<_, arith, eqb, eq-eqb}
+use Rattle.counting.proofs.Prelude.{eqb-true}
 use Rattle.specification.specs.Count.{indicator, sum, count}
 use Rattle.counting.proofs.Truth.{and-elim, indicator-le}
 use Rattle.counting.proofs.Sums.{sum-mono, sum-zero, sum-smaller}
@@ -34,7 +35,8 @@ unfolding count
 into-count n m f g p l h inj = omega (
   arith,
   count-classes n m f p l,
-  sum-mono m (λ q. count n (λ w. f w && eqb (p w) q)) (λ q. indicator (g q)) (λ q k. none-or-one n (λ w. f w && eqb (p w) q) (g q) (hit q) (only q)),
+  sum-mono m (λ q. count n (λ w. f w && eqb (p w) q)) (λ q. indicator (g q))
+      (λ q k. none-or-one n (λ w. f w && eqb (p w) q) (g q) (hit q) (only q)),
 )
   where
     hit : (q w : ℕ) → w < n → (f w && eqb (p w) q) ≡ true → g q ≡ true

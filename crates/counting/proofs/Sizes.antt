@@ -1,5 +1,6 @@
 -- What the tests of a graph's size say. Assumes nothing.
-use Rattle.counting.proofs.Prelude.{_≡_, refl, _≢_, Bool, true, false, ℕ, _≤_, _<_, arith, eqb, ltb, eq-eqb, ne-eqb, lt-ltb, le-ltb, eqb-false, ltb-false}
+use Rattle.counting.proofs.Prelude.{_≡_, refl, _≢_, Bool, true, false, ℕ, _≤_, _<_, arith, eqb, ltb, eq-eqb, ne-eqb, lt-ltb, le-ltb}
+use Rattle.counting.proofs.Prelude.{eqb-false, ltb-false}
 use Rattle.specification.specs.Count.{choose}
 use Rattle.specification.specs.Graph.{unsized?, outsized?, sizeRefusal}
 use Rattle.counting.proofs.Truth.{or-left, or-right, or-neither}

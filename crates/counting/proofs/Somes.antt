@@ -27,7 +27,8 @@ unfolding some
 some-which zero f e = absurd (false≢true e)
 some-which (suc n) f e = go (some n f) refl (some-which n f) e
   where
-    go : (b : Bool) → some n f ≡ b → (some n f ≡ true → (i : ℕ) × (i < n) × (f i ≡ true)) → (b || f n) ≡ true → (i : ℕ) × (i < suc n) × (f i ≡ true)
+    go : (b : Bool) → some n f ≡ b → (some n f ≡ true → (i : ℕ) × (i < n) × (f i ≡ true)) → (b || f n) ≡ true
+        → (i : ℕ) × (i < suc n) × (f i ≡ true)
     go true p ih q = let r = ih p in (r .0, omega (arith, r .1), r .2)
     go false p ih q = (n, omega arith, q)
 

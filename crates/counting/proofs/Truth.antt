@@ -1,5 +1,6 @@
 -- Laws of truth values, and of the order of two numbers. Assumes nothing.
-use Rattle.counting.proofs.Prelude.{_≡_, refl, _⊎_, inl, inr, Bool, true, false, true≢false, false≢true, _&&_, _||_, ℕ, _≤_, _<_, arith}
+use Rattle.counting.proofs.Prelude.{_≡_, refl, _⊎_, inl, inr, Bool, true, false, true≢false, false≢true, _&&_, _||_, ℕ, _≤_, _<_}
+use Rattle.counting.proofs.Prelude.{arith}
 use native.Mathlib.Decide.{decLt}
 use Rattle.specification.specs.Count.{indicator}
 

@@ -1,5 +1,6 @@
 -- What a call accepts is a sound graph that fits the lists, and what it leaves then is the graph's chart. Assumes nothing.
-use Rattle.counting.proofs.Prelude.{_≡_, refl, sym, ap, _∙_, subst, _↔_, _⊎_, ⊎-elim, Bool, false, _||_, List, ℕ, arith, ltb, length, getD, List·getD-eq-default, eq-eqb, ltb-false}
+use Rattle.counting.proofs.Prelude.{_≡_, refl, sym, ap, _∙_, subst, _↔_, _⊎_, ⊎-elim, Bool, false, _||_, List, ℕ, arith, ltb, length, getD}
+use Rattle.counting.proofs.Prelude.{List·getD-eq-default, eq-eqb, ltb-false}
 use Rattle.counting.proofs.Truth.{lt-or-le, true-or-false, or-neither}
 use Rattle.specification.specs.Checks.{Content, edgesOf, refusalOf, Sound, SoundRecord, contentOf, contentIn, recordRefusal, said}
 use Rattle.specification.specs.Chart.{planOf, tracksIn}

@@ -1,11 +1,13 @@
--- What agrees with the definitions on the graph's vertices, edges and bundles; our chart does, by them and as the entries show it. Assumes nothing.
+-- What agrees with the definitions on the graph's vertices, edges and bundles; our
+-- chart does, by them and as the entries show it. Assumes nothing.
 use Rattle.counting.proofs.Prelude.{_≡_, refl, sym, ap, _∙_, subst, true, not, _&&_, ℕ, _<_, eqb, length, eq-eqb, eqb-true, not-true}
 use Rattle.specification.specs.Count.{some}
 use Rattle.specification.specs.Graph.{Edge}
 use Rattle.specification.specs.Channels.{channelOf}
 use Rattle.specification.specs.Checks.{Content, edgesOf, Sound}
 use Rattle.specification.specs.Marks.{reducedLink}
-use Rattle.specification.specs.Chart.{leads?, tailOf, headOf, rowOf, transitiveEdge?, channelsOf, planOf, bundleIn, trackIn, vertexEntry, edgeEntry, bundleEntry}
+use Rattle.specification.specs.Chart.{leads?, tailOf, headOf, rowOf, transitiveEdge?, channelsOf, planOf, bundleIn, trackIn, vertexEntry}
+use Rattle.specification.specs.Chart.{edgeEntry, bundleEntry}
 use Rattle.specification.specs.declared.VertexEntry.{VertexEntry}
 use Rattle.specification.specs.declared.EdgeEntry.{EdgeEntry}
 use Rattle.specification.specs.declared.BundleEntry.{BundleEntry}
@@ -40,7 +42,8 @@ module _ (c : Content) (s : Sound c) (n : Entries) (h : Shown c n) where
   Kept = Reduced (leads? c) (c .vertices) (c .tails) (c .heads)
 
   pub firm-reduced : (u v : ℕ) → Firm c n u v → Kept u v
-  firm-reduced u v (e, l, p, q, m) = subst (λ (x : ℕ). Kept x v) p (subst (λ (y : ℕ). Kept (tailOf c e) y) q (unmarked-reduced c s e l (sym (mark e l) ∙ m)))
+  firm-reduced u v (e, l, p, q, m) =
+      subst (λ (x : ℕ). Kept x v) p (subst (λ (y : ℕ). Kept (tailOf c e) y) q (unmarked-reduced c s e l (sym (mark e l) ∙ m)))
 
   pub reduced-firm : (u v : ℕ) → Kept u v → Firm c n u v
   unfolding Edge transitiveEdge?
@@ -48,7 +51,8 @@ module _ (c : Content) (s : Sound c) (n : Entries) (h : Shown c n) where
 
   -- and so are the links
   firm-seen : (u v : ℕ) → Firm c n u v → some (edgesOf c) (joins? c n u v) ≡ true
-  firm-seen u v (e, l, p, q, m) = some-found (edgesOf c) (joins? c n u v) e l (and-intro _ _ (and-intro _ _ (eq-eqb _ _ p) (eq-eqb _ _ q)) (ap not m))
+  firm-seen u v (e, l, p, q, m) =
+      some-found (edgesOf c) (joins? c n u v) e l (and-intro _ _ (and-intro _ _ (eq-eqb _ _ p) (eq-eqb _ _ q)) (ap not m))
 
   seen-firm : (u v : ℕ) → some (edgesOf c) (joins? c n u v) ≡ true → Firm c n u v
   seen-firm u v t =
@@ -89,7 +93,8 @@ ours-agrees c = record {
   side = λ b l. refl;
 }
 
-pub seen-agrees : (c : Content) → Sound c → (r : ChartCounts) (n : Entries) → Shown c n → r .lines ≡ length (planOf c .channels) → r .bundles ≡ length (planOf c .bundles)
+pub seen-agrees : (c : Content) → Sound c → (r : ChartCounts) (n : Entries) → Shown c n → r .lines ≡ length (planOf c .channels)
+    → r .bundles ≡ length (planOf c .bundles)
     → Agrees c (seen c r n)
 unfolding seen vertexEntry bundleEntry
 seen-agrees c s r n h lines bundles = record {

@@ -1,5 +1,6 @@
 -- The number that is answered is that of the first check that fails. Assumes nothing.
-use Rattle.counting.proofs.Prelude.{_≡_, refl, sym, ap, _∙_, subst, _↔_, _≢_, _⊎_, inl, inr, ⊎-elim, Bool, true, false, true≢false, false≢true, _||_, List, ℕ, _≤_, _<_, arith}
+use Rattle.counting.proofs.Prelude.{_≡_, refl, sym, ap, _∙_, subst, _↔_, _≢_, _⊎_, inl, inr, ⊎-elim, Bool, true, false, true≢false}
+use Rattle.counting.proofs.Prelude.{false≢true, _||_, List, ℕ, _≤_, _<_, arith}
 use Rattle.counting.proofs.Truth.{true-or-false, or-neither}
 use Rattle.specification.specs.Count.{choose}
 use Rattle.specification.specs.Limits.{mostVertices, mostEdges, mostBundles}
@@ -7,7 +8,9 @@ use Rattle.specification.specs.Layout.{layoutOf}
 use Rattle.specification.specs.declared.Fields.{Fields}
 use Rattle.specification.specs.declared.Layout.{Layout}
 use Rattle.specification.specs.declared.Layout.the-variants.{Good, Bad}
-use Rattle.specification.specs.Checks.{Content, size?, stranger?, double?, ring?, repeated?, lacking?, unled?, looseChecks, laterChecks, firstOf, refusalOf, contentOf, refusalIn, recordRefusal, said, Sized, Distinct, Acyclic, Once, Led, Sound, SoundRecord}
+use Rattle.specification.specs.Checks.{Content, size?, stranger?, double?, ring?, repeated?, lacking?, unled?, looseChecks, laterChecks}
+use Rattle.specification.specs.Checks.{firstOf, refusalOf, contentOf, refusalIn, recordRefusal, said, Sized, Distinct, Acyclic, Once, Led}
+use Rattle.specification.specs.Checks.{Sound, SoundRecord}
 use Rattle.specification.specs.Drawn.{Drawn, recordDrawn, short?}
 use Rattle.specification.specs.declared.ChartCounts.{ChartCounts}
 use Rattle.record.proofs.Soundness.{size-says, stranger-says, double-says, ring-says, cover-says, led-says, record-sound}

@@ -5,7 +5,8 @@ use Rattle.specification.specs.Graph.{Reaches}
 use Rattle.specification.specs.Checks.{Content, Leads, Sound}
 use Rattle.specification.specs.Marks.{Linked, linkCount, reducedLink}
 use Rattle.specification.specs.Tracks.{differentIn}
-use Rattle.specification.specs.Chart.{leads?, tailOf, headOf, rowOf, rowCount, reducedEdges, Plan, channelsOf, planOf, bundleIn, trackIn, tracksIn}
+use Rattle.specification.specs.Chart.{leads?, tailOf, headOf, rowOf, rowCount, reducedEdges, Plan, channelsOf, planOf, bundleIn, trackIn}
+use Rattle.specification.specs.Chart.{tracksIn}
 use Rattle.matching.specs.Division.{Division}
 use Rattle.counting.proofs.Above.{above-ext}
 use Rattle.reduction.proofs.Transitive.{reaches-map}
@@ -68,14 +69,16 @@ module _ (c : Content) (s : Sound c) where
         let ki = within i li in
         let kj = within j lj in
         plan-packed c s .lawful .apart i j ki kj ne
-        (row-meet line first last i j r (sym (a .line i ki) ∙ e ∙ a .line j kj) (omega (arith, a .first i ki), omega (arith, a .last i ki)) (omega (arith, a .first j kj), omega (arith, a .last j kj)))
+        (row-meet line first last i j r (sym (a .line i ki) ∙ e ∙ a .line j kj) (omega (arith, a .first i ki), omega (arith, a .last i ki))
+        (omega (arith, a .first j kj), omega (arith, a .last j kj)))
         (sym (a .side i ki) ∙ t ∙ a .side j kj)
 
     pub agreed-lawful : Lawful c x
     agreed-lawful = record {
       rises = λ e l. let b = s .ends e l in omega (arith, a .row (tailOf c e) (b .0), a .row (headOf c e) (b .1), edge-rises c s e l);
       divided = λ v l. omega (arith, a .part v l, a .parts, channel-below c s v l);
-      related = λ u v hu hv ne e. from-table u v (channels-divide c s .division .related u v hu hv ne (sym (a .part u hu) ∙ e ∙ a .part v hv));
+      related =
+          λ u v hu hv ne e. from-table u v (channels-divide c s .division .related u v hu hv ne (sym (a .part u hu) ∙ e ∙ a .part v hv));
       descent = agreed-descent;
       lined = λ b l. omega (arith, a .line b (within b l), a .parts, bundle-channel c s b (within b l));
       apart = agreed-apart;
@@ -121,7 +124,17 @@ module _ (c : Content) (s : Sound c) where
             let m = same .from-below b l in
             let e : same .to i ≡ b = same .to-from b l in
             let q = within i m in
-            omega (arith, same .firsts i m, same .lasts i m, ap (y .first) e, ap (y .last) e, a .first i q, a .last i q, bundle-ordered c s i q)
+            omega (
+              arith,
+              same .firsts i m,
+              same .lasts i m,
+              ap (y .first) e,
+              ap (y .last) e,
+              a .first i q,
+              a .last i q,
+              bundle-ordered c s
+                  i q,
+            )
 
         other-apart : Apart (y .bundles) (y .line) (y .first) (y .last) (y .side)
         other-apart = record {
@@ -130,12 +143,15 @@ module _ (c : Content) (s : Sound c) where
               h .apart i j li lj ne (f .0) (meet-row (y .line) (y .first) (y .last) i j (other-ordered i li) (other-ordered j lj) m);
         }
 
-        among : (l q v : ℕ) → v < n → x .part v ≡ l → y .part v ≡ q → Among k line first last l (y .bundles) (y .line) (y .first) (y .last) q
+        among : (l q v : ℕ) → v < n → x .part v ≡ l → y .part v ≡ q
+            → Among k line first last l (y .bundles) (y .line) (y .first) (y .last) q
         among l q v hv e f = record {
           to = same .to;
           below = λ b m i. same .to-below b (omega (arith, a .bundles));
           there = λ b m i. sym (same .held b (omega (arith, a .bundles)) v hv .0 (e ∙ sym i ∙ sym (a .line b m))) ∙ f;
-          one = λ i j li lj ei ej t. sym (same .from-to i (omega (arith, a .bundles))) ∙ ap (same .from) t ∙ same .from-to j (omega (arith, a .bundles));
+          one =
+              λ i j li lj ei ej t. sym (same .from-to i (omega (arith, a .bundles))) ∙ ap (same .from) t
+              ∙ same .from-to j (omega (arith, a .bundles));
           firsts = λ b m i. sym (same .firsts b (omega (arith, a .bundles))) ∙ a .first b m;
           lasts = λ b m i. sym (same .lasts b (omega (arith, a .bundles))) ∙ a .last b m;
         }
@@ -143,7 +159,8 @@ module _ (c : Content) (s : Sound c) where
         fewest-sides : (l q v : ℕ) → v < n → x .part v ≡ l → y .part v ≡ q → sideColumns x l ≤ sideColumns y q
         unfolding sideColumns
         fewest-sides l q v hv e f =
-            rw (sides-ours l) (plan-packed c s .least l (y .bundles) (y .line) (y .first) (y .last) q (y .side) (among l q v hv e f) other-apart)
+            rw (sides-ours l)
+            (plan-packed c s .least l (y .bundles) (y .line) (y .first) (y .last) q (y .side) (among l q v hv e f) other-apart)
 
     pub agreed-smallest : Smallest c x
     unfolding rowsOf linksOf

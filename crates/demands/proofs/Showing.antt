@@ -7,7 +7,8 @@ use Rattle.specification.specs.Checks.{Content, edgesOf, Leads, Sound}
 use Rattle.specification.specs.Bundles.{adjacent?}
 use Rattle.specification.specs.Geometry.{Point, Meets, gapWidth, trackAt, byTrack, courseOf}
 use Rattle.specification.specs.declared.Course.{Course}
-use Rattle.specification.specs.Chart.{tailOf, headOf, Plan, channelsOf, planOf, placeOf, crossing, kindBetween, vertexEntry, edgeEntry, bundleEntry, pointAt, polylineOf}
+use Rattle.specification.specs.Chart.{tailOf, headOf, Plan, channelsOf, planOf, placeOf, crossing, kindBetween, vertexEntry, edgeEntry}
+use Rattle.specification.specs.Chart.{bundleEntry, pointAt, polylineOf}
 use Rattle.specification.specs.declared.Kind.{Kind}
 use Rattle.specification.specs.declared.Kind.the-variants.{Path, PathTransitive, Straight, Bent}
 use Rattle.specification.specs.declared.VertexEntry.{VertexEntry}
@@ -31,10 +32,12 @@ Within k Straight = Unit {0}
 Within k (Bent b) = Unit {0}
 
 -- a polyline reads that bundle alone
-lines-same : (u v : VertexEntry) (d : Kind) (k : ℕ) (f g : ℕ → BundleEntry) → Within k d → ((b : ℕ) → b < k → f b ≡ g b) → polylineOf u v d f ≡ polylineOf u v d g
+lines-same : (u v : VertexEntry) (d : Kind) (k : ℕ) (f g : ℕ → BundleEntry) → Within k d → ((b : ℕ) → b < k → f b ≡ g b)
+    → polylineOf u v d f ≡ polylineOf u v d g
 unfolding polylineOf
 lines-same u v Path k f g w same = refl
-lines-same u v (PathTransitive b) k f g w same = ap (λ (x : BundleEntry). byTrack (pointAt u) (pointAt v) (trackAt (u .column) gapWidth (x .track))) (same b w)
+lines-same u v (PathTransitive b) k f g w same =
+    ap (λ (x : BundleEntry). byTrack (pointAt u) (pointAt v) (trackAt (u .column) gapWidth (x .track))) (same b w)
 lines-same u v Straight k f g w same = refl
 lines-same u v (Bent b) k f g w same = refl
 
@@ -60,7 +63,8 @@ module _ (c : Content) (s : Sound c) where
       (λ a. rw (kind-path c u v e a) tt)
       (λ a. rw (kind-side c u v e a) (side-bundle c s u v (side-edge c s u v edge hu hv e a) .0))
       (true-or-false (adjacent? (positionOf ls u) (positionOf ls v))))
-      (λ q. let e : channelOf ls u ≢ channelOf ls v = eqb-false _ _ q in rw (kind-cross c u v e) (crossing-within k (courseOf (placeOf c p) (c .vertices) u v)))
+      (λ q. let e : channelOf ls u ≢ channelOf ls v = eqb-false _ _ q in
+      rw (kind-cross c u v e) (crossing-within k (courseOf (placeOf c p) (c .vertices) u v)))
       (true-or-false (eqb (channelOf ls u) (channelOf ls v)))
 
   entry-within : (e : ℕ) → e < edgesOf c → Within k (edgeEntry c p e .kind)
@@ -69,13 +73,16 @@ module _ (c : Content) (s : Sound c) where
 
   module _ (n : Entries) (h : Shown c n) where
     shown-descent : (u v : ℕ) → Reaches (Firm c n) u v ↔ Leads c u v
-    shown-descent u v = let d = chart-reduced c s u v in ((λ r. d .0 (reaches-map (firm-reduced c s n h) r)), λ r. reaches-map (reduced-firm c s n h) (d .1 r))
+    shown-descent u v =
+        let d = chart-reduced c s u v in
+        ((λ r. d .0 (reaches-map (firm-reduced c s n h) r)), λ r. reaches-map (reduced-firm c s n h) (d .1 r))
 
     line-same : (e : ℕ) → e < edgesOf c → lineIn c n e ≡ lineIn c (entriesOf c) e
     line-same e l =
         let b = s .ends e l in
         rw (h .vertex (tailOf c e) (b .0), h .vertex (headOf c e) (b .1), h .edge e l)
-        (lines-same (vertexEntry c p (tailOf c e)) (vertexEntry c p (headOf c e)) (edgeEntry c p e .kind) k (n .bundle) (bundleEntry p) (entry-within e l) (h .bundle))
+        (lines-same (vertexEntry c p (tailOf c e)) (vertexEntry c p (headOf c e)) (edgeEntry c p e .kind) k (n .bundle) (bundleEntry p)
+        (entry-within e l) (h .bundle))
 
     place-same : (v : ℕ) → v < c .vertices → placeIn n v ≡ placeOf c p v
     unfolding vertexEntry
@@ -88,7 +95,8 @@ module _ (c : Content) (s : Sound c) where
       clear = λ e l. record {
         clear = λ w hw nu nv m.
             chart-clear c s e l .clear w hw nu nv
-            (subst (λ (x : List Point). Meets x (placeOf c p w)) (line-same e l) (subst (λ (q : Point). Meets (lineIn c n e) q) (place-same w hw) m));
+            (subst (λ (x : List Point). Meets x (placeOf c p w)) (line-same e l)
+            (subst (λ (q : Point). Meets (lineIn c n e) q) (place-same w hw) m));
       };
       on-page = λ e l. rw (line-same e l) (chart-on-page c s e l);
     }

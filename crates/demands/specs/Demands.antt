@@ -13,7 +13,8 @@ use Rattle.specification.specs.Channels.{channelOf}
 use Rattle.specification.specs.Checks.{Content, edgesOf, Leads}
 use Rattle.specification.specs.Marks.{reducedLink}
 use Rattle.specification.specs.Geometry.{Point, Clear}
-use Rattle.specification.specs.Chart.{leads?, tailOf, headOf, rowOf, channelsOf, planOf, bundleIn, trackIn, vertexEntry, edgeEntry, bundleEntry, pointAt, polylineOf, OnPage}
+use Rattle.specification.specs.Chart.{leads?, tailOf, headOf, rowOf, channelsOf, planOf, bundleIn, trackIn, vertexEntry, edgeEntry}
+use Rattle.specification.specs.Chart.{bundleEntry, pointAt, polylineOf, OnPage}
 use Rattle.specification.specs.declared.Kind.the-variants.{Path}
 use Rattle.specification.specs.declared.VertexEntry.{VertexEntry}
 use Rattle.specification.specs.declared.EdgeEntry.{EdgeEntry}

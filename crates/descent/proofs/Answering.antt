@@ -1,5 +1,6 @@
 -- What the whole answers: the first check that fails, or the tables. Assumes nothing.
-use Rattle.counting.proofs.Prelude.{_≡_, refl, sym, ap, _∙_, subst, _≢_, ⊎-elim, _↔_, Bool, true, false, true≢false, _&&_, List, ℕ, _+_, _*_, _≤_, _<_, min, arith, leb, length, le-leb, leb-true}
+use Rattle.counting.proofs.Prelude.{_≡_, refl, sym, ap, _∙_, subst, _≢_, ⊎-elim, _↔_, Bool, true, false, true≢false, _&&_, List, ℕ, _+_}
+use Rattle.counting.proofs.Prelude.{_*_, _≤_, _<_, min, arith, leb, length, le-leb, leb-true}
 use native.Mathlib.Decide.{ℕ-discrete}
 use Rattle.specification.specs.Count.{choose, some}
 use Rattle.specification.specs.Sets.{at}
@@ -13,7 +14,8 @@ use Rattle.descent.specs.declared.Descent.{Descent}
 use Rattle.descent.specs.Steps.Closed.{Rest, Inside, Laid, Closed, Ranked, fits?}
 use Rattle.descent.specs.Promise.{edgesRefusal, noDescent, Sized, Descended, Left, Descends}
 use Rattle.descent.proofs.Refusals.{ends-answers, edges-in-turn, answer-ends, answer-cycle}
-use Rattle.descent.proofs.Graphs.{graph-inside, graph-cyclic, graph-acyclic, graph-rows, graph-used, graph-below, graph-stuck, graph-past, graph-closure, graph-composed}
+use Rattle.descent.proofs.Graphs.{graph-inside, graph-cyclic, graph-acyclic, graph-rows, graph-used, graph-below, graph-stuck}
+use Rattle.descent.proofs.Graphs.{graph-past, graph-closure, graph-composed}
 
 -- ---- the lengths
 
@@ -188,10 +190,13 @@ module _ (n : ℕ) (ends e b t l p : List ℕ) where
                 let g = f .made z in
                 let c = g .1 in
                 record {
-                  closure = graph-closure n tails heads e′ none-refused edge-bits (c .0) (c .1) (c .2) t′ l′ p′ (c .6) (c .3 .zero) (c .4 .zero);
-                  longer = graph-composed n tails heads e′ none-refused edge-bits (c .0) (c .1) (c .2) t′ l′ p′ (c .6) (c .3 .zero) (c .4 .zero);
+                  closure =
+                      graph-closure n tails heads e′ none-refused edge-bits (c .0) (c .1) (c .2) t′ l′ p′ (c .6) (c .3 .zero) (c .4 .zero);
+                  longer =
+                      graph-composed n tails heads e′ none-refused edge-bits (c .0) (c .1) (c .2) t′ l′ p′ (c .6) (c .3 .zero) (c .4 .zero);
                   past = λ i h.
-                      let z = graph-past n tails heads e′ none-refused edge-bits (c .0) (c .1) (c .2) t′ l′ p′ (c .6) (c .3 .zero) (c .4 .zero)
+                      let z = graph-past n tails heads e′ none-refused edge-bits (c .0) (c .1) (c .2) t′ l′ p′ (c .6) (c .3 .zero)
+                      (c .4 .zero)
                       i h in
                       (checked .others i h, z .0, z .1);
                   rows = λ v h. c .6 .rest 2 v (omega arith) (λ y. absurd (omega arith))

@@ -13,7 +13,8 @@ use Rattle.descent.specs.Steps.Closed.{Arc, arc?, Reached, Inside}
 pub arc-decided : (e : List ℕ) (u v : ℕ) → Arc e u v ↔ (arc? e u v ≡ true)
 unfolding arc? has?
 arc-decided e u v = (
-  (λ a. and-intro (ltb u 128) (ltb v 128 && has? 2 e u v) (lt-ltb u 128 (a .0)) (and-intro (ltb v 128) (has? 2 e u v) (lt-ltb v 128 (a .1)) (eq-eqb _ _ (a .2)))),
+  (λ a. and-intro (ltb u 128) (ltb v 128 && has? 2 e u v) (lt-ltb u 128 (a .0))
+      (and-intro (ltb v 128) (has? 2 e u v) (lt-ltb v 128 (a .1)) (eq-eqb _ _ (a .2)))),
   λ t. let p = and-elim (ltb u 128) (ltb v 128 && has? 2 e u v) t in
       let q = and-elim (ltb v 128) (has? 2 e u v) (p .1) in
       (ltb-true u 128 (p .0), ltb-true v 128 (q .0), eqb-true _ _ (q .1)),

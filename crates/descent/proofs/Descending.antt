@@ -1,5 +1,7 @@
--- A vertex is finished where its successors are: its set is the union of theirs and of its edges. The list c has the places. Assumes nothing.
-use Rattle.counting.proofs.Prelude.{_≡_, refl, sym, ap₂, _∙_, subst, _≢_, _⊎_, inl, inr, ⊎-elim, _↔_, List, [], _∷_, ℕ, zero, suc, _+_, _*_, _^_, _≤_, _<_, arith, length, getD, set, length-set}
+-- A vertex is finished where its successors are: its set is the union of theirs
+-- and of its edges. The list c has the places. Assumes nothing.
+use Rattle.counting.proofs.Prelude.{_≡_, refl, sym, ap₂, _∙_, subst, _≢_, _⊎_, inl, inr, ⊎-elim, _↔_, List, [], _∷_, ℕ, zero, suc, _+_, _*_}
+use Rattle.counting.proofs.Prelude.{_^_, _≤_, _<_, arith, length, getD, set, length-set}
 use lib.Bits.{bitOr}
 use lib.Count.{ones}
 use lib.Seq.{getD-set-same, getD-set-other}
@@ -33,8 +35,11 @@ stored-law s u a b h =
     record {
       low = getD-set-other r (2 * u + 1) (2 * u) b 0 (λ e. omega arith) ∙ getD-set-same s (2 * u) a 0 (omega arith);
       high = getD-set-same r (2 * u + 1) b 0 (omega arith);
-      low-other = λ w d. getD-set-other r (2 * u + 1) (2 * w) b 0 (λ e. omega arith) ∙ getD-set-other s (2 * u) (2 * w) a 0 (λ e. d (omega arith));
-      high-other = λ w d. getD-set-other r (2 * u + 1) (2 * w + 1) b 0 (λ e. d (omega arith)) ∙ getD-set-other s (2 * u) (2 * w + 1) a 0 (λ e. omega arith);
+      low-other =
+          λ w d. getD-set-other r (2 * u + 1) (2 * w) b 0 (λ e. omega arith) ∙ getD-set-other s (2 * u) (2 * w) a 0 (λ e. d (omega arith));
+      high-other =
+          λ w d. getD-set-other r (2 * u + 1) (2 * w + 1) b 0 (λ e. d (omega arith))
+          ∙ getD-set-other s (2 * u) (2 * w + 1) a 0 (λ e. omega arith);
     }
 
 -- what stands past them is as it was
@@ -46,7 +51,8 @@ pub stored-at : (s : List ℕ) (u a b : ℕ) (s′ : List ℕ) → Stored s u a 
 stored-at s u a b s′ o v h = sym (pair-at s′ u v h) ∙ ap₂ (λ (x y : ℕ). inPair x y v) (o .low) (o .high)
 
 -- where two masks are the same, so are the bits
-pub same-bits : (s s′ : List ℕ) (u : ℕ) → getD s′ (2 * u) 0 ≡ getD s (2 * u) 0 → getD s′ (2 * u + 1) 0 ≡ getD s (2 * u + 1) 0 → (v : ℕ) → v < 128 → at 2 s′ u v ≡ at 2 s u v
+pub same-bits : (s s′ : List ℕ) (u : ℕ) → getD s′ (2 * u) 0 ≡ getD s (2 * u) 0 → getD s′ (2 * u + 1) 0 ≡ getD s (2 * u + 1) 0 → (v : ℕ)
+    → v < 128 → at 2 s′ u v ≡ at 2 s u v
 same-bits s s′ u p q v h = sym (pair-at s′ u v h) ∙ ap₂ (λ (x y : ℕ). inPair x y v) p q ∙ pair-at s u v h
 
 -- the ones of two masks
@@ -128,8 +134,10 @@ module _ (e t l c : List ℕ) (u low high p q : ℕ) (hu : u < 128) (el : low �
         (⊎-elim (λ a. inl (edge-bit v h ∙ a .2)) (λ a. inr (far-bit v h .1 a)) (split v r)),
   )
 
-  pub vertex-law : (t′ l′ c′ : List ℕ) → Stored t u (bitOr low p) (bitOr high q) t′ → Stored l u p q l′ → quad 3 c′ u ≡ ones (bitOr low p) + ones (bitOr high q)
-      → ((k v : ℕ) → k < 4 → (k ≡ 3 → v ≢ u) → quad k c′ v ≡ quad k c v) → bitOr low p < 2 ^ 64 → bitOr high q < 2 ^ 64 → Vertex e u t l c t′ l′ c′
+  pub vertex-law : (t′ l′ c′ : List ℕ) → Stored t u (bitOr low p) (bitOr high q) t′ → Stored l u p q l′
+      → quad 3 c′ u ≡ ones (bitOr low p) + ones (bitOr high q)
+      → ((k v : ℕ) → k < 4 → (k ≡ 3 → v ≢ u) → quad k c′ v ≡ quad k c v) → bitOr low p < 2 ^ 64 → bitOr high q < 2 ^ 64
+      → Vertex e u t l c t′ l′ c′
   vertex-law t′ l′ c′ st sl sc rest fa fb = record {
     own = record {
       reached = λ v h. subst (λ (x : ℕ). x ≡ 1 ↔ Reaches (Arc e) u v) (sym (stored-at t u _ _ t′ st v h)) (near-bit v h);
@@ -137,6 +145,7 @@ module _ (e t l c : List ℕ) (u low high p q : ℕ) (hu : u < 128) (el : low �
       counted = sc ∙ pair-count (bitOr low p) (bitOr high q) fa fb
           ∙ sym (sum-ext 128 (at 2 t′ u) (inPair (bitOr low p) (bitOr high q)) (λ v h. stored-at t u _ _ t′ st v h));
     };
-    others = λ w d. record { low = st .low-other w d; high = st .high-other w d; low-far = sl .low-other w d; high-far = sl .high-other w d };
+    others =
+        λ w d. record { low = st .low-other w d; high = st .high-other w d; low-far = sl .low-other w d; high-far = sl .high-other w d };
     rest = rest;
   }

@@ -1,5 +1,6 @@
 -- The sets of a mask's members put together. Assumes nothing.
-use Rattle.counting.proofs.Prelude.{_≡_, sym, ap, _∙_, subst, _≢_, _⊎_, inl, inr, ⊎-elim, List, ℕ, _+_, _-_, _*_, _^_, _≤_, _<_, max, arith, length, getD}
+use Rattle.counting.proofs.Prelude.{_≡_, sym, ap, _∙_, subst, _≢_, _⊎_, inl, inr, ⊎-elim, List, ℕ, _+_, _-_, _*_, _^_, _≤_, _<_, max, arith}
+use Rattle.counting.proofs.Prelude.{length, getD}
 use native.Mathlib.Nat.{le-trans, mul-suc, mul-le-mul-left}
 use lib.Bits.{bitOr}
 use lib.Count.{trailingZeros}
@@ -50,14 +51,20 @@ module _ (t : List ℕ) (mask base c d : ℕ) where
     kept = λ v l e. into v l (inl (g .kept v l e));
     only = λ v l e. ⊎-elim
         (λ o. g .only v l o)
-        (λ o. inr (trailingZeros 64 x, lowest-lt mask x (Held t base a b) (g .members) ne, lowest-in mask x (Held t base a b) (g .members) ne, subst (λ (y : ℕ). at 2 t y v ≡ 1) ew o))
+        (λ o. inr (
+          trailingZeros 64 x,
+          lowest-lt mask x (Held t base a b) (g .members) ne,
+          lowest-in mask x (Held t base a b) (g .members) ne,
+          subst (λ (y : ℕ). at 2 t y v ≡ 1) ew o,
+        ))
         (max-split (inPair a b v) (at 2 t w v) (pair-lt a b v) (at-lt 2 t w v) (sym (whole v l) ∙ e));
   }
     where
       whole : (v : ℕ) → v < 128 → inPair (bitOr a p) (bitOr b q) v ≡ max (inPair a b v) (at 2 t w v)
       whole v l =
           pair-or a b p q v l
-          ∙ ap (λ (y : ℕ). max (inPair a b v) y) (ap (λ (y : ℕ). inPair y q v) ep ∙ ap (λ (y : ℕ). inPair (getD t (2 * w) 0) y v) eq ∙ pair-at t w v l)
+          ∙ ap (λ (y : ℕ). max (inPair a b v) y)
+          (ap (λ (y : ℕ). inPair y q v) ep ∙ ap (λ (y : ℕ). inPair (getD t (2 * w) 0) y v) eq ∙ pair-at t w v l)
 
       into : (v : ℕ) → v < 128 → (inPair a b v ≡ 1) ⊎ (at 2 t w v ≡ 1) → inPair (bitOr a p) (bitOr b q) v ≡ 1
       into v l o = whole v l ∙ max-make (inPair a b v) (at 2 t w v) (pair-lt a b v) (at-lt 2 t w v) o
@@ -72,7 +79,8 @@ module _ (t : List ℕ) (mask base c d : ℕ) where
 
 -- two masks after another: the union of the sets of all members
 pub pictured-both : (t : List ℕ) (low high c d a b : ℕ) → Gathered t low 0 0 0 c d → Gathered t high 64 c d a b → Pictured t low high a b
-pictured-both t low high c d a b f g = record { here = λ v h. ((λ e. out v h (g .here v h .0 e)), λ p. into v h (p .0) (p .1) (p .2) (p .3)) }
+pictured-both t low high c d a b f g =
+    record { here = λ v h. ((λ e. out v h (g .here v h .0 e)), λ p. into v h (p .0) (p .1) (p .2) (p .3)) }
   where
     Through : ℕ → Type 0
     Through v = (w : ℕ) × (w < 128) × (inPair low high w ≡ 1) × (at 2 t w v ≡ 1)
@@ -81,18 +89,34 @@ pictured-both t low high c d a b f g = record { here = λ v h. ((λ e. out v h (
     out v h (inl e) =
         ⊎-elim
         (λ z. absurd (let n = pair-zero v h in omega arith))
-        (λ p. (p .0, (let l = p .1 in omega arith), pair-low low high (p .0) (p .1) ∙ p .2, subst (λ (x : ℕ). at 2 t x v ≡ 1) (let q : 0 + p .0 ≡ p .0 = omega arith in q) (p .3)))
+        (λ p. (
+          p .0,
+          (let l = p .1 in omega arith),
+          pair-low low high (p .0) (p .1)
+              ∙ p .2,
+          subst (λ (x : ℕ). at 2 t x v ≡ 1) (let q : 0 + p .0 ≡ p .0 = omega arith in q) (p .3),
+        ))
         (f .here v h .0 e)
     out v h (inr p) = (64 + p .0, (let l = p .1 in omega arith), pair-high low high (p .0) (p .1) ∙ p .2, p .3)
 
     into : (v : ℕ) → v < 128 → (w : ℕ) → w < 128 → inPair low high w ≡ 1 → at 2 t w v ≡ 1 → inPair a b v ≡ 1
     into v h w hw m e =
         ⊎-elim
-        (λ l. g .here v h .1 (inl (f .here v h .1 (inr (w, l, sym (pair-low low high w l) ∙ m, subst (λ (x : ℕ). at 2 t x v ≡ 1) (let q : w ≡ 0 + w = omega arith in q) e)))))
+        (λ l. g .here v h .1
+        (inl
+        (f .here v h .1
+        (inr (w, l, sym (pair-low low high w l) ∙ m, subst (λ (x : ℕ). at 2 t x v ≡ 1) (let q : w ≡ 0 + w = omega arith in q) e)))))
         (λ l.
         let q : w ≡ 64 + (w - 64) = omega arith in
         let k : w - 64 < 64 = omega arith in
-        g .here v h .1 (inr (w - 64, k, sym (pair-high low high (w - 64) k) ∙ subst (λ (x : ℕ). inPair low high x ≡ 1) q m, subst (λ (x : ℕ). at 2 t x v ≡ 1) q e)))
+        g .here v h .1
+        (inr (
+          w - 64,
+          k,
+          sym (pair-high low high (w - 64) k)
+              ∙ subst (λ (x : ℕ). inPair low high x ≡ 1) q m,
+          subst (λ (x : ℕ). at 2 t x v ≡ 1) q e,
+        )))
         (lt-or-le w 64)
 
 -- the first masks alone, where no vertex is above 63
@@ -111,13 +135,20 @@ pictured-first t n low high a few inside members f = record { here = λ v h. (ou
         ⊎-elim
         (λ l. ⊎-elim
         (λ z. absurd (let n = pair-zero v h in omega arith))
-        (λ p. (p .0, (let l = p .1 in omega arith), pair-low low high (p .0) (p .1) ∙ p .2, subst (λ (x : ℕ). at 2 t x v ≡ 1) (let q : 0 + p .0 ≡ p .0 = omega arith in q) (p .3)))
+        (λ p. (
+          p .0,
+          (let l = p .1 in omega arith),
+          pair-low low high (p .0) (p .1)
+              ∙ p .2,
+          subst (λ (x : ℕ). at 2 t x v ≡ 1) (let q : 0 + p .0 ≡ p .0 = omega arith in q) (p .3),
+        ))
         (f .gathered .here v h .0 (sym (same v l) ∙ e)))
         (λ l.
         let q : 64 + (v - 64) ≡ v = omega arith in
         let k : v - 64 < 64 = omega arith in
         let z = pair-zero v h in
-        absurd (let y : inPair a 0 v ≡ inPair 0 0 v = ap (inPair a 0) (sym q) ∙ pair-high a 0 (v - 64) k ∙ sym (pair-high 0 0 (v - 64) k) ∙ ap (inPair 0 0) q in omega arith))
+        absurd (let y : inPair a 0 v ≡ inPair 0 0 v = ap (inPair a 0) (sym q) ∙ pair-high a 0 (v - 64) k ∙ sym (pair-high 0 0 (v - 64) k)
+        ∙ ap (inPair 0 0) q in omega arith))
         (lt-or-le v 64)
 
     into : (v : ℕ) → v < 128 → (w : ℕ) → w < 128 → inPair low high w ≡ 1 → at 2 t w v ≡ 1 → inPair a 0 v ≡ 1
@@ -125,4 +156,5 @@ pictured-first t n low high a few inside members f = record { here = λ v h. (ou
         let lw : w < 64 = (let k = members w hw m in omega arith) in
         let lv : v < 64 = (let k = inside .head w v (hw, h, e) in omega arith) in
         same v lv
-        ∙ f .gathered .here v h .1 (inr (w, lw, sym (pair-low low high w lw) ∙ m, subst (λ (x : ℕ). at 2 t x v ≡ 1) (let q : w ≡ 0 + w = omega arith in q) e))
+        ∙ f .gathered .here v h .1
+        (inr (w, lw, sym (pair-low low high w lw) ∙ m, subst (λ (x : ℕ). at 2 t x v ≡ 1) (let q : w ≡ 0 + w = omega arith in q) e))

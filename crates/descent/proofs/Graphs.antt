@@ -1,5 +1,6 @@
 -- The descent for the table of edges of a graph: its reachability, longer routes and rows. Assumes nothing.
-use Rattle.counting.proofs.Prelude.{_≡_, sym, ap, ap₂, _∙_, subst, _≢_, ⊎-elim, _↔_, true, false, List, ℕ, _+_, _*_, _/_, _%_, _≤_, _<_, arith, getD, eq-eqb, eqb-true}
+use Rattle.counting.proofs.Prelude.{_≡_, sym, ap, ap₂, _∙_, subst, _≢_, ⊎-elim, _↔_, true, false, List, ℕ, _+_, _*_, _/_, _%_, _≤_, _<_}
+use Rattle.counting.proofs.Prelude.{arith, getD, eq-eqb, eqb-true}
 use native.Mathlib.Nat.{lt-of-lt-of-le}
 use Rattle.specification.specs.Count.{count, some}
 use Rattle.specification.specs.Sets.{at, has?}

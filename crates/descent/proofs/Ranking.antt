@@ -1,5 +1,6 @@
 -- The descent row by row: a vertex's successors have higher rows. The list c has the places. Assumes nothing.
-use Rattle.counting.proofs.Prelude.{_≡_, refl, sym, ap, ap₂, _∙_, subst, _≢_, inr, ⊎-elim, _↔_, List, ℕ, _+_, _-_, _*_, _^_, _≤_, _<_, arith, length, getD, eq-eqb}
+use Rattle.counting.proofs.Prelude.{_≡_, refl, sym, ap, ap₂, _∙_, subst, _≢_, inr, ⊎-elim, _↔_, List, ℕ, _+_, _-_, _*_, _^_, _≤_, _<_}
+use Rattle.counting.proofs.Prelude.{arith, length, getD, eq-eqb}
 use Rattle.counting.specs.Quads.{quad}
 use Rattle.counting.proofs.Truth.{lt-or-le, two-cases}
 use Rattle.specification.specs.Count.{above}
@@ -58,7 +59,8 @@ module _ (e : List ℕ) (n top : ℕ) (below : List ℕ) (inside : Inside e n) (
   rises : (u v : ℕ) → Arc e u v → row (has? 2 e) n u < row (has? 2 e) n v
   rises = arc-rises e n inside (λ v h. let a = pre .all v h in let b = pre .few in let s = inside .small in omega arith)
 
-  module _ (r p q p′ q′ : ℕ) (hr : r < top) (ep : p ≡ getD below (2 * r + 2) 0) (eq : q ≡ getD below (2 * r) 0) (ep′ : p′ ≡ getD below (2 * r + 3) 0) (eq′ : q′ ≡ getD below (2 * r + 1) 0)
+  module _ (r p q p′ q′ : ℕ) (hr : r < top) (ep : p ≡ getD below (2 * r + 2) 0) (eq : q ≡ getD below (2 * r) 0)
+      (ep′ : p′ ≡ getD below (2 * r + 3) 0) (eq′ : q′ ≡ getD below (2 * r + 1) 0)
       (fq : q < 2 ^ 64) (fq′ : q′ < 2 ^ 64) where
     -- the members of the two masks are the vertices of row r
     of-row : (v : ℕ) → v < 128 → inPair (without p q) (without p′ q′) v ≡ 1 ↔ ((v < n) × (row (has? 2 e) n v ≡ r))
@@ -68,13 +70,18 @@ module _ (e : List ℕ) (n top : ℕ) (below : List ℕ) (inside : Inside e n) (
           let a = pair-lt p p′ v in
           let y = pre .members (r + 1) v (omega arith) h .0 (sym upper ∙ omega arith) in
           let z : at 2 below r v ≡ 0 = sym lower ∙ omega arith in
-          let g = y .1 in
-          (y .0, ⊎-elim (λ k. absurd (let m = pre .members r v (omega arith) h .1 (y .0, k) in omega arith)) (λ k. omega arith) (lt-or-le (row (has? 2 e) n v) r))),
+          let g = y .1 in (
+            y .0,
+            ⊎-elim (λ k. absurd (let m = pre .members r v (omega arith) h .1 (y .0, k) in omega arith)) (λ k. omega arith)
+                (lt-or-le (row (has? 2 e) n v) r),
+          )),
       λ i.
           let w = pair-without p p′ q q′ v h fq fq′ in
           let g = i .1 in
           let y : inPair p p′ v ≡ 1 = upper ∙ pre .members (r + 1) v (omega arith) h .1 (i .0, omega arith) in
-          let z : inPair q q′ v ≡ 0 = lower ∙ ⊎-elim (λ k. k) (λ k. absurd (let m = pre .members r v (omega arith) h .0 k .1 in omega arith)) (two-cases (at 2 below r v) (at-lt 2 below r v)) in
+          let z : inPair q q′ v ≡ 0 = lower
+          ∙ ⊎-elim (λ k. k) (λ k. absurd (let m = pre .members r v (omega arith) h .0 k .1 in omega arith))
+          (two-cases (at 2 below r v) (at-lt 2 below r v)) in
           omega arith,
     )
       where
@@ -92,7 +99,11 @@ module _ (e : List ℕ) (n top : ℕ) (below : List ℕ) (inside : Inside e n) (
     low-row j h = ((λ i. of-row j (omega arith) .0 (pair-low _ _ j h ∙ i)), λ i. sym (pair-low _ _ j h) ∙ of-row j (omega arith) .1 i)
 
     high-row : (j : ℕ) → j < 64 → bit (without p′ q′) j ≡ 1 ↔ ((64 + j < n) × (row (has? 2 e) n (64 + j) ≡ r))
-    high-row j h = ((λ i. of-row (64 + j) (omega arith) .0 (pair-high _ _ j h ∙ i)), λ i. sym (pair-high (without p q) _ j h) ∙ of-row (64 + j) (omega arith) .1 i)
+    high-row j h = (
+      (λ i. of-row (64 + j) (omega arith) .0 (pair-high _ _ j h ∙ i)),
+      λ i. sym (pair-high (without p q) _ j h)
+          ∙ of-row (64 + j) (omega arith) .1 i,
+    )
 
     -- a list of w numbers for each of n vertices has theirs
     pub row-long : (w : ℕ) (t : List ℕ) → w * n ≤ length t → Long w t (without p q) 0 × Long w t (without p′ q′) 64
@@ -112,7 +123,9 @@ module _ (e : List ℕ) (n top : ℕ) (below : List ℕ) (inside : Inside e n) (
 
         pub descended-more : (t″ l″ c″ : List ℕ) → Row e (without p′ q′) 64 t′ l′ c′ t″ l″ c″ → Descended e n r t₀ l₀ c₀ t″ l″ c″
         descended-more t″ l″ c″ second = record {
-          done = λ v h k. ⊎-elim (λ b. second .kept v (first .kept v (g .done v h (omega arith)))) (λ b. own v h (omega arith)) (lt-or-le r (row (has? 2 e) n v));
+          done =
+              λ v h k. ⊎-elim (λ b. second .kept v (first .kept v (g .done v h (omega arith)))) (λ b. own v h (omega arith))
+              (lt-or-le r (row (has? 2 e) n v));
           others = λ v h. same-trans v t₀ l₀ t′ l′ t″ l″ (same-trans v t₀ l₀ t l t′ l′ (g .others v h) (first .others v (out-low v h)))
               (second .others v (out-high v h));
           rest = λ k v h o. second .rest k v h (λ z. out-high v (o z)) ∙ first .rest k v h (λ z. out-low v (o z)) ∙ g .rest k v h o;
@@ -129,11 +142,14 @@ module _ (e : List ℕ) (n top : ℕ) (below : List ℕ) (inside : Inside e n) (
             own v h k =
                 let s = inside .small in
                 ⊎-elim
-                (λ b. second .kept v (subst (λ (x : ℕ). Finished e t′ l′ c′ x) (let z : 0 + v ≡ v = omega arith in z) (first .done v b (low-row v b .1 (h, k)))))
+                (λ b. second .kept v
+                (subst (λ (x : ℕ). Finished e t′ l′ c′ x) (let z : 0 + v ≡ v = omega arith in z)
+                (first .done v b (low-row v b .1 (h, k)))))
                 (λ b.
                 let z : v ≡ 64 + (v - 64) = omega arith in
                 let m : v - 64 < 64 = omega arith in
-                subst (λ (x : ℕ). Finished e t″ l″ c″ x) (sym z) (second .done (v - 64) m (high-row (v - 64) m .1 (omega arith, ap (row (has? 2 e) n) (sym z) ∙ k))))
+                subst (λ (x : ℕ). Finished e t″ l″ c″ x) (sym z)
+                (second .done (v - 64) m (high-row (v - 64) m .1 (omega arith, ap (row (has? 2 e) n) (sym z) ∙ k))))
                 (lt-or-le v 64)
 
   pub descended-all : (t l c t′ l′ c′ : List ℕ) → Descended e n 0 t l c t′ l′ c′ → Closed e n t l c t′ l′ c′

@@ -1,5 +1,6 @@
 -- Rows round by round, each stored when it is settled. Assumes nothing.
-use Rattle.counting.proofs.Prelude.{_≡_, refl, sym, ap, ap₂, _∙_, subst, _≢_, _⊎_, inl, inr, ⊎-elim, _↔_, Bool, true, false, true≢false, List, ℕ, suc, _+_, _-_, _*_, _^_, _≤_, _<_, min, zero-le, arith, length, getD, eq-eqb, eqb-true}
+use Rattle.counting.proofs.Prelude.{_≡_, refl, sym, ap, ap₂, _∙_, subst, _≢_, _⊎_, inl, inr, ⊎-elim, _↔_, Bool, true, false, true≢false}
+use Rattle.counting.proofs.Prelude.{List, ℕ, suc, _+_, _-_, _*_, _^_, _≤_, _<_, min, zero-le, arith, length, getD, eq-eqb, eqb-true}
 use native.Mathlib.Nat.{lt-of-le-of-lt}
 use native.Mathlib.Decide.{ℕ-discrete}
 use native.Mathlib.Numerals.{add-one}
@@ -118,7 +119,8 @@ pair-none a b v z h =
     let w : inPair (bitOr a b) (bitOr b a) v ≡ 0 = ap₂ (λ (x y : ℕ). inPair x y v) z (or-comm b a ∙ z) ∙ pair-zero v h in
     omega arith
 
-module _ (e : List ℕ) (n : ℕ) (small : n ≤ 128) (r low high first second p q a b : ℕ) (places s below : List ℕ) (o : Round e n r low high places s below)
+module _ (e : List ℕ) (n : ℕ) (small : n ≤ 128) (r low high first second p q a b : ℕ) (places s below : List ℕ)
+    (o : Round e n r low high places s below)
     (start : Below n first second) (m : Pictured e low high p q) (ea : a ≡ bitAnd low p) (eb : b ≡ bitAnd high q) where
   fits-a : a < 2 ^ 64
   fits-a = subst (λ (x : ℕ). x < 2 ^ 64) (sym ea) (lt-of-le-of-lt (and-le-l low p) (o .low-fits))
@@ -174,26 +176,32 @@ module _ (e : List ℕ) (n : ℕ) (small : n ≤ 128) (r low high first second p
     kept : (k v : ℕ) → k < 4 → (k ≡ 2 → v < 128 → inPair (without low a) (without high b) v ≡ 1 → ⊥) → quad k s″ v ≡ quad k s v
     kept k v hk out =
         w′ .others k v hk (λ z j h i y. out z (omega arith) (ap (inPair (without low a) (without high b)) y ∙ pair-high _ _ j h ∙ i))
-        ∙ w .others k v hk (λ z j h i y. out z (omega arith) (ap (inPair (without low a) (without high b)) (y ∙ (let x : 0 + j ≡ j = omega arith in x)) ∙ pair-low _ _ j h ∙ i))
+        ∙ w .others k v hk
+        (λ z j h i y. out z (omega arith)
+        (ap (inPair (without low a) (without high b)) (y ∙ (let x : 0 + j ≡ j = omega arith in x)) ∙ pair-low _ _ j h ∙ i))
 
     -- one that stops has row r
     written : (v : ℕ) → v < 128 → inPair (without low a) (without high b) v ≡ 1 → quad 2 s″ v ≡ r
     written v h i =
         ⊎-elim
-        (λ l. w′ .others 2 v (omega arith) (λ _ j hj z k. omega arith) ∙ ap (quad 2 s′) (let k : v ≡ 0 + v = omega arith in k) ∙ w .done v l (sym (pair-low _ _ v l) ∙ i))
+        (λ l. w′ .others 2 v (omega arith) (λ _ j hj z k. omega arith) ∙ ap (quad 2 s′) (let k : v ≡ 0 + v = omega arith in k)
+        ∙ w .done v l (sym (pair-low _ _ v l) ∙ i))
         (λ l.
         let k : v ≡ 64 + (v - 64) = omega arith in
         let hj : v - 64 < 64 = omega arith in
-        ap (quad 2 s″) k ∙ w′ .done (v - 64) hj (sym (pair-high (without low a) _ (v - 64) hj) ∙ subst (λ (x : ℕ). inPair (without low a) (without high b) x ≡ 1) k i))
+        ap (quad 2 s″) k ∙ w′ .done (v - 64) hj
+        (sym (pair-high (without low a) _ (v - 64) hj) ∙ subst (λ (x : ℕ). inPair (without low a) (without high b) x ≡ 1) k i))
         (lt-or-le v 64)
 
     next-rule : (v : ℕ) → v < n → rowWithin (has? 2 e) n (suc r) v < suc r → quad 2 s″ v ≡ rowWithin (has? 2 e) n (suc r) v
     next-rule v h l =
         let hv : v < 128 = omega arith in
         let same = same-row (has? 2 e) n r v (omega arith) in
-        let none : inPair a b v ≡ 0 = ⊎-elim (λ k. k) (λ k. absurd (let g = grows v hv .0 k .1 in omega arith)) (two-cases (inPair a b v) (pair-lt a b v)) in
+        let none : inPair a b v ≡ 0 = ⊎-elim (λ k. k) (λ k. absurd (let g = grows v hv .0 k .1 in omega arith))
+        (two-cases (inPair a b v) (pair-lt a b v)) in
         ⊎-elim
-        (λ k. kept 2 v (omega arith) (λ _ z i. let g = o .growing v hv .0 (stops low high v hv .0 i .0) .1 in omega arith) ∙ o .rule v h k ∙ sym same)
+        (λ k. kept 2 v (omega arith) (λ _ z i. let g = o .growing v hv .0 (stops low high v hv .0 i .0) .1 in omega arith) ∙ o .rule v h k
+        ∙ sym same)
         (λ k. written v hv (stops low high v hv .1 (o .growing v hv .1 (h, k), none)) ∙ omega arith)
         (lt-or-le (rowWithin (has? 2 e) n r v) r)
 
@@ -206,8 +214,11 @@ module _ (e : List ℕ) (n : ℕ) (small : n ≤ 128) (r low high first second p
               (λ i.
                   let y = stops first second v h .0 (sym z ∙ i) in
                   let hv = start .members v h .0 (y .0) in
-                  let no = y .1 in
-                  (hv, ⊎-elim (λ l. omega arith) (λ l. absurd (let g = grows v h .1 (hv, l) in omega arith)) (lt-or-le (rowWithin (has? 2 e) n (suc r) v) (suc r)))),
+                  let no = y .1 in (
+                    hv,
+                    ⊎-elim (λ l. omega arith) (λ l. absurd (let g = grows v h .1 (hv, l) in omega arith))
+                        (lt-or-le (rowWithin (has? 2 e) n (suc r) v) (suc r)),
+                  )),
               λ i.
                   let l = i .1 in
                   z ∙ stops first second v h .1 (
@@ -251,7 +262,8 @@ module _ (e : List ℕ) (n : ℕ) (small : n ≤ 128) (r low high first second p
       low-rows : (v : ℕ) → v < n → rowWithin (has? 2 e) n (suc r) v < suc r
       low-rows v h =
           let hv : v < 128 = omega arith in
-          ⊎-elim (λ l. l) (λ l. absurd (let g = grows v hv .1 (h, l) in let y = pair-none a b v z hv in omega arith)) (lt-or-le (rowWithin (has? 2 e) n (suc r) v) (suc r))
+          ⊎-elim (λ l. l) (λ l. absurd (let g = grows v hv .1 (h, l) in let y = pair-none a b v z hv in omega arith))
+          (lt-or-le (rowWithin (has? 2 e) n (suc r) v) (suc r))
 
       last-rows : (v : ℕ) → v < n → row (has? 2 e) n v < suc r
       last-rows v h = below-last (has? 2 e) n (suc r) (suc r) v (omega arith) (omega arith) .0 (low-rows v h)
@@ -303,7 +315,9 @@ module _ (e : List ℕ) (n low high : ℕ) (places s was below : List ℕ) (insi
       let small = inside .small in
       record {
         edges = λ u v hu hv i. reached-decided e n inside u v .0 (one (omega arith, omega arith, eqb-true _ _ i));
-        trans = λ u v x hu hv hx i j. reached-decided e n inside u x .0 (reaches-trans (reached-decided e n inside u v .1 i) (reached-decided e n inside v x .1 j));
+        trans =
+            λ u v x hu hv hx i j. reached-decided e n inside u x .0
+            (reaches-trans (reached-decided e n inside u v .1 i) (reached-decided e n inside v x .1 j));
         irrefl = λ u hu i. true≢false (sym (some-found n self u hu i) ∙ none);
       }
 

@@ -32,7 +32,8 @@ module _ (mask base r : ℕ) (p : List ℕ) where
         (λ j e. kept (base + j) e (ℕ-discrete (base + j) v))
         (ap (quad 2 (set s (4 * v + 2) r)) (sym ev) ∙ quad-same s v 2 r hv);
     others = λ k w l o. quad-other s w k v 2 r l (omega arith)
-        (λ e f. o f (trailingZeros 64 x) (lowest-lt mask x _ (g .members) ne) (lowest-in mask x _ (g .members) ne) (e ∙ ev)) ∙ g .others k w l o;
+        (λ e f. o f (trailingZeros 64 x) (lowest-lt mask x _ (g .members) ne) (lowest-in mask x _ (g .members) ne) (e ∙ ev))
+        ∙ g .others k w l o;
   }
     where
       kept : (i : ℕ) → quad 2 s i ≡ r → Dec (i ≡ v) → quad 2 (set s (4 * v + 2) r) i ≡ r
@@ -63,7 +64,8 @@ module _ (e : List ℕ) (mask base : ℕ) (t l p : List ℕ) where
     rest = λ k v h o. refl;
   }
 
-  pub closing-more : (t′ l′ p′ : List ℕ) (x u : ℕ) (t″ l″ p″ : List ℕ) → Closing e mask base t l p t′ l′ p′ x → x ≢ 0 → u ≡ base + trailingZeros 64 x
+  pub closing-more : (t′ l′ p′ : List ℕ) (x u : ℕ) (t″ l″ p″ : List ℕ) → Closing e mask base t l p t′ l′ p′ x → x ≢ 0
+      → u ≡ base + trailingZeros 64 x
       → Vertex e u t′ l′ p′ t″ l″ p″ → Closing e mask base t l p t″ l″ p″ (clear x)
   closing-more t′ l′ p′ x u t″ l″ p″ g ne eu f = record {
     members = visited-more mask x (λ j. Finished e t′ l′ p′ (base + j)) (g .members) ne (λ j. Finished e t″ l″ p″ (base + j))

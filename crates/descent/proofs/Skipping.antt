@@ -1,5 +1,6 @@
 -- Members that are in the union already are left out. Assumes nothing.
-use Rattle.counting.proofs.Prelude.{_≡_, refl, sym, ap, _∙_, subst, _≢_, _⊎_, inl, inr, ⊎-elim, List, ℕ, _+_, _-_, _*_, _^_, _≤_, _<_, max, arith, getD}
+use Rattle.counting.proofs.Prelude.{_≡_, refl, sym, ap, _∙_, subst, _≢_, _⊎_, inl, inr, ⊎-elim, List, ℕ, _+_, _-_, _*_, _^_, _≤_, _<_, max}
+use Rattle.counting.proofs.Prelude.{arith, getD}
 use native.Mathlib.Nat.{lt-of-le-of-lt}
 use lib.Bits.{bitOr, and-le-l, or-lt}
 use lib.Count.{trailingZeros}
@@ -18,7 +19,8 @@ pub covered-none : (t : List ℕ) (low high : ℕ) → Covered t low high 0 0
 covered-none t low high = record { inner = λ w v hw hv m i e. absurd (let z = pair-zero w hw in omega arith) }
 
 module _ (t : List ℕ) (low high : ℕ) (n : Nested t low high) where
-  covered-more : (a b w : ℕ) → Covered t low high a b → w < 128 → inPair low high w ≡ 1 → Covered t low high (bitOr a (getD t (2 * w) 0)) (bitOr b (getD t (2 * w + 1) 0))
+  covered-more : (a b w : ℕ) → Covered t low high a b → w < 128 → inPair low high w ≡ 1
+      → Covered t low high (bitOr a (getD t (2 * w) 0)) (bitOr b (getD t (2 * w + 1) 0))
   covered-more a b w g hw mw = record {
     inner = λ x v hx hv m i e. into v hv (⊎-elim
         (λ o. inl (g .inner x v hx hv m o e))
@@ -29,16 +31,19 @@ module _ (t : List ℕ) (low high : ℕ) (n : Nested t low high) where
       whole : (v : ℕ) → v < 128 → inPair (bitOr a (getD t (2 * w) 0)) (bitOr b (getD t (2 * w + 1) 0)) v ≡ max (inPair a b v) (at 2 t w v)
       whole v h = pair-or a b _ _ v h ∙ ap (max (inPair a b v)) (pair-at t w v h)
 
-      into : (v : ℕ) → v < 128 → (inPair a b v ≡ 1) ⊎ (at 2 t w v ≡ 1) → inPair (bitOr a (getD t (2 * w) 0)) (bitOr b (getD t (2 * w + 1) 0)) v ≡ 1
+      into : (v : ℕ) → v < 128 → (inPair a b v ≡ 1) ⊎ (at 2 t w v ≡ 1)
+          → inPair (bitOr a (getD t (2 * w) 0)) (bitOr b (getD t (2 * w + 1) 0)) v ≡ 1
       into v h o = whole v h ∙ max-make (inPair a b v) (at 2 t w v) (pair-lt a b v) (at-lt 2 t w v) o
 
   -- a mask of low, high that begins at vertex `base`
   module _ (mask base : ℕ) (few : base ≤ 64) (part : (j : ℕ) → j < 64 → bit mask j ≡ 1 → inPair low high (base + j) ≡ 1) (c d : ℕ) where
     -- those of the mask that the union has, by its own mask `own`, are left out
-    pub gathering-skip : (a b x own : ℕ) → Gathering t mask base c d a b x → Covered t low high a b → own < 2 ^ 64 → ((j : ℕ) → j < 64 → inPair a b (base + j) ≡ bit own j)
+    pub gathering-skip : (a b x own : ℕ) → Gathering t mask base c d a b x → Covered t low high a b → own < 2 ^ 64
+        → ((j : ℕ) → j < 64 → inPair a b (base + j) ≡ bit own j)
         → Gathering t mask base c d a b (without x own)
     gathering-skip a b x own g v f same = record {
-      members = visited-skip mask x (without x own) (Held t base a b) (g .members) (lt-of-le-of-lt (and-le-l x _) (g .members .fits)) sub out;
+      members =
+          visited-skip mask x (without x own) (Held t base a b) (g .members) (lt-of-le-of-lt (and-le-l x _) (g .members .fits)) sub out;
       kept = g .kept;
       only = g .only;
     }
@@ -62,7 +67,8 @@ module _ (t : List ℕ) (low high : ℕ) (n : Nested t low high) where
 
     -- one member more, and what the union then has is left out
     pub skipping-more : (a b x w : ℕ) → Gathering t mask base c d a b x → Covered t low high a b → x ≢ 0 → w ≡ base + trailingZeros 64 x
-        → Gathering t mask base c d (bitOr a (getD t (2 * w) 0)) (bitOr b (getD t (2 * w + 1) 0)) (clear x) × Covered t low high (bitOr a (getD t (2 * w) 0)) (bitOr b (getD t (2 * w + 1) 0))
+        → Gathering t mask base c d (bitOr a (getD t (2 * w) 0)) (bitOr b (getD t (2 * w + 1) 0)) (clear x)
+        × Covered t low high (bitOr a (getD t (2 * w) 0)) (bitOr b (getD t (2 * w + 1) 0))
     skipping-more a b x w g v ne ew =
         let l = lowest-lt mask x _ (g .members) ne in (
           gathering-more t mask base c d a b x w _ _ g ne ew refl refl,
@@ -88,18 +94,21 @@ pub record Second (t : List ℕ) (mask c d a b x : ℕ) : Type 0 where
   pub covered : Covered t 0 mask a b
 
 pub first-none : (t : List ℕ) (low high : ℕ) → low < 2 ^ 64 → First t low high 0 0 low
-first-none t low high h = record { low-fits = omega arith; high-fits = omega arith; so-far = gathering-none t low 0 0 0 h; covered = covered-none t low high }
+first-none t low high h =
+    record { low-fits = omega arith; high-fits = omega arith; so-far = gathering-none t low 0 0 0 h; covered = covered-none t low high }
 
 module _ (t : List ℕ) (low high : ℕ) (n : Nested t low high) where
   low-part : (j : ℕ) → j < 64 → bit low j ≡ 1 → inPair low high (0 + j) ≡ 1
   low-part j h e = ap (inPair low high) (let z : 0 + j ≡ j = omega arith in z) ∙ pair-low low high j h ∙ e
 
   pub first-more : ((i : ℕ) → getD t i 0 < 2 ^ 64) → (a b x : ℕ) → First t low high a b x → x ≢ 0
-      → First t low high (bitOr a (getD t (2 * trailingZeros 64 x) 0)) (bitOr b (getD t (2 * trailingZeros 64 x + 1) 0)) (without (clear x) (bitOr a (getD t (2 * trailingZeros 64 x) 0)))
+      → First t low high (bitOr a (getD t (2 * trailingZeros 64 x) 0)) (bitOr b (getD t (2 * trailingZeros 64 x + 1) 0))
+      (without (clear x) (bitOr a (getD t (2 * trailingZeros 64 x) 0)))
   first-more fit a b x g ne =
       let w : ℕ = trailingZeros 64 x in
       let fa = or-lt 64 a (getD t (2 * w) 0) (g .low-fits) (fit (2 * w)) in
-      let k = skipping-more t low high n low 0 (omega arith) low-part 0 0 a b x w (g .so-far) (g .covered) ne (let z : w ≡ 0 + w = omega arith in z) in
+      let k = skipping-more t low high n low 0 (omega arith) low-part 0 0 a b x w (g .so-far) (g .covered) ne
+      (let z : w ≡ 0 + w = omega arith in z) in
       record {
         low-fits = fa;
         high-fits = or-lt 64 b (getD t (2 * w + 1) 0) (g .high-fits) (fit (2 * w + 1));
@@ -115,11 +124,13 @@ second-in low high w h e =
     (λ l. absurd (let z = pair-low 0 high w l ∙ bit-of-zero w in omega arith))
     (λ l.
     let q : 64 + (w - 64) ≡ w = omega arith in
-    subst (λ (x : ℕ). inPair low high x ≡ 1) q (pair-high low high (w - 64) (omega arith) ∙ sym (pair-high 0 high (w - 64) (omega arith)) ∙ ap (inPair 0 high) q ∙ e))
+    subst (λ (x : ℕ). inPair low high x ≡ 1) q
+    (pair-high low high (w - 64) (omega arith) ∙ sym (pair-high 0 high (w - 64) (omega arith)) ∙ ap (inPair 0 high) q ∙ e))
     (lt-or-le w 64)
 
 pub nested-second : (t : List ℕ) (low high : ℕ) → Nested t low high → Nested t 0 high
-nested-second t low high n = record { holds = λ x w v hx hw hv i j. n .holds x w v hx hw hv (second-in low high x hx i) (second-in low high w hw j) }
+nested-second t low high n =
+    record { holds = λ x w v hx hw hv i j. n .holds x w v hx hw hv (second-in low high x hx i) (second-in low high w hw j) }
 
 pub covered-second : (t : List ℕ) (low high a b : ℕ) → Covered t low high a b → Covered t 0 high a b
 covered-second t low high a b g = record { inner = λ w v hw hv i. g .inner w v hw hv (second-in low high w hw i) }
@@ -131,7 +142,9 @@ module _ (t : List ℕ) (mask : ℕ) (n : Nested t 0 mask) where
   pub second-none : (a b : ℕ) → b < 2 ^ 64 → mask < 2 ^ 64 → Covered t 0 mask a b → Second t mask a b a b (without mask b)
   second-none a b fb fm g = record {
     high-fits = fb;
-    so-far = gathering-skip t 0 mask n mask 64 (omega arith) part a b a b mask b (gathering-none t mask 64 a b fm) g fb (λ j l. pair-high a b j l);
+    so-far =
+        gathering-skip t 0 mask n mask 64 (omega arith) part a b a b mask b (gathering-none t mask 64 a b fm) g fb
+        (λ j l. pair-high a b j l);
     covered = g;
   }
 

@@ -1,5 +1,6 @@
 -- Reachability with one edge more, vertex by vertex over a table with w masks a vertex, for any w. Assumes nothing.
-use Rattle.counting.proofs.Prelude.{_≡_, refl, sym, ap, _∙_, subst, _≢_, true, false, _||_, _&&_, List, ℕ, _+_, _*_, _<_, max, arith, eqb, length, eq-eqb, ne-eqb}
+use Rattle.counting.proofs.Prelude.{_≡_, refl, sym, ap, _∙_, subst, _≢_, true, false, _||_, _&&_, List, ℕ, _+_, _*_, _<_, max, arith, eqb}
+use Rattle.counting.proofs.Prelude.{length, eq-eqb, ne-eqb}
 use native.Mathlib.Nat.{not-suc-le-zero, le-refl, mul-zero}
 use native.Mathlib.Decide.{ℕ-discrete}
 use borrow.Author.Count.{below-more}
@@ -20,7 +21,8 @@ module _ (w : ℕ) (t : List ℕ) where
   target-law head o hh size same = record { holds = λ y hy. go y hy (ℕ-discrete y head) }
     where
       put : Put w o 0 head (inserted o 0 head)
-      put = subst (λ (first : ℕ). Put w o 0 head (inserted o first head)) (mul-zero w) (put-law w o 0 head hh (rw (mul-zero w) (omega arith)))
+      put =
+          subst (λ (first : ℕ). Put w o 0 head (inserted o first head)) (mul-zero w) (put-law w o 0 head hh (rw (mul-zero w) (omega arith)))
 
       read : (y : ℕ) → member (inserted o 0 head) 0 y ≡ at w (inserted o 0 head) 0 y
       read y = ap (λ (first : ℕ). member (inserted o 0 head) first y) (sym (mul-zero w))
@@ -30,7 +32,9 @@ module _ (w : ℕ) (t : List ℕ) where
           subst (λ (z : ℕ). eqb (member (inserted o 0 head) 0 z) 1 ≡ (eqb z head || has? w t head z)) (sym e)
           (eq-eqb _ _ (read head ∙ put .here) ∙ rw (eq-eqb head head refl))
       go y hy (no d) =
-          ap (λ (b : ℕ). eqb b 1) (read y ∙ put .other 0 y hy (λ _ e. d e) ∙ ap (λ (first : ℕ). member o first y) (mul-zero w) ∙ row-member w t head o same y hy)
+          ap (λ (b : ℕ). eqb b 1)
+          (read y ∙ put .other 0 y hy (λ _ e. d e) ∙ ap (λ (first : ℕ). member o first y) (mul-zero w)
+          ∙ row-member w t head o same y hy)
           ∙ rw (ne-eqb y head d)
 
   module _ (tail head : ℕ) where
@@ -58,11 +62,13 @@ module _ (w : ℕ) (t : List ℕ) where
       comes-same ht = ap (λ (b : ℕ). eqb n tail || eqb b 1) (same tail ht)
 
       -- it is or has: it gets the target
-      pub linked-set : (r o : List ℕ) → (eqb n tail || has? w s n tail) ≡ true → tail < w * 64 → Target head o → Absorbed w s n o r → Linked w t tail head (n + 1) r
+      pub linked-set : (r o : List ℕ) → (eqb n tail || has? w s n tail) ≡ true → tail < w * 64 → Target head o → Absorbed w s n o r
+          → Linked w t tail head (n + 1) r
       unfolding across? has?
       linked-set r o comes ht target a = more r (λ y h. here y h) (a .other)
         where
-          here : (y : ℕ) → y < w * 64 → has? w r n y ≡ (has? w t n y || ((eqb n tail || has? w t n tail) && (eqb y head || has? w t head y)))
+          here : (y : ℕ) → y < w * 64 → has? w r n y
+              ≡ (has? w t n y || ((eqb n tail || has? w t n tail) && (eqb y head || has? w t head y)))
           here y h =
               ap (λ (b : ℕ). eqb b 1) (a .here y h ∙ ap (λ (b : ℕ). max b (member o 0 y)) (same y h))
               ∙ max-test (at w t n y) (member o 0 y) (at-lt w t n y) (member-lt o 0 y) ∙ rw (target .holds y h, sym (comes-same ht) ∙ comes)
@@ -72,5 +78,6 @@ module _ (w : ℕ) (t : List ℕ) where
       unfolding across? has?
       linked-clear apart ht = more s (λ y h. here y h) (λ x y h ne. refl)
         where
-          here : (y : ℕ) → y < w * 64 → has? w s n y ≡ (has? w t n y || ((eqb n tail || has? w t n tail) && (eqb y head || has? w t head y)))
+          here : (y : ℕ) → y < w * 64 → has? w s n y
+              ≡ (has? w t n y || ((eqb n tail || has? w t n tail) && (eqb y head || has? w t head y)))
           here y h = ap (λ (b : ℕ). eqb b 1) (same y h) ∙ rw (sym (comes-same ht) ∙ apart) (sym (or-false (has? w t n y)))

@@ -1,5 +1,7 @@
 -- The machine's laws: the order of its tests, its steps, and what holds of every graph that it comes to. Assumes nothing.
-use Rattle.counting.proofs.Prelude.{_≡_, refl, sym, _∙_, _≢_, _⊎_, inl, inr, ⊎-elim, _↔_, Bool, true, false, true≢false, false≢true, _||_, _&&_, List, [], _∷_, ℕ, zero, suc, _≤_, _<_, zero-le, arith, eqb, leb, length, eqb-false, leb-false, le-leb}
+use Rattle.counting.proofs.Prelude.{_≡_, refl, sym, _∙_, _≢_, _⊎_, inl, inr, ⊎-elim, _↔_, Bool, true, false, true≢false, false≢true, _||_}
+use Rattle.counting.proofs.Prelude.{_&&_, List, [], _∷_, ℕ, zero, suc, _≤_, _<_, zero-le, arith, eqb, leb, length, eqb-false, leb-false}
+use Rattle.counting.proofs.Prelude.{le-leb}
 use native.Mathlib.Nat.{suc-ne-zero}
 use native.Mathlib.Decide.{ℕ-discrete, decLt}
 use Rattle.counting.proofs.Truth.{or-left, or-right, or-neither, same-truth}
@@ -9,7 +11,8 @@ use Rattle.specification.specs.Graph.{Reaches, sizeRefusal}
 use Rattle.specification.specs.Graph.Reaches.{one, more}
 use Rattle.reach.proofs.Decide.{reaches-decided}
 use Rattle.reach.proofs.Extending.{Extends, Across, extended, stays-acyclic}
-use Rattle.specification.specs.Machine.{Edge, Graph, Call, Answer, Turn, contains, In, unknown?, reached?, cyclic?, full?, verdict, refusal, insert, change, reply, step, run, empty, startVertices, fresh, Distinct, Lawful}
+use Rattle.specification.specs.Machine.{Edge, Graph, Call, Answer, Turn, contains, In, unknown?, reached?, cyclic?, full?, verdict, refusal}
+use Rattle.specification.specs.Machine.{insert, change, reply, step, run, empty, startVertices, fresh, Distinct, Lawful}
 use Rattle.specification.specs.Machine.Edge.{edge}
 
 -- ---- the first test that holds
@@ -105,7 +108,8 @@ module _ (g : Graph) (l : Lawful g) (u v : ℕ) (a : Accepted g u v) where
       }
 
   -- the routes after it, computed: those before it, and those across the new edge
-  pub insert-reached : (x y : ℕ) → reached? (insert g u v) x y ≡ (reached? g x y || ((eqb x u || reached? g x u) && (eqb y v || reached? g v y)))
+  pub insert-reached : (x y : ℕ) → reached? (insert g u v) x y
+      ≡ (reached? g x y || ((eqb x u || reached? g x u) && (eqb y v || reached? g v y)))
   unfolding insert
   insert-reached x y = same-truth _ _ (λ e. test .0 (routes .0 (after .1 e))) (λ e. after .0 (routes .1 (test .1 e)))
     where
@@ -115,7 +119,8 @@ module _ (g : Graph) (l : Lawful g) (u v : ℕ) (a : Accepted g u v) where
       after : Reaches (In (edge u v ∷ g .edges)) x y ↔ (reached? (insert g u v) x y ≡ true)
       after = reached-decided (insert g u v) insert-lawful x y
 
-      routes : Reaches (In (edge u v ∷ g .edges)) x y ↔ Reaches (In (g .edges)) x y ⊎ Across (In (g .edges)) (In (edge u v ∷ g .edges)) u v x y
+      routes : Reaches (In (edge u v ∷ g .edges)) x y ↔ Reaches (In (g .edges)) x y
+          ⊎ Across (In (g .edges)) (In (edge u v ∷ g .edges)) u v x y
       routes = extended (In (g .edges)) (In (edge u v ∷ g .edges)) u v (insert-extends (g .edges) u v) x y
 
       test : (Reaches (In (g .edges)) x y ⊎ Across (In (g .edges)) (In (edge u v ∷ g .edges)) u v x y)
@@ -209,7 +214,9 @@ fresh-lawful n = go (ℕ-discrete n 0) (decLt 128 n)
 
 unknown-either : (g : Graph) (u v : ℕ) → (g .vertices ≤ u) ⊎ (g .vertices ≤ v) → unknown? g u v ≡ true
 unfolding unknown?
-unknown-either g u v = ⊎-elim (λ h. or-left (leb (g .vertices) u) (leb (g .vertices) v) (le-leb _ _ h)) (λ h. or-right (leb (g .vertices) u) (leb (g .vertices) v) (le-leb _ _ h))
+unknown-either g u v =
+    ⊎-elim (λ h. or-left (leb (g .vertices) u) (leb (g .vertices) v) (le-leb _ _ h))
+    (λ h. or-right (leb (g .vertices) u) (leb (g .vertices) v) (le-leb _ _ h))
 
 -- refused with 3, and nothing changes
 unfoldable pub refusedThree : Graph → Turn

@@ -1,12 +1,14 @@
 -- What the machine's answers say of its set of edges. Assumes nothing.
-use Rattle.counting.proofs.Prelude.{_≡_, refl, sym, ap, _∙_, subst, _⊎_, inl, inr, ⊎-elim, _↔_, Bool, true, false, true≢false, _||_, _∷_, ℕ, zero, suc, _≤_, _<_, arith, eqb, leb, length, leb-true, leb-false, lt-leb}
+use Rattle.counting.proofs.Prelude.{_≡_, refl, sym, ap, _∙_, subst, _⊎_, inl, inr, ⊎-elim, _↔_, Bool, true, false, true≢false, _||_, _∷_, ℕ}
+use Rattle.counting.proofs.Prelude.{zero, suc, _≤_, _<_, arith, eqb, leb, length, leb-true, leb-false, lt-leb}
 use Rattle.counting.proofs.Truth.{or-elim, true-or-false}
 use Rattle.counting.proofs.Deciding.{eq-decided, or-decided}
 use Rattle.counting.proofs.Falsity.{not-true, neither}
 use Rattle.specification.specs.Graph.{Reaches}
 use Rattle.specification.specs.Graph.Reaches.{one, more}
 use Rattle.reach.proofs.Extending.{reaches-mono, Extends, stays-acyclic}
-use Rattle.specification.specs.Machine.{Graph, Call, Answer, Turn, contains, In, unknown?, reached?, cyclic?, full?, verdict, refusal, insert, change, reply, step, Lawful}
+use Rattle.specification.specs.Machine.{Graph, Call, Answer, Turn, contains, In, unknown?, reached?, cyclic?, full?, verdict, refusal}
+use Rattle.specification.specs.Machine.{insert, change, reply, step, Lawful}
 use Rattle.specification.specs.Machine.Edge.{edge}
 use Rattle.editing.specs.Meaning.{Closes, Why, Exact}
 use Rattle.editing.proofs.Machines.{known, reached-decided, insert-extends, add-made, refusedThree, unknown-leads}
@@ -15,7 +17,8 @@ use Rattle.editing.proofs.Machines.{known, reached-decided, insert-exte
 
 unknown-which : (g : Graph) (u v : ℕ) → unknown? g u v ≡ true → (g .vertices ≤ u) ⊎ (g .vertices ≤ v)
 unfolding unknown?
-unknown-which g u v e = ⊎-elim (λ b. inl (leb-true _ _ b)) (λ b. inr (leb-true _ _ b)) (or-elim (leb (g .vertices) u) (leb (g .vertices) v) e)
+unknown-which g u v e =
+    ⊎-elim (λ b. inl (leb-true _ _ b)) (λ b. inr (leb-true _ _ b)) (or-elim (leb (g .vertices) u) (leb (g .vertices) v) e)
 
 known-both : (g : Graph) (u v : ℕ) → u < g .vertices → v < g .vertices → unknown? g u v ≡ false
 unfolding unknown?
@@ -38,7 +41,8 @@ add-free g h (suc k) e = absurd (let z : _≡_ {A = ℕ} 0 1 = cc in omega arith
 -- the test for a cycle is right: some vertex would reach itself
 closes-decided : (g : Graph) → Lawful g → (u v : ℕ) → (cyclic? g u v ≡ true) ↔ Closes g u v
 unfolding cyclic?
-closes-decided g l u v = ((λ e. made (test .1 e)), λ c. ⊎-elim (λ e. e) (λ e. absurd (none e (c .0) (c .1))) (true-or-false (eqb v u || reached? g v u)))
+closes-decided g l u v =
+    ((λ e. made (test .1 e)), λ c. ⊎-elim (λ e. e) (λ e. absurd (none e (c .0) (c .1))) (true-or-false (eqb v u || reached? g v u)))
   where
     x : Extends (In (g .edges)) (In (edge u v ∷ g .edges)) u v
     x = insert-extends (g .edges) u v
@@ -51,7 +55,9 @@ closes-decided g l u v = ((λ e. made (test .1 e)), λ c. ⊎-elim (λ e. e) (λ
     made (inr p) = (u, more (x .new) (reaches-mono (x .old) p))
 
     none : (eqb v u || reached? g v u) ≡ false → (w : ℕ) → Reaches (In (edge u v ∷ g .edges)) w w → ⊥
-    none e = stays-acyclic (In (g .edges)) (In (edge u v ∷ g .edges)) u v x (λ q. true≢false (sym (test .0 (inl q)) ∙ e)) (λ p. true≢false (sym (test .0 (inr p)) ∙ e)) (l .acyclic)
+    none e =
+        stays-acyclic (In (g .edges)) (In (edge u v ∷ g .edges)) u v x (λ q. true≢false (sym (test .0 (inl q)) ∙ e))
+        (λ p. true≢false (sym (test .0 (inr p)) ∙ e)) (l .acyclic)
 
 refusal-why : (g : Graph) → Lawful g → (u v : ℕ) → Why g u v (refusal g u v)
 unfolding refusal verdict full?

@@ -13,7 +13,8 @@ use Rattle.editing.proofs.Machines.{leads-kept, run-lawful, fresh-lawfu
 use Rattle.editing.proofs.Meaning.{exact}
 
 -- one call: the answer is the machine's, and the session represents the graph that it leaves
-performed : (g : Graph) {s t : Session} {c : Call} {a : Answer} → Represents g s → Performed s c a t → (a ≡ step g c .answer) × Represents (step g c .graph) t
+performed : (g : Graph) {s t : Session} {c : Call} {a : Answer} → Represents g s → Performed s c a t
+    → (a ≡ step g c .answer) × Represents (step g c .graph) t
 performed g r (adds z p) = (p .answer g r, p .holds g r)
 performed g r (asks {u = u} {v = v} z p) = (p .answer g r, rw (leads-kept g u v) r)
 
@@ -25,7 +26,8 @@ follows g r (next {c = c} p h) =
     let rest = follows (step g c .graph) (one .1) h in record { holds = rest .holds; same = ap₂ _∷_ (one .0) (rest .same) }
 
 -- EVERY LIST OF CALLS: after any start, refused or not, the answers are the machine's, and so is the set that the last session has
-pub every-list : (n : ℕ) (r : Changed) → StartPromise n r → {cs : List Call} {out : List Answer} {z : Session} → History (r .session) cs out z → Follows (fresh n) cs out z
+pub every-list : (n : ℕ) (r : Changed) → StartPromise n r → {cs : List Call} {out : List Answer} {z : Session}
+    → History (r .session) cs out z → Follows (fresh n) cs out z
 every-list n r p h = follows (fresh n) (p .holds) h
 
 -- WHAT THE ANSWERS SAY: of every graph that the machine comes to, after any start and any calls

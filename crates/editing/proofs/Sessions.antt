@@ -1,5 +1,6 @@
 -- A session and the graph that it represents: the tests, the answers, and that an edge more keeps it so. Assumes nothing.
-use Rattle.counting.proofs.Prelude.{_≡_, refl, sym, ap, ap₂, _∙_, subst, _≢_, ⊎-elim, Bool, true, false, _∷_, ℕ, zero, suc, _≤_, _<_, min, arith, eqb, leb, length, replicate, eq-eqb, le-leb, lt-leb}
+use Rattle.counting.proofs.Prelude.{_≡_, refl, sym, ap, ap₂, _∙_, subst, _≢_, ⊎-elim, Bool, true, false, _∷_, ℕ, zero, suc, _≤_, _<_, min}
+use Rattle.counting.proofs.Prelude.{arith, eqb, leb, length, replicate, eq-eqb, le-leb, lt-leb}
 use native.Mathlib.Nat.{lt-of-lt-of-le}
 use native.Mathlib.Numerals.{add-one}
 use native.Mathlib.Decide.{ℕ-discrete}
@@ -10,11 +11,14 @@ use Rattle.counting.proofs.Falsity.{not-true, neither}
 use Rattle.masks.proofs.Tables.{at-zeros, Put, put-law}
 use Rattle.reach.proofs.Extending.{Extends}
 use Rattle.editing.specs.declared.Session.{Session}
-use Rattle.specification.specs.Machine.{Graph, Call, Answer, contains, In, unknown?, reached?, cyclic?, full?, refusal, insert, change, reply, step, empty, startVertices, fresh}
+use Rattle.specification.specs.Machine.{Graph, Call, Answer, contains, In, unknown?, reached?, cyclic?, full?, refusal, insert, change}
+use Rattle.specification.specs.Machine.{reply, step, empty, startVertices, fresh}
 use Rattle.specification.specs.Machine.Edge.{edge}
 use Rattle.specification.specs.Graph.{sizeRefusal}
-use Rattle.editing.specs.Promise.{outside?, refusalOf, across?, Grown, blank, Represents, changeAnswer, replyAnswer, StartPromise, AddPromise, LeadsPromise}
-use Rattle.editing.proofs.Machines.{verdict-unknown, known, reached-decided, insert-extends, Accepted, accepted, insert-lawful, insert-reached, add-made, add-kept, none-reached, empty-lawful}
+use Rattle.editing.specs.Promise.{outside?, refusalOf, across?, Grown, blank, Represents, changeAnswer, replyAnswer, StartPromise}
+use Rattle.editing.specs.Promise.{AddPromise, LeadsPromise}
+use Rattle.editing.proofs.Machines.{verdict-unknown, known, reached-decided, insert-extends, Accepted, accepted, insert-lawful}
+use Rattle.editing.proofs.Machines.{insert-reached, add-made, add-kept, none-reached, empty-lawful}
 
 -- ---- an end that is no vertex
 
@@ -62,12 +66,14 @@ module _ (g : Graph) (s : Session) (r : Represents g s) where
   add-answer u v k e = rw (e ∙ refusal-same u v) (change-answer (insert g u v) (refusal g u v))
 
   leads-answer : (u v : ℕ)
-      → replyAnswer (choose (outside? s u v) (λ _. 3) (λ _. 0)) (choose (outside? s u v) (λ _. false) (λ _. has? 2 (s .reach) u v)) ≡ step g (Call.leads u v) .answer
+      → replyAnswer (choose (outside? s u v) (λ _. 3) (λ _. 0)) (choose (outside? s u v) (λ _. false) (λ _. has? 2 (s .reach) u v))
+      ≡ step g (Call.leads u v) .answer
   unfolding step reply replyAnswer
   leads-answer u v = rw (outside-same u v) (go (unknown? g u v) refl)
     where
       go : (b : Bool) → unknown? g u v ≡ b
-          → replyAnswer (choose b (λ _. 3) (λ _. 0)) (choose b (λ _. false) (λ _. has? 2 (s .reach) u v)) ≡ reply g b (reached? g u v) .answer
+          → replyAnswer (choose b (λ _. 3) (λ _. 0)) (choose b (λ _. false) (λ _. has? 2 (s .reach) u v))
+          ≡ reply g b (reached? g u v) .answer
       go true e = refl
       go false e = let h = small-ends u v e in ap Answer.told (r .reach u v (h .0) (h .1))
 
@@ -83,7 +89,8 @@ module _ (g : Graph) (s : Session) (r : Represents g s) where
     hv : v < 128
     hv = lt-of-lt-of-le (a .head) (r .lawful .small)
 
-    edges-same : Put 2 (s .edges) u v (z .edges) → (x y : ℕ) → x < 128 → y < 128 → has? 2 (z .edges) x y ≡ contains (edge u v ∷ g .edges) x y
+    edges-same : Put 2 (s .edges) u v (z .edges) → (x y : ℕ) → x < 128 → y < 128
+        → has? 2 (z .edges) x y ≡ contains (edge u v ∷ g .edges) x y
     unfolding has?
     edges-same p x y hx hy = go (ℕ-discrete x u) (ℕ-discrete y v)
       where
@@ -92,7 +99,8 @@ module _ (g : Graph) (s : Session) (r : Represents g s) where
 
         other : (x ≡ u → y ≢ v) → has? 2 (z .edges) x y ≡ contains (edge u v ∷ g .edges) x y
         other ne =
-            let same : has? 2 (z .edges) x y ≡ contains (g .edges) x y = ap (λ (b : ℕ). eqb b 1) (p .other x y hy ne) ∙ r .edges x y hx hy in
+            let same : has? 2 (z .edges) x y ≡ contains (g .edges) x y = ap (λ (b : ℕ). eqb b 1) (p .other x y hy ne)
+            ∙ r .edges x y hx hy in
             same-truth _ _
             (λ i. e .old x y (sym same ∙ i))
             (λ i. ⊎-elim (λ j. same ∙ j) (λ j. absurd (ne (j .0) (j .1))) (e .only x y i))
@@ -110,7 +118,8 @@ module _ (g : Graph) (s : Session) (r : Represents g s) where
       count = q .count ∙ add-one (s .count) ∙ ap suc (r .count);
       edges = edges-same (subst (Put 2 (s .edges) u v) (sym (q .edges)) (put-law 2 (s .edges) u v hv (omega (arith, hu, hv))));
       reach = λ x y hx hy.
-          q .reach .below x y hx hy ∙ rw (r .reach x y hx hy, r .reach x u hx hu, r .reach v y hv hy) (sym (insert-reached g (r .lawful) u v a x y));
+          q .reach .below x y hx hy ∙ rw (r .reach x y hx hy, r .reach x u hx hu, r .reach v y hv hy)
+          (sym (insert-reached g (r .lawful) u v a x y));
     }
 
 -- ---- the promises
@@ -141,7 +150,8 @@ leads-promise s u v k b p q = record { refusal = p; reaches = q; answer = λ g r
 pub leads-outside : (s : Session) (u v : ℕ) → outside? s u v ≡ true → LeadsPromise s u v (record { refusal = 3; reaches = false })
 leads-outside s u v e = leads-promise s u v 3 false (rw e) (rw e)
 
-pub leads-inside : (s : Session) (u v : ℕ) (b : Bool) → outside? s u v ≡ false → b ≡ has? 2 (s .reach) u v → LeadsPromise s u v (record { refusal = 0; reaches = b })
+pub leads-inside : (s : Session) (u v : ℕ) (b : Bool) → outside? s u v ≡ false → b ≡ has? 2 (s .reach) u v
+    → LeadsPromise s u v (record { refusal = 0; reaches = b })
 leads-inside s u v b e q = leads-promise s u v 0 b (rw e) (rw e q)
 
 blank-represents : (n : ℕ) → n ≤ 128 → Represents (empty n) (blank n)
@@ -157,7 +167,8 @@ blank-represents n h = record {
     zeros : (u v : ℕ) → has? 2 (replicate 256 0) u v ≡ false
     zeros u v = ap (λ (b : ℕ). eqb b 1) (at-zeros 2 256 u v)
 
-pub started : (n k m : ℕ) (z : Session) → sizeRefusal n ≡ k → startVertices n ≡ m → m ≤ 128 → z ≡ blank m → StartPromise n (record { refusal = k; session = z })
+pub started : (n k m : ℕ) (z : Session) → sizeRefusal n ≡ k → startVertices n ≡ m → m ≤ 128 → z ≡ blank m
+    → StartPromise n (record { refusal = k; session = z })
 unfolding fresh
 started n k m z e f h q = record {
   refusal = sym e;

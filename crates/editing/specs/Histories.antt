@@ -16,7 +16,8 @@ pub data Performed : Session → Call → Answer → Session → Type 0 where
 -- a list of calls from session s on, with what they answer, and the last session
 pub data History : Session → List Call → List Answer → Session → Type 0 where
   done : {s : Session} → History s [] [] s
-  next : {s t z : Session} {c : Call} {a : Answer} {cs : List Call} {out : List Answer} → Performed s c a t → History t cs out z → History s (c ∷ cs) (a ∷ out) z
+  next : {s t z : Session} {c : Call} {a : Answer} {cs : List Call} {out : List Answer} → Performed s c a t → History t cs out z
+      → History s (c ∷ cs) (a ∷ out) z
 
 -- the last session represents the machine's graph, and the answers are the machine's
 pub record Follows (g : Graph) (cs : List Call) (out : List Answer) (z : Session) : Type 0 where

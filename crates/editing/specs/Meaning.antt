@@ -26,8 +26,10 @@ pub data Why (g : Graph) (u v : ℕ) : ℕ → Type 0 where
 pub record Exact (g : Graph) : Type 0 where
   pub lawful : Lawful g
   pub unknown : (u v : ℕ) → (g .vertices ≤ u) ⊎ (g .vertices ≤ v) → step g (Call.leads u v) .answer ≡ Answer.refused 3
-  pub reached : (u v : ℕ) → u < g .vertices → v < g .vertices → (step g (Call.leads u v) .answer ≡ Answer.told true) ↔ Reaches (In (g .edges)) u v
-  pub unreached : (u v : ℕ) → u < g .vertices → v < g .vertices → (step g (Call.leads u v) .answer ≡ Answer.told false) ↔ (Reaches (In (g .edges)) u v → ⊥)
+  pub reached : (u v : ℕ) → u < g .vertices → v < g .vertices
+      → (step g (Call.leads u v) .answer ≡ Answer.told true) ↔ Reaches (In (g .edges)) u v
+  pub unreached : (u v : ℕ) → u < g .vertices → v < g .vertices
+      → (step g (Call.leads u v) .answer ≡ Answer.told false) ↔ (Reaches (In (g .edges)) u v → ⊥)
   pub refusals : (u v : ℕ) → Why g u v (refusal g u v)
   pub added : (u v : ℕ) → step g (Call.add u v) .answer ≡ Answer.added
       → (x y : ℕ) → In (step g (Call.add u v) .graph .edges) x y ↔ (In (g .edges) x y ⊎ ((x ≡ u) × (y ≡ v)))

@@ -1,5 +1,6 @@
 -- Lines are read byte by byte. Assumes nothing.
-use Rattle.counting.proofs.Prelude.{_≡_, refl, sym, ap, _∙_, false, List, [], _∷_, ℕ, zero, suc, _+_, _-_, _≤_, _<_, arith, eqb, length, getD, drop, drop-of-length-le, ne-eqb}
+use Rattle.counting.proofs.Prelude.{_≡_, refl, sym, ap, _∙_, false, List, [], _∷_, ℕ, zero, suc, _+_, _-_, _≤_, _<_, arith, eqb, length}
+use Rattle.counting.proofs.Prelude.{getD, drop, drop-of-length-le, ne-eqb}
 use Rattle.specification.specs.Layout.{lined}
 use Rattle.specification.proofs.Placing.{byte}
 

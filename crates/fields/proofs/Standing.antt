@@ -1,5 +1,6 @@
 -- The fields of a record that is laid out as it must be lie within it. Assumes nothing.
-use Rattle.counting.proofs.Prelude.{_≡_, refl, subst, Bool, true, false, true≢false, _&&_, List, ℕ, _+_, _*_, _/_, _%_, _≤_, zero-le, arith, eqb, leb, length, getD, take, drop, eqb-true}
+use Rattle.counting.proofs.Prelude.{_≡_, refl, subst, Bool, true, false, true≢false, _&&_, List, ℕ, _+_, _*_, _/_, _%_, _≤_, zero-le, arith}
+use Rattle.counting.proofs.Prelude.{eqb, leb, length, getD, take, drop, eqb-true}
 use Rattle.specification.specs.Count.{choose}
 use Rattle.counting.proofs.Truth.{and-elim}
 use Rattle.specification.specs.declared.Field.{Field}
@@ -25,7 +26,8 @@ module _ (b : List ℕ) (f : Fields) where
       let q = chosen (eqb (s + l) (length b) && lined 0 (take l (drop s b))) (Good g) f p in
       let a = and-elim (eqb (s + l) (length b)) (lined 0 (take l (drop s b))) (q .0) in
       let ends : s + l ≡ length b = eqb-true _ _ (a .0) in
-      subst (LaidOut b) (good-same g f (q .1)) (record { edges = h; lines = omega arith; bare = λ z. absurd (true≢false z); channels = a .1 })
+      subst (LaidOut b) (good-same g f (q .1))
+      (record { edges = h; lines = omega arith; bare = λ z. absurd (true≢false z); channels = a .1 })
 
   after-good : (n e m end : ℕ) → e + 2 * m ≤ length b → afterEdges b n e m end ≡ Good f → LaidOut b f
   unfolding afterEdges lined

@@ -1,11 +1,13 @@
 -- The course of a cross edge by candidates, and candidates in two masks. Assumes nothing.
-use Rattle.counting.proofs.Prelude.{_≡_, refl, sym, ap, _∙_, subst, _≢_, ⊎-elim, Bool, true, false, _&&_, [], _∷_, ℕ, suc, _+_, _-_, _/_, _%_, _^_, _≤_, _<_, arith, eqb, getD, eqb-true, eq-eqb, ltb-true, lt-ltb}
+use Rattle.counting.proofs.Prelude.{_≡_, refl, sym, ap, _∙_, subst, _≢_, ⊎-elim, Bool, true, false, _&&_, [], _∷_, ℕ, suc, _+_, _-_, _/_}
+use Rattle.counting.proofs.Prelude.{_%_, _^_, _≤_, _<_, arith, eqb, getD, eqb-true, eq-eqb, ltb-true, lt-ltb}
 use lib.Count.{trailingZeros}
 use Rattle.counting.proofs.Truth.{lt-or-le, same-truth, and-intro, and-elim}
 use Rattle.counting.proofs.Somes.{some-found, some-which, some-ext}
 use Rattle.specification.specs.Sets.{bit, member}
 use Rattle.specification.specs.declared.Course.the-variants.{Straight}
-use Rattle.specification.specs.Geometry.{Point, Hit, BlockedAmong, Decides, isHit, isBlocked, isBlockedAmong, bendRow, bendBeside, courseOf, courseAmong}
+use Rattle.specification.specs.Geometry.{Point, Hit, BlockedAmong, Decides, isHit, isBlocked, isBlockedAmong, bendRow, bendBeside, courseOf}
+use Rattle.specification.specs.Geometry.{courseAmong}
 use Rattle.masks.specs.Pairs.{inPair}
 use Rattle.masks.proofs.Bits.{bit-high, bit-of-zero}
 use Rattle.masks.proofs.Pairing.{pair-low, pair-high}
@@ -137,7 +139,9 @@ module _ (low high : ℕ) (fl : low < 2 ^ 64) (fh : high < 2 ^ 64) (at : ℕ →
       (λ l. ⊎-elim
       (λ m.
       let q : w ≡ 64 + (w - 64) = omega arith in
-      g (make high 64 w (w - 64) q (sym (pair-high low high (w - 64) (omega arith)) ∙ ap (inPair low high) (sym q) ∙ e) k (b .blocked .hit)))
+      g
+      (make high 64 w (w - 64) q (sym (pair-high low high (w - 64) (omega arith)) ∙ ap (inPair low high) (sym q) ∙ e) k
+      (b .blocked .hit)))
       (λ m. let z = pair-past low high w m in omega arith)
       (lt-or-le w 128))
       (lt-or-le w 64)

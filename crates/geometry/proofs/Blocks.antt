@@ -30,10 +30,12 @@ module _ (W : Widths) where
 
   module _ (c d : ℕ) where
     own-differ : ownColumn W c ≡ ownColumn W d → c ≡ d
-    own-differ e = lower-or-higher c d (λ l. absurd (omega (arith, own-apart c d l))) (λ p. p) (λ l. absurd (omega (arith, own-apart d c l)))
+    own-differ e =
+        lower-or-higher c d (λ l. absurd (omega (arith, own-apart c d l))) (λ p. p) (λ l. absurd (omega (arith, own-apart d c l)))
 
     -- a column that is free of own columns: not past the right gap, not one's own, not before the left gap
-    free : (x : ℕ) → x ≤ ownColumn W c + W .rightGap c → (ownColumn W c ≡ x → ⊥) → ownColumn W c ≤ x + W .leftGap c + W .tracks c → ownColumn W d ≡ x → ⊥
+    free : (x : ℕ) → x ≤ ownColumn W c + W .rightGap c → (ownColumn W c ≡ x → ⊥) → ownColumn W c ≤ x + W .leftGap c + W .tracks c
+        → ownColumn W d ≡ x → ⊥
     free x low ne high e =
         lower-or-higher c d (λ l. omega (arith, own-apart c d l)) (λ p. ne (ap (ownColumn W) p ∙ e)) (λ l. omega (arith, own-apart d c l))
 

@@ -5,7 +5,8 @@ use Rattle.counting.proofs.Truth.{lt-or-le}
 use Rattle.specification.specs.Geometry.{Point, point, On, Meets, here, later, Blocked, Widths, trackAt, Clear, straight, bendRow, byTrack}
 use Rattle.geometry.specs.Placement.{Placement}
 use Rattle.geometry.specs.Polylines.{bent, Drawn, path, track, cross, bend-right, bend-left}
-use Rattle.geometry.proofs.Segments.{Between, column-between, on-swap, row-low, row-high, column-low, column-high, row-level, column-level, at-row, at-column}
+use Rattle.geometry.proofs.Segments.{Between, column-between, on-swap, row-low, row-high, column-low, column-high, row-level}
+use Rattle.geometry.proofs.Segments.{column-level, at-row, at-column}
 use Rattle.geometry.proofs.Blocks.{lower-or-higher}
 
 -- a polyline is met where one of its segments is
@@ -85,7 +86,9 @@ module _ (n : ℕ) (at : ℕ → Point) (channel position own : ℕ → ℕ) (W 
     }
 
     -- one bend in column x, where no vertex but the tail stands in the columns from the tail's to x
-    bent-clear : (x : ℕ) → x ≢ at u .column → 0 < at v .row → ((w : ℕ) → w < n → at w .column ≢ at u .column → Between (at u .column) x (at w .column) → ⊥) → Clear n at u v (bent (at u) (at v) x)
+    bent-clear : (x : ℕ) → x ≢ at u .column → 0 < at v .row
+        → ((w : ℕ) → w < n → at w .column ≢ at u .column → Between (at u .column) x (at w .column) → ⊥)
+        → Clear n at u v (bent (at u) (at v) x)
     bent-clear x beside some free = record {
       clear = λ w hw nu nv m. met-2
           (λ o. first w hw nu o (ℕ-discrete (at w .column) (at u .column)))
@@ -97,13 +100,16 @@ module _ (n : ℕ) (at : ℕ → Point) (channel position own : ℕ → ℕ) (W 
         first w hw nu o (yes e) = nu (same-point u w hu hw (at-column o (λ z. beside (sym z)) e))
         first w hw nu o (no e) = free w hw e (column-between o)
 
-        second : (w : ℕ) → w < n → w ≢ v → On (point x (bendRow (at v))) (at v) (at w) → bendRow (at v) ≤ at w .row → at w .row ≤ at v .row → Dec (at w .row ≡ at v .row) → ⊥
+        second : (w : ℕ) → w < n → w ≢ v → On (point x (bendRow (at v))) (at v) (at w) → bendRow (at v) ≤ at w .row → at w .row ≤ at v .row
+            → Dec (at w .row ≡ at v .row) → ⊥
         second w hw nv o l h (yes e) = nv (same-point v w hv hw (at-row (on-swap o) (λ z. omega arith) e))
         second w hw nv o l h (no e) =
             let q : at w .column ≡ x = ap (λ (p : Point). p .column) (at-row o (λ z. omega arith) (omega arith)) in
-            free w hw (λ z. beside (sym q ∙ z)) (⊎-elim (λ k. inl (omega arith, omega arith)) (λ k. inr (omega arith, omega arith)) (lt-or-le (at u .column) x))
+            free w hw (λ z. beside (sym q ∙ z))
+            (⊎-elim (λ k. inl (omega arith, omega arith)) (λ k. inr (omega arith, omega arith)) (lt-or-le (at u .column) x))
 
-    bend-right-clear : (d : ℕ) → d < W .rightGap (channel u) → at u .row < at v .row → Clear n at u v (bent (at u) (at v) (own (channel u) + (1 + d)))
+    bend-right-clear : (d : ℕ) → d < W .rightGap (channel u) → at u .row < at v .row
+        → Clear n at u v (bent (at u) (at v) (own (channel u) + (1 + d)))
     bend-right-clear d hd rise =
         let here = P .on-own u hu in
         bent-clear (own (channel u) + (1 + d)) (λ z. omega arith) (omega arith)
@@ -112,7 +118,8 @@ module _ (n : ℕ) (at : ℕ → Point) (channel position own : ℕ → ℕ) (W 
         (λ k. omega arith)
         b)
 
-    bend-left-clear : (d : ℕ) → d < W .leftGap (channel u) → at u .row < at v .row → Clear n at u v (bent (at u) (at v) (own (channel u) - (1 + d)))
+    bend-left-clear : (d : ℕ) → d < W .leftGap (channel u) → at u .row < at v .row
+        → Clear n at u v (bent (at u) (at v) (own (channel u) - (1 + d)))
     bend-left-clear d hd rise =
         let here = P .on-own u hu in
         let left = P .room u hu in
@@ -120,10 +127,13 @@ module _ (n : ℕ) (at : ℕ → Point) (channel position own : ℕ → ℕ) (W 
         (λ w hw ne b. ⊎-elim (λ k. omega arith) (λ k. in-left-gap u w hu hw (omega arith) (omega arith)) b)
 
   -- from an own column to a track there is no vertex but the one that stands there
-  level-clear : (u w j : ℕ) → u < n → w < n → j < W .tracks (channel u) → at w .row ≡ at u .row → trackOf u j ≤ at w .column → at w .column ≤ at u .column → w ≡ u
-  level-clear u w j hu hw hj r l h = go (ℕ-discrete (at w .column) (at u .column)) (lt-or-le (at w .column + W .leftGap (channel u)) (own (channel u)))
+  level-clear : (u w j : ℕ) → u < n → w < n → j < W .tracks (channel u) → at w .row ≡ at u .row → trackOf u j ≤ at w .column
+      → at w .column ≤ at u .column → w ≡ u
+  level-clear u w j hu hw hj r l h =
+      go (ℕ-discrete (at w .column) (at u .column)) (lt-or-le (at w .column + W .leftGap (channel u)) (own (channel u)))
     where
-      go : Dec (at w .column ≡ at u .column) → (at w .column + W .leftGap (channel u) < own (channel u)) ⊎ (own (channel u) ≤ at w .column + W .leftGap (channel u)) → w ≡ u
+      go : Dec (at w .column ≡ at u .column)
+          → (at w .column + W .leftGap (channel u) < own (channel u)) ⊎ (own (channel u) ≤ at w .column + W .leftGap (channel u)) → w ≡ u
       go (yes e) d = same-row u w hu hw (same-channel u w hu hw e) r
       go (no e) (inr k) = absurd (in-left-gap u w hu hw k (omega (arith, P .on-own u hu)))
       go (no e) (inl k) =
@@ -132,7 +142,8 @@ module _ (n : ℕ) (at : ℕ → Point) (channel position own : ℕ → ℕ) (W 
           (sym (P .on-own w hw) ∙ track-column (own (channel u)) (at w .column) (W .leftGap (channel u)) k))
 
   -- level to a track, up, level
-  track-clear : (u v j : ℕ) → u < n → v < n → channel u ≡ channel v → j < W .tracks (channel u) → Clear n at u v (byTrack (at u) (at v) (trackOf u j))
+  track-clear : (u v j : ℕ) → u < n → v < n → channel u ≡ channel v → j < W .tracks (channel u)
+      → Clear n at u v (byTrack (at u) (at v) (trackOf u j))
   track-clear u v j hu hv e hj =
       let x : ℕ = trackOf u j in
       let same : x ≡ trackOf v j = ap (λ c. trackAt (own c) (W .leftGap c) j) e in
@@ -148,7 +159,8 @@ module _ (n : ℕ) (at : ℕ → Point) (channel position own : ℕ → ℕ) (W 
       }
 
   -- The theorem: no edge's polyline meets a vertex but its ends, whatever the kind of the edge.
-  pub drawn-clear : (u v : ℕ) (polyline : List Point) → u < n → v < n → at u .row < at v .row → Drawn n at channel position own W u v polyline → Clear n at u v polyline
+  pub drawn-clear : (u v : ℕ) (polyline : List Point) → u < n → v < n → at u .row < at v .row
+      → Drawn n at channel position own W u v polyline → Clear n at u v polyline
   drawn-clear u v _ hu hv rise (path e q) = path-clear u v hu hv e q
   drawn-clear u v _ hu hv rise (track j e h) = track-clear u v j hu hv e h
   drawn-clear u v _ hu hv rise (cross e f) = straight-clear u v hu hv rise f

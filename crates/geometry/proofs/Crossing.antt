@@ -54,12 +54,14 @@ module _ (at : ℕ → Point) (n u v : ℕ) where
 -- ---- the theorem for the course, wherever bends have a gap to stand in
 
 module _ (n : ℕ) (at : ℕ → Point) (channel position own : ℕ → ℕ) (W : Widths) (P : Placement n at channel position own W) where
-  module _ (u v : ℕ) (hu : u < n) (hv : v < n) (apart : channel u ≢ channel v) (lefts : 0 < W .leftGap (channel u)) (rights : 0 < W .rightGap (channel u)) where
+  module _ (u v : ℕ) (hu : u < n) (hv : v < n) (apart : channel u ≢ channel v) (lefts : 0 < W .leftGap (channel u))
+      (rights : 0 < W .rightGap (channel u)) where
     abbrev Course-drawn : Course → Type 0
     Course-drawn r = Drawn n at channel position own W u v (polylineOf r (at u) (at v))
 
     -- a bend is told by the tail's column or by its channel's own column, which are the same
-    beside : (f : ℕ → ℕ) → Drawn n at channel position own W u v (bent (at u) (at v) (f (own (channel u)))) → Drawn n at channel position own W u v (bent (at u) (at v) (f (at u .column)))
+    beside : (f : ℕ → ℕ) → Drawn n at channel position own W u v (bent (at u) (at v) (f (own (channel u))))
+        → Drawn n at channel position own W u v (bent (at u) (at v) (f (at u .column)))
     beside f = subst (λ (x : ℕ). Drawn n at channel position own W u v (bent (at u) (at v) (f x))) (sym (P .on-own u hu))
 
     bend-drawn : Blocked at n u v → Course-drawn (bendBeside (at u .column) (at v .column) (bendRow (at v)))

@@ -4,7 +4,9 @@ use native.Mathlib.Nat.{eq-zero-or-pos, le-antisymm, le-of-mul-le-mul-left, mul-
 use Rattle.specification.specs.Geometry.{left, right}
 
 cancel : (k m n : ℕ) → 0 < k → k * m ≡ k * n → m ≡ n
-cancel k m n h e = le-antisymm (le-of-mul-le-mul-left {m = m} {n = n} {k = k} (omega arith) h) (le-of-mul-le-mul-left {m = n} {n = m} {k = k} (omega arith) h)
+cancel k m n h e =
+    le-antisymm (le-of-mul-le-mul-left {m = m} {n = n} {k = k} (omega arith) h)
+    (le-of-mul-le-mul-left {m = n} {n = m} {k = k} (omega arith) h)
 
 module _ (r s a b x : ℕ) (some : 0 < r + s) (e : (r + s) * x ≡ r * a + s * b) where
   pub mean-swap : (s + r) * x ≡ s * b + r * a
@@ -27,7 +29,8 @@ module _ (r s a b x : ℕ) (some : 0 < r + s) (e : (r + s) * x ≡ r * a + s * b
 
 -- Weights by a rising coordinate serve for the other one: y = t + p lies p above t and q below the top.
 -- A multiple of either pair of weights is a multiple of the other.
-pub mean-other : (r s p q t a b x : ℕ) → 0 < r + s → (r + s) * x ≡ r * a + s * b → (r + s) * (t + p) ≡ r * t + s * (t + p + q) → (q + p) * x ≡ q * a + p * b
+pub mean-other : (r s p q t a b x : ℕ) → 0 < r + s → (r + s) * x ≡ r * a + s * b → (r + s) * (t + p) ≡ r * t + s * (t + p + q)
+    → (q + p) * x ≡ q * a + p * b
 mean-other r s p q t a b x some e f =
     let g : r * p ≡ s * q = omega arith in
     cancel (r + s) ((q + p) * x) (q * a + p * b) some

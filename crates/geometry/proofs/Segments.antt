@@ -3,7 +3,8 @@ use Rattle.counting.proofs.Prelude.{_≡_, ap, _⊎_, inl, inr, ⊎-elim, ℕ, 
 use native.Mathlib.Nat.{le-antisymm}
 use Rattle.counting.proofs.Truth.{lt-or-le}
 use Rattle.specification.specs.Geometry.{Point, On, Inside, Hit, left, right}
-use Rattle.geometry.proofs.Means.{mean-swap, mean-low, mean-high, mean-first, first-mean, mean-other, mean-products, products-mean, mean-height}
+use Rattle.geometry.proofs.Means.{mean-swap, mean-low, mean-high, mean-first, first-mean, mean-other, mean-products, products-mean}
+use Rattle.geometry.proofs.Means.{mean-height}
 
 pub point-eq : (p a : Point) → p .column ≡ a .column → p .row ≡ a .row → p ≡ a
 point-eq p a e f = λ i. record { column = e i; row = f i }
@@ -64,7 +65,8 @@ column-between {a} {b} {p} o =
 -- the test's equation
 abbrev pub Products : Point → Point → Point → Type 0
 Products a b p =
-    left (a .column) (a .row) (b .column) (b .row) (p .column) (p .row) ≡ right (a .column) (a .row) (b .column) (b .row) (p .column) (p .row)
+    left (a .column) (a .row) (b .column) (b .row) (p .column) (p .row)
+    ≡ right (a .column) (a .row) (b .column) (b .row) (p .column) (p .row)
 
 -- ---- the test by products decides whether a rising segment has p strictly inside
 
@@ -78,7 +80,8 @@ module _ (a b p : Point) (low : a .row < p .row) (high : p .row < b .row) where
   pub on-products : On a b p → Products a b p
   on-products o =
       mean-products (a .column) (b .column) (p .column) (a .row) (p .row - a .row) (b .row - p .row) (p .row) (b .row) heights top
-      (mean-other (o .rest) (o .part) (p .row - a .row) (b .row - p .row) (a .row) (a .column) (b .column) (p .column) (o .some-way) (o .across)
+      (mean-other (o .rest) (o .part) (p .row - a .row) (b .row - p .row) (a .row) (a .column) (b .column) (p .column) (o .some-way)
+      (o .across)
       (rw (← top, ← heights) (o .along)))
 
   pub products-on : Products a b p → On a b p

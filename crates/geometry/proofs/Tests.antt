@@ -1,5 +1,6 @@
 -- What each answer of the test says. Assumes nothing.
-use Rattle.counting.proofs.Prelude.{_≡_, refl, sym, _∙_, ⊎-elim, Bool, true, false, true≢false, ℕ, _≤_, _<_, arith, eqb-true, eq-eqb, ltb-true, lt-ltb}
+use Rattle.counting.proofs.Prelude.{_≡_, refl, sym, _∙_, ⊎-elim, Bool, true, false, true≢false, ℕ, _≤_, _<_, arith, eqb-true, eq-eqb}
+use Rattle.counting.proofs.Prelude.{ltb-true, lt-ltb}
 use Rattle.counting.proofs.Truth.{and-intro, and-elim, true-or-false}
 use Rattle.counting.proofs.Somes.{some-found, some-which}
 use Rattle.specification.specs.Geometry.{Point, Hit, Blocked, aligned, Decides, isHit, isBlocked}
@@ -28,7 +29,8 @@ hit-low a b p h = not-so (λ i. let l : a .row < p .row = inside-low (i .rises) 
 pub hit-high : (a b p : Point) → b .row ≤ p .row → Decides false (Hit a b p)
 hit-high a b p h = not-so (λ i. let l : p .row < b .row = inside-high (i .rises) (i .inside) in omega arith)
 
-pub hit-between : (a b p : Point) (r : Bool) → a .row < p .row → p .row < b .row → r ≡ aligned (a .column) (a .row) (b .column) (b .row) (p .column) (p .row) → Decides r (Hit a b p)
+pub hit-between : (a b p : Point) (r : Bool) → a .row < p .row → p .row < b .row
+    → r ≡ aligned (a .column) (a .row) (b .column) (b .row) (p .column) (p .row) → Decides r (Hit a b p)
 hit-between a b p r h k e = decides r
     (λ t. record { rises = omega arith; inside = between-inside a b p h k (products-on a b p h k (eqb-true _ _ (sym e ∙ t))) })
     (λ i. e ∙ eq-eqb _ _ (on-products a b p h k (i .inside .on)))
@@ -75,4 +77,5 @@ module _ (at : ℕ → Point) (n u v : ℕ) where
   isBlocked-false f = decides-once _ _ isBlocked-decides (not-so f)
 
   pub blocked-or-free : {X : Type 0} → (Blocked at n u v → X) → ((Blocked at n u v → ⊥) → X) → X
-  blocked-or-free f g = ⊎-elim (λ e. f (isBlocked-decides .holds e)) (λ e. g (isBlocked-decides .fails e)) (true-or-false (isBlocked at n u v))
+  blocked-or-free f g =
+      ⊎-elim (λ e. f (isBlocked-decides .holds e)) (λ e. g (isBlocked-decides .fails e)) (true-or-false (isBlocked at n u v))

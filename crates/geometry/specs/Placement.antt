@@ -17,5 +17,6 @@ pub record Placement (n : ℕ) (at : ℕ → Point) (channel position own : ℕ 
   pub right-free : (u v d : ℕ) → u < n → v < n → d < W .rightGap (channel u) → own (channel v) ≡ own (channel u) + (1 + d) → ⊥
   pub left-free : (u v d : ℕ) → u < n → v < n → d < W .leftGap (channel u) → own (channel v) + (1 + d) ≡ own (channel u) → ⊥
   -- tracks hold no vertex, and with the gap they have room on the left
-  pub tracks-free : (u v j : ℕ) → u < n → v < n → j < W .tracks (channel u) → own (channel v) ≡ trackAt (own (channel u)) (W .leftGap (channel u)) j → ⊥
+  pub tracks-free : (u v j : ℕ) → u < n → v < n → j < W .tracks (channel u)
+      → own (channel v) ≡ trackAt (own (channel u)) (W .leftGap (channel u)) j → ⊥
   pub room : (v : ℕ) → v < n → W .tracks (channel v) + W .leftGap (channel v) ≤ own (channel v)

@@ -13,7 +13,10 @@ bent a b x = a ∷ point x (bendRow b) ∷ b ∷ []
 -- (a path-transitive one), or across channels, straight or bent in the gap beside the tail's channel.
 pub data Drawn (n : ℕ) (at : ℕ → Point) (channel position own : ℕ → ℕ) (W : Widths) (u v : ℕ) : List Point → Type 0 where
   path : channel u ≡ channel v → position v ≡ position u + 1 → Drawn n at channel position own W u v (straight (at u) (at v))
-  track : (j : ℕ) → channel u ≡ channel v → j < W .tracks (channel u) → Drawn n at channel position own W u v (byTrack (at u) (at v) (trackAt (own (channel u)) (W .leftGap (channel u)) j))
+  track : (j : ℕ) → channel u ≡ channel v → j < W .tracks (channel u)
+      → Drawn n at channel position own W u v (byTrack (at u) (at v) (trackAt (own (channel u)) (W .leftGap (channel u)) j))
   cross : channel u ≢ channel v → (Blocked at n u v → ⊥) → Drawn n at channel position own W u v (straight (at u) (at v))
-  bend-right : (d : ℕ) → d < W .rightGap (channel u) → Blocked at n u v → own (channel u) < own (channel v) → Drawn n at channel position own W u v (bent (at u) (at v) (own (channel u) + (1 + d)))
-  bend-left : (d : ℕ) → d < W .leftGap (channel u) → Blocked at n u v → own (channel v) < own (channel u) → Drawn n at channel position own W u v (bent (at u) (at v) (own (channel u) - (1 + d)))
+  bend-right : (d : ℕ) → d < W .rightGap (channel u) → Blocked at n u v → own (channel u) < own (channel v)
+      → Drawn n at channel position own W u v (bent (at u) (at v) (own (channel u) + (1 + d)))
+  bend-left : (d : ℕ) → d < W .leftGap (channel u) → Blocked at n u v → own (channel v) < own (channel u)
+      → Drawn n at channel position own W u v (bent (at u) (at v) (own (channel u) - (1 + d)))

@@ -1,5 +1,6 @@
 -- The candidates of a cross edge, as two masks. Assumes nothing.
-use Rattle.counting.proofs.Prelude.{_≡_, refl, ap, ap₂, _∙_, _⊎_, inl, inr, ⊎-elim, not, _&&_, List, ℕ, _+_, _-_, _*_, _^_, _<_, min, max, arith, eqb, getD, lt-ltb, le-ltb}
+use Rattle.counting.proofs.Prelude.{_≡_, refl, ap, ap₂, _∙_, _⊎_, inl, inr, ⊎-elim, not, _&&_, List, ℕ, _+_, _-_, _*_, _^_, _<_, min, max}
+use Rattle.counting.proofs.Prelude.{arith, eqb, getD, lt-ltb, le-ltb}
 use Rattle.counting.proofs.Truth.{lt-or-le, two-cases}
 use Rattle.specification.specs.Sets.{at, has?}
 use Rattle.specification.specs.Geometry.{Point, courseAmong}

@@ -1,5 +1,6 @@
 -- Where columns stand by blocks, candidates are enough: each vertex strictly inside the segment of a cross edge is one. Assumes nothing.
-use Rattle.counting.proofs.Prelude.{_≡_, refl, sym, ap, _∙_, _↔_, ⊎-elim, true, List, ℕ, _+_, _/_, _≤_, _<_, min, max, arith, length, getD, eq-eqb, lt-ltb}
+use Rattle.counting.proofs.Prelude.{_≡_, refl, sym, ap, _∙_, _↔_, ⊎-elim, true, List, ℕ, _+_, _/_, _≤_, _<_, min, max, arith, length, getD}
+use Rattle.counting.proofs.Prelude.{eq-eqb, lt-ltb}
 use native.Mathlib.Decide.{ℕ-discrete}
 use Rattle.counting.specs.Quads.{quad}
 use Rattle.counting.proofs.Truth.{and-intro, two-cases}

@@ -39,7 +39,8 @@ module _ (c d p q into outOf : ℕ) (columns places below left : List ℕ) (u v 
   kind = kindAmong c d p q into outOf columns places below left u v
 
   abbrev course : Course
-  course = courseAmong (candidate? below left (quad 2 places u) (quad 2 places v) c d) (pointOf columns places) (vertexCount columns places) u v
+  course =
+      courseAmong (candidate? below left (quad 2 places u) (quad 2 places v) c d) (pointOf columns places) (vertexCount columns places) u v
 
   between-path : c ≡ d → adjacent? p q ≡ true → kind ≡ Path
   unfolding kindAmong
@@ -66,7 +67,8 @@ module _ (c d p q into outOf : ℕ) (columns places below left : List ℕ) (u v 
 
   -- ---- and with every vertex in place of the candidates
 
-  pub across : (c ≡ d → ⊥) → kindIn c d p q into outOf columns places u v ≡ crossing (courseOf (pointOf columns places) (vertexCount columns places) u v)
+  pub across : (c ≡ d → ⊥) → kindIn c d p q into outOf columns places u v
+      ≡ crossing (courseOf (pointOf columns places) (vertexCount columns places) u v)
   unfolding kindIn
   across e = rw (ne-eqb c d e) refl
 

@@ -31,7 +31,8 @@ module _ {E : Type 0} (ys : List E) (g : ℕ → E) where
   kept (suc i) k d le = getD-set-other (written i) i k (g i) d (λ e. omega arith) ∙ kept i k d (omega arith)
 
   pub filled : (i top : ℕ) → i ≡ top → top ≤ length ys → Filled ys g top (written i)
-  filled i top e le = record { as-long = as-long i; made = λ k d l. made i k d (omega arith) (omega arith); kept = λ k d h. kept i k d (omega arith) }
+  filled i top e le =
+      record { as-long = as-long i; made = λ k d l. made i k d (omega arith) (omega arith); kept = λ k d h. kept i k d (omega arith) }
 
 -- ---- of a list that is filled
 
@@ -40,7 +41,8 @@ pub untouched : {E : Type 0} (was is : List E) (g : ℕ → E) (top : ℕ) → t
 untouched was is g top e h = ext-getD (g 0) is was (h .as-long) (λ k l. h .kept k (g 0) (omega arith))
 
 -- the same list by another definition of its entries
-pub refilled : {E : Type 0} (was is : List E) (g h : ℕ → E) (top top′ : ℕ) → top ≡ top′ → ((k : ℕ) → k < top′ → g k ≡ h k) → Filled was g top is → Filled was h top′ is
+pub refilled : {E : Type 0} (was is : List E) (g h : ℕ → E) (top top′ : ℕ) → top ≡ top′ → ((k : ℕ) → k < top′ → g k ≡ h k)
+    → Filled was g top is → Filled was h top′ is
 refilled was is g h top top′ e same f = record {
   as-long = f .as-long;
   made = λ k d l. f .made k d (omega arith) ∙ same k l;

@@ -1,6 +1,8 @@
 -- Laws of `bit`: of `|`, `&` and `!`, of a shift, of one bit, of the trailing zeros and of the count of ones. Assumes nothing.
-use Rattle.counting.proofs.Prelude.{_≡_, refl, sym, ap, ap₂, _∙_, subst, _≢_, _⊎_, inl, inr, not, _&&_, ℕ, zero, suc, _+_, _-_, _*_, _/_, _%_, _^_, _≤_, _<_, suc-le-suc, max, min, arith, eqb}
-use native.Mathlib.Nat.{mod-lt, zero-lt-suc, zero-div, one-mul, le-of-suc-le-suc, not-suc-le-zero, div-one, lt-irrefl, div-eq-of-lt, lt-of-lt-of-le, pow-suc}
+use Rattle.counting.proofs.Prelude.{_≡_, refl, sym, ap, ap₂, _∙_, subst, _≢_, _⊎_, inl, inr, not, _&&_, ℕ, zero, suc, _+_, _-_, _*_, _/_}
+use Rattle.counting.proofs.Prelude.{_%_, _^_, _≤_, _<_, suc-le-suc, max, min, arith, eqb}
+use native.Mathlib.Nat.{mod-lt, zero-lt-suc, zero-div, one-mul, le-of-suc-le-suc, not-suc-le-zero, div-one, lt-irrefl, div-eq-of-lt}
+use native.Mathlib.Nat.{lt-of-lt-of-le, pow-suc}
 use native.Mathlib.Numerals.{add-one, one-add}
 use lib.Arith.{digits-mod, digits-div, lt-one, le-zero}
 use lib.Pow.{pow-mono, shr-shr, shl-exact, shr-lt}

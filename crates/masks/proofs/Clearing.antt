@@ -1,4 +1,5 @@
--- The lowest set bit of a number cleared, x & (x - 1): the bit at the trailing zeros' count is gone, and every other stays. Assumes nothing.
+-- The lowest set bit of a number cleared, x & (x - 1): the bit at the trailing
+-- zeros' count is gone, and every other stays. Assumes nothing.
 use Rattle.counting.proofs.Prelude.{_≡_, refl, sym, ap, _∙_, subst, _≢_, ℕ, zero, suc, _-_, _*_, _/_, _%_, _^_, _<_, min, arith}
 use native.Mathlib.Nat.{mod-lt, zero-lt-suc, lt-irrefl}
 use native.Mathlib.Numerals.{add-one}
@@ -16,7 +17,8 @@ clear x = bitAnd x (x - 1)
 pub and-self : (a : ℕ) → bitAnd a a ≡ a
 and-self =
     bin-ind (λ (n : ℕ). bitAnd n n ≡ n) refl
-    (λ n ih. and-step n n ∙ (let e : bitAnd (n / 2) (n / 2) ≡ n / 2 = ih in let m : min (n % 2) (n % 2) ≡ n % 2 = omega arith in omega arith))
+    (λ n ih. and-step n n
+    ∙ (let e : bitAnd (n / 2) (n / 2) ≡ n / 2 = ih in let m : min (n % 2) (n % 2) ≡ n % 2 = omega arith in omega arith))
 
 clear-odd : (x : ℕ) → x % 2 ≡ 1 → clear x ≡ x / 2 * 2
 clear-odd x e =
@@ -48,7 +50,8 @@ unfolding trailingZeros
 cleared-at zero x p h = absurd (lt-irrefl 0 (subst (λ (y : ℕ). 0 < y) (lt-one h) p))
 cleared-at (suc n) x p h = go (x % 2) refl (mod-lt x (zero-lt-suc 1)) (λ q. cleared-at n (x / 2) q (half-below n x h))
   where
-    go : (d : ℕ) → x % 2 ≡ d → d < 2 → (0 < x / 2 → bit (clear (x / 2)) (trailingZeros n (x / 2)) ≡ 0) → bit (clear x) (under d (trailingZeros n (x / 2))) ≡ 0
+    go : (d : ℕ) → x % 2 ≡ d → d < 2 → (0 < x / 2 → bit (clear (x / 2)) (trailingZeros n (x / 2)) ≡ 0)
+        → bit (clear x) (under d (trailingZeros n (x / 2))) ≡ 0
     go zero e l rest =
         ap (λ (y : ℕ). bit y (suc (trailingZeros n (x / 2)))) (clear-even x p e)
         ∙ bit-double (clear (x / 2)) (trailingZeros n (x / 2))
@@ -59,7 +62,8 @@ cleared-at (suc n) x p h = go (x % 2) refl (mod-lt x (zero-lt-suc 1)) (λ q. cle
 pub cleared-other : (n x j : ℕ) → 0 < x → x < 2 ^ n → j ≢ trailingZeros n x → bit (clear x) j ≡ bit x j
 unfolding trailingZeros
 cleared-other zero x j p h d = absurd (lt-irrefl 0 (subst (λ (y : ℕ). 0 < y) (lt-one h) p))
-cleared-other (suc n) x j p h d = go (x % 2) refl (mod-lt x (zero-lt-suc 1)) (λ i q ne. cleared-other n (x / 2) i q (half-below n x h) ne) j d
+cleared-other (suc n) x j p h d =
+    go (x % 2) refl (mod-lt x (zero-lt-suc 1)) (λ i q ne. cleared-other n (x / 2) i q (half-below n x h) ne) j d
   where
     go : (d : ℕ) → x % 2 ≡ d → d < 2 → ((i : ℕ) → 0 < x / 2 → i ≢ trailingZeros n (x / 2) → bit (clear (x / 2)) i ≡ bit (x / 2) i)
         → (j : ℕ) → j ≢ under d (trailingZeros n (x / 2)) → bit (clear x) j ≡ bit x j

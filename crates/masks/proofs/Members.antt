@@ -1,5 +1,6 @@
 -- Laws of a set with a vertex put in, and of the empty set. Assumes nothing.
-use Rattle.counting.proofs.Prelude.{_≡_, ap, _∙_, _≢_, true, false, List, ℕ, _+_, _/_, _%_, _^_, _<_, arith, eqb, length, getD, set, replicate, length-set, eq-eqb}
+use Rattle.counting.proofs.Prelude.{_≡_, ap, _∙_, _≢_, true, false, List, ℕ, _+_, _/_, _%_, _^_, _<_, arith, eqb, length, getD, set}
+use Rattle.counting.proofs.Prelude.{replicate, length-set, eq-eqb}
 use native.Mathlib.Decide.{ℕ-discrete, decLt}
 use lib.Bits.{bitOr}
 use lib.Seq.{getD-set-same, getD-set-other, set-out}
@@ -29,7 +30,8 @@ inserted-other s first v u d = ap (λ x. eqb x 1) (go (ℕ-discrete (u / 64) (v 
     x = bitOr (getD s i 0) (2 ^ (v % 64))
 
     at-mask : Dec (i < length s) → u / 64 ≡ v / 64 → bit (getD (set s i x) i 0) (u % 64) ≡ bit (getD s i 0) (u % 64)
-    at-mask (yes l) q = ap (λ y. bit y (u % 64)) (getD-set-same s i x 0 l) ∙ with-other (getD s i 0) (v % 64) (u % 64) (λ e. d (omega arith))
+    at-mask (yes l) q =
+        ap (λ y. bit y (u % 64)) (getD-set-same s i x 0 l) ∙ with-other (getD s i 0) (v % 64) (u % 64) (λ e. d (omega arith))
     at-mask (no l) q = ap (λ y. bit (getD y i 0) (u % 64)) (set-out s i x (omega arith))
 
     go : Dec (u / 64 ≡ v / 64) → bit (getD (set s i x) (maskOf first u) 0) (u % 64) ≡ bit (getD s (maskOf first u) 0) (u % 64)

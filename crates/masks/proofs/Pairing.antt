@@ -1,5 +1,6 @@
 -- Laws of a set in two masks. Assumes nothing.
-use Rattle.counting.proofs.Prelude.{_≡_, sym, ap, ap₂, _∙_, _⊎_, inl, inr, ⊎-elim, List, [], _∷_, ℕ, _+_, _-_, _*_, _/_, _%_, _^_, _<_, max, min, arith, getD}
+use Rattle.counting.proofs.Prelude.{_≡_, sym, ap, ap₂, _∙_, _⊎_, inl, inr, ⊎-elim, List, [], _∷_, ℕ, _+_, _-_, _*_, _/_, _%_, _^_, _<_, max}
+use Rattle.counting.proofs.Prelude.{min, arith, getD}
 use lib.Bits.{bitOr, bitAnd}
 use Rattle.counting.proofs.Truth.{lt-or-le}
 use Rattle.specification.specs.Sets.{bit, member, at}
@@ -23,8 +24,18 @@ halves : (v : ℕ) → v < 128 → First v ⊎ Second v
 unfolding inPair member
 halves v h =
     ⊎-elim
-    (λ l. let q : v / 64 ≡ 0 = omega arith in inl (record { number = q; pair = λ a b. ap (λ (i : ℕ). bit (getD (a ∷ b ∷ []) i 0) (v % 64)) (let e : 0 + v / 64 ≡ 0 = omega arith in e) }))
-    (λ l. let q : v / 64 ≡ 1 = omega arith in inr (record { number = q; pair = λ a b. ap (λ (i : ℕ). bit (getD (a ∷ b ∷ []) i 0) (v % 64)) (let e : 0 + v / 64 ≡ 1 = omega arith in e) }))
+    (λ l. let q : v / 64 ≡ 0 = omega arith in
+    inl
+    (record {
+      number = q;
+      pair = λ a b. ap (λ (i : ℕ). bit (getD (a ∷ b ∷ []) i 0) (v % 64)) (let e : 0 + v / 64 ≡ 0 = omega arith in e);
+    }))
+    (λ l. let q : v / 64 ≡ 1 = omega arith in
+    inr
+    (record {
+      number = q;
+      pair = λ a b. ap (λ (i : ℕ). bit (getD (a ∷ b ∷ []) i 0) (v % 64)) (let e : 0 + v / 64 ≡ 1 = omega arith in e);
+    }))
     (lt-or-le v 64)
 
 pub pair-low : (a b j : ℕ) → j < 64 → inPair a b j ≡ bit a j
@@ -53,11 +64,14 @@ pair-and a b c d v h =
     (halves v h)
 
 -- a member of a, b that c, d lacks
-pub pair-without : (a b c d v : ℕ) → v < 128 → c < 2 ^ 64 → d < 2 ^ 64 → inPair (without a c) (without b d) v ≡ min (inPair a b v) (1 - inPair c d v)
+pub pair-without : (a b c d v : ℕ) → v < 128 → c < 2 ^ 64 → d < 2 ^ 64
+    → inPair (without a c) (without b d) v ≡ min (inPair a b v) (1 - inPair c d v)
 pair-without a b c d v h fc fd =
     ⊎-elim
-    (λ f. f .pair _ _ ∙ bit-and a _ (v % 64) ∙ ap₂ min (sym (f .pair a b)) (bit-not 64 c (v % 64) fc (omega arith) ∙ ap (λ (x : ℕ). 1 - x) (sym (f .pair c d))))
-    (λ f. f .pair _ _ ∙ bit-and b _ (v % 64) ∙ ap₂ min (sym (f .pair a b)) (bit-not 64 d (v % 64) fd (omega arith) ∙ ap (λ (x : ℕ). 1 - x) (sym (f .pair c d))))
+    (λ f. f .pair _ _ ∙ bit-and a _ (v % 64)
+    ∙ ap₂ min (sym (f .pair a b)) (bit-not 64 c (v % 64) fc (omega arith) ∙ ap (λ (x : ℕ). 1 - x) (sym (f .pair c d))))
+    (λ f. f .pair _ _ ∙ bit-and b _ (v % 64)
+    ∙ ap₂ min (sym (f .pair a b)) (bit-not 64 d (v % 64) fd (omega arith) ∙ ap (λ (x : ℕ). 1 - x) (sym (f .pair c d))))
     (halves v h)
 
 -- the two masks that a table has for u
@@ -65,8 +79,10 @@ pub pair-at : (t : List ℕ) (u v : ℕ) → v < 128 → inPair (getD t (2 * u) 
 unfolding at member
 pair-at t u v h =
     ⊎-elim
-    (λ f. f .pair _ _ ∙ ap (λ (i : ℕ). bit (getD t i 0) (v % 64)) (let e : 2 * u ≡ 2 * u + v / 64 = (let q = f .number in omega arith) in e))
-    (λ f. f .pair _ _ ∙ ap (λ (i : ℕ). bit (getD t i 0) (v % 64)) (let e : 2 * u + 1 ≡ 2 * u + v / 64 = (let q = f .number in omega arith) in e))
+    (λ f. f .pair _ _ ∙ ap (λ (i : ℕ). bit (getD t i 0) (v % 64))
+    (let e : 2 * u ≡ 2 * u + v / 64 = (let q = f .number in omega arith) in e))
+    (λ f. f .pair _ _ ∙ ap (λ (i : ℕ). bit (getD t i 0) (v % 64))
+    (let e : 2 * u + 1 ≡ 2 * u + v / 64 = (let q = f .number in omega arith) in e))
     (halves v h)
 
 -- the larger of two bits

@@ -1,5 +1,7 @@
--- Laws of a set of masks: its members, the count, the next member, and the union, intersection and difference, mask by mask. Assumes nothing.
-use Rattle.counting.proofs.Prelude.{_≡_, refl, sym, ap, ap₂, _∙_, not, _&&_, List, ℕ, zero, suc, _+_, _*_, _/_, _%_, _^_, _<_, max, arith, eqb, length, getD, set, length-set}
+-- Laws of a set of masks: its members, the count, the next member, and the
+-- union, intersection and difference, mask by mask. Assumes nothing.
+use Rattle.counting.proofs.Prelude.{_≡_, refl, sym, ap, ap₂, _∙_, not, _&&_, List, ℕ, zero, suc, _+_, _*_, _/_, _%_, _^_, _<_, max, arith}
+use Rattle.counting.proofs.Prelude.{eqb, length, getD, set, length-set}
 use native.Mathlib.Nat.{not-suc-le-zero}
 use borrow.Author.Count.{below-more}
 use lib.Bits.{bitOr, bitAnd, and-mask}
@@ -55,15 +57,18 @@ united-more s first other j r hl o =
     }
 
 -- of w masks: a member of either set
-pub united-member : (w : ℕ) (s : List ℕ) (first : ℕ) (o r : List ℕ) → United s first o w r → (v : ℕ) → v < w * 64 → member r first v ≡ max (member s first v) (member o 0 v)
+pub united-member : (w : ℕ) (s : List ℕ) (first : ℕ) (o r : List ℕ) → United s first o w r → (v : ℕ) → v < w * 64
+    → member r first v ≡ max (member s first v) (member o 0 v)
 unfolding member
 united-member w s first o r a v h =
     ap (λ (x : ℕ). bit x (v % 64)) (a .done (v / 64) (omega arith))
     ∙ bit-or (getD s (first + v / 64) 0) (getD o (v / 64) 0) (v % 64)
-    ∙ ap (λ (i : ℕ). max (bit (getD s (first + v / 64) 0) (v % 64)) (bit (getD o i 0) (v % 64))) (let e : v / 64 ≡ 0 + v / 64 = omega arith in e)
+    ∙ ap (λ (i : ℕ). max (bit (getD s (first + v / 64) 0) (v % 64)) (bit (getD o i 0) (v % 64)))
+    (let e : v / 64 ≡ 0 + v / 64 = omega arith in e)
 
 -- of w masks: a member of one set that another lacks
-pub without-member : (w : ℕ) (t : List ℕ) (from : ℕ) (s : List ℕ) (first : ℕ) (r : List ℕ) → ((i : ℕ) → i < w → getD s (first + i) 0 < 2 ^ 64)
+pub without-member : (w : ℕ) (t : List ℕ) (from : ℕ) (s : List ℕ) (first : ℕ) (r : List ℕ)
+    → ((i : ℕ) → i < w → getD s (first + i) 0 < 2 ^ 64)
     → ((i : ℕ) → i < w → getD r i 0 ≡ without (getD t (from + i) 0) (getD s (first + i) 0)) → (v : ℕ) → v < w * 64
     → member? r 0 v ≡ (member? t from v && not (member? s first v))
 unfolding member

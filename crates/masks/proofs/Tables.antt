@@ -1,5 +1,6 @@
 -- Laws of a table that has a set of w masks for each vertex, for any w. Assumes nothing.
-use Rattle.counting.proofs.Prelude.{_≡_, sym, ap, _∙_, _≢_, ⊎-elim, List, [], _∷_, ℕ, zero, suc, _+_, _-_, _*_, _/_, _%_, _^_, _≤_, _<_, max, arith, length, getD, set, replicate}
+use Rattle.counting.proofs.Prelude.{_≡_, sym, ap, _∙_, _≢_, ⊎-elim, List, [], _∷_, ℕ, zero, suc, _+_, _-_, _*_, _/_, _%_, _^_, _≤_, _<_}
+use Rattle.counting.proofs.Prelude.{max, arith, length, getD, set, replicate}
 use native.Mathlib.Nat.{mul-comm}
 use native.Mathlib.Decide.{ℕ-discrete}
 use lib.Arith.{digits-div, digits-mod}
@@ -57,7 +58,8 @@ put-law w t u v hv hl = record {
     x : ℕ
     x = bitOr (getD t i 0) (2 ^ (v % 64))
 
-    go : (u′ v′ : ℕ) → v′ < w * 64 → (u′ ≡ u → v′ ≢ v) → Dec (w * u′ + v′ / 64 ≡ i) → bit (getD (set t i x) (w * u′ + v′ / 64) 0) (v′ % 64) ≡ bit (getD t (w * u′ + v′ / 64) 0) (v′ % 64)
+    go : (u′ v′ : ℕ) → v′ < w * 64 → (u′ ≡ u → v′ ≢ v) → Dec (w * u′ + v′ / 64 ≡ i)
+        → bit (getD (set t i x) (w * u′ + v′ / 64) 0) (v′ % 64) ≡ bit (getD t (w * u′ + v′ / 64) 0) (v′ % 64)
     go u′ v′ hv′ ne (yes e) =
         let eu : u′ ≡ u = same-row w u′ (v′ / 64) u (v / 64) (mask-lt w v′ hv′) (mask-lt w v hv) e in
         let em : v′ / 64 ≡ v / 64 = same-mask w u′ (v′ / 64) u (v / 64) (mask-lt w v′ hv′) (mask-lt w v hv) e in
@@ -91,7 +93,8 @@ row-member w t k o r v h =
 -- ---- a set is put into the set of a vertex
 
 -- where all masks but those of u stay, so do the sets of the other vertices
-pub others-kept : (w u : ℕ) (t s : List ℕ) → ((i : ℕ) → i < w * u → getD s i 0 ≡ getD t i 0) → ((i : ℕ) → w * u + w ≤ i → getD s i 0 ≡ getD t i 0)
+pub others-kept : (w u : ℕ) (t s : List ℕ) → ((i : ℕ) → i < w * u → getD s i 0 ≡ getD t i 0)
+    → ((i : ℕ) → w * u + w ≤ i → getD s i 0 ≡ getD t i 0)
     → (u′ v : ℕ) → v < w * 64 → u′ ≢ u → at w s u′ v ≡ at w t u′ v
 unfolding at member
 others-kept w u t s below above u′ v h ne = ap (λ (x : ℕ). bit x (v % 64)) (elsewhere (v / 64) (mask-lt w v h))

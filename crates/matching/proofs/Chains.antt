@@ -1,5 +1,6 @@
 -- The channels that predecessors make, whatever the predecessors and the depth: no vertex stands in them twice. Assumes nothing.
-use Rattle.counting.proofs.Prelude.{_≡_, refl, sym, ap, _∙_, subst, Bool, true, false, false≢true, ℕ, zero, suc, _+_, _≤_, _<_, arith, length, length-append, eqb-true, eq-eqb}
+use Rattle.counting.proofs.Prelude.{_≡_, refl, sym, ap, _∙_, subst, Bool, true, false, false≢true, ℕ, zero, suc, _+_, _≤_, _<_, arith}
+use Rattle.counting.proofs.Prelude.{length, length-append, eqb-true, eq-eqb}
 use mathlib.Core.List.{List, [], _∷_, _++_, flatten}
 use mathlib.Core.Option.{Option, none, some, Option·some-injective, Option·none-ne-some}
 use native.Mathlib.Decide.{ℕ-discrete, decLt}

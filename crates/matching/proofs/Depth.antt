@@ -2,7 +2,8 @@
 use Rattle.counting.proofs.Prelude.{_≡_, refl, sym, ap, _∙_, Bool, List, [], _∷_, ℕ, zero, suc, _+_, _≤_, _<_, arith, length}
 use native.Mathlib.Nat.{not-suc-le-zero}
 use mathlib.Core.Option.{Option, none, some}
-use Rattle.specification.specs.Planning.{Held, State, predecessorOf, marked, taken, fresh, scan, augment, asks, matchingTo, matching, successor, chain, begun, plannedTo, planned}
+use Rattle.specification.specs.Planning.{Held, State, predecessorOf, marked, taken, fresh, scan, augment, asks, matchingTo, matching}
+use Rattle.specification.specs.Planning.{successor, chain, begun, plannedTo, planned}
 use Rattle.matching.specs.Visited.{unvisited}
 use Rattle.matching.proofs.Scan.{scan-ind, scan-end, scan-pass, scan-free, scan-moved, scan-stuck, candidate-fact}
 use Rattle.matching.proofs.Kept.{Kept, marked-fewer, kept-augment}

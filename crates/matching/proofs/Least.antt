@@ -1,5 +1,6 @@
 -- No division of the vertices into parts by `leads` has fewer parts than vertices are without predecessor. Assumes nothing.
-use Rattle.counting.proofs.Prelude.{_≡_, refl, sym, ap, _∙_, subst, ⊎-elim, Bool, true, false, true≢false, not, _&&_, List, ℕ, _+_, _≤_, _<_, arith, eqb, leb, lt-ltb, leb-true, le-leb, lt-leb, eqb-true, not-true, ne-eqb}
+use Rattle.counting.proofs.Prelude.{_≡_, refl, sym, ap, _∙_, subst, ⊎-elim, Bool, true, false, true≢false, not, _&&_, List, ℕ, _+_, _≤_}
+use Rattle.counting.proofs.Prelude.{_<_, arith, eqb, leb, lt-ltb, leb-true, le-leb, lt-leb, eqb-true, not-true, ne-eqb}
 use native.Mathlib.Decide.{ℕ-discrete, decLt}
 use Rattle.specification.specs.Count.{indicator, sum, count}
 use Rattle.specification.specs.Planning.{begins, Held, predecessorOf, none?, is?}
@@ -70,8 +71,11 @@ module _ (leads : ℕ → ℕ → Bool) (n : ℕ) (held : List Held) (q : Asked 
   begins-failed =
       let e0 : sum n (λ v. indicator (begins n held v)) ≡ sum n (λ v. indicator (leb n (at v))) =
       sum-ext n (λ v. indicator (begins n held v)) (λ v. indicator (leb n (at v))) (λ v l. begins-out v) in
-      let e1 : sum n (λ v. sum n (λ a. indicator (eqb (at v) a))) ≡ sum n (λ a. sum n (λ v. indicator (eqb (at v) a))) = sum-swap n n (λ v a. indicator (eqb (at v) a)) in
-      let e2 : sum n (λ v. sum n (λ a. indicator (eqb (at v) a)) + indicator (leb n (at v))) ≡ sum n (λ v. 1) = sum-ext n (λ v. sum n (λ a. indicator (eqb (at v) a)) + indicator (leb n (at v))) (λ v. 1) (λ v l. one-of n (at v)) in
+      let e1 : sum n (λ v. sum n (λ a. indicator (eqb (at v) a)))
+      ≡ sum n (λ a. sum n (λ v. indicator (eqb (at v) a))) = sum-swap n n (λ v a. indicator (eqb (at v) a)) in
+      let e2 : sum n (λ v. sum n (λ a. indicator (eqb (at v) a)) + indicator (leb n (at v)))
+      ≡ sum n (λ v. 1) =
+      sum-ext n (λ v. sum n (λ a. indicator (eqb (at v) a)) + indicator (leb n (at v))) (λ v. 1) (λ v l. one-of n (at v)) in
       let e3 : sum n (λ a. sum n (λ v. indicator (eqb (at v) a)) + indicator (q .failed a)) ≡ sum n (λ a. 1) =
       sum-ext n (λ a. sum n (λ v. indicator (eqb (at v) a)) + indicator (q .failed a)) (λ v. 1)
       (λ a l. ap (λ x. x + indicator (q .failed a)) (sym (held-at a l)) ∙ q .each a l ∙ ap indicator (lt-ltb a n l)) in
@@ -106,7 +110,8 @@ module _ (leads : ℕ → ℕ → Bool) (n : ℕ) (held : List Held) (q : Asked 
   covers : (a : ℕ) → a < n → indicator (q .failed a) + ofS a ≤ indicator (q .S a) + indicator (A a)
   covers a l = go (q .S a) refl (decLt 0 (indicator (q .failed a) + ofS a))
     where
-      go : (b : Bool) → q .S a ≡ b → Dec (0 < indicator (q .failed a) + ofS a) → indicator (q .failed a) + ofS a ≤ indicator (q .S a) + indicator (A a)
+      go : (b : Bool) → q .S a ≡ b → Dec (0 < indicator (q .failed a) + ofS a)
+          → indicator (q .failed a) + ofS a ≤ indicator (q .S a) + indicator (A a)
       go true e d = omega (arith, at-most a l, ap indicator e)
       go false e (no d) = omega arith
       go false e (yes d) = rw e (rw (le-leb 1 (indicator (q .failed a) + ofS a) d) (omega (arith, at-most a l)))
@@ -132,7 +137,8 @@ module _ (leads : ℕ → ℕ → Bool) (n : ℕ) (held : List Held) (q : Asked 
       go : (b : Bool) → q .failed a ≡ b → Into leads n (q .S) a
       go true e = q .into a l e
       go false e =
-          let t′ : (leb 1 (indicator (q .failed a) + ofS a) ≡ true) × (not (q .S a) ≡ true) = and-elim (leb 1 (indicator (q .failed a) + ofS a)) (not (q .S a)) t in
+          let t′ : (leb 1 (indicator (q .failed a) + ofS a) ≡ true)
+          × (not (q .S a) ≡ true) = and-elim (leb 1 (indicator (q .failed a) + ofS a)) (not (q .S a)) t in
           let w : (v : ℕ) × (v < n) × ((q .S v && eqb (at v) a) ≡ true) =
           count-positive n (λ v. q .S v && eqb (at v) a)
           (omega (arith, leb-true 1 (indicator (q .failed a) + ofS a) (t′ .0), ap indicator e)) in

@@ -18,7 +18,8 @@ use Rattle.matching.proofs.Asked.{Asked, asked-matching}
 use Rattle.matching.proofs.Sound.{Sound}
 use Rattle.matching.proofs.Least.{least-begins}
 use Rattle.matching.proofs.Lists.{times-here, times-other, times-tail, times-none, times-snoc, every-both}
-use Rattle.matching.proofs.Chains.{is-true, is-same, chain-none, chain-some, begun-yes, begun-no, successor-here, successor-on, successor-fact, begun-once, begun-within, begun-count}
+use Rattle.matching.proofs.Chains.{is-true, is-same, chain-none, chain-some, begun-yes, begun-no, successor-here, successor-on}
+use Rattle.matching.proofs.Chains.{successor-fact, begun-once, begun-within, begun-count}
 
 module _ (leads : ℕ → ℕ → Bool) (n : ℕ) (held : List Held) where
   abbrev channel : ℕ → List ℕ
@@ -151,7 +152,9 @@ module _ (leads : ℕ → ℕ → Bool) (n : ℕ) (held : List Held) where
         off false p = ap indicator p
 
         each : (u : ℕ) → u < n → Dec (a ≡ u) → indicator (leads u a) + indicator (eqb a u) ≤ indicator (leads u b)
-        each u m (yes p) = subst (λ x. indicator (leads x a) + indicator (eqb a x) ≤ indicator (leads x b)) p (omega (arith, off (leads a a) refl, ap indicator e, indicator-le (eqb a a)))
+        each u m (yes p) =
+            subst (λ x. indicator (leads x a) + indicator (eqb a x) ≤ indicator (leads x b)) p
+            (omega (arith, off (leads a a) refl, ap indicator e, indicator-le (eqb a a)))
         each u m (no p) = omega (arith, ap indicator (ne-eqb a u p), indicator-mono (leads u a) (leads u b) (λ t. o .trans u a b m l k t e))
 
     -- back from w, each time to a vertex that fewer lead to, until one has no predecessor

@@ -1,7 +1,8 @@
 -- The channels planned depend on the relation only between the n vertices: no search asks of any other. Assumes nothing.
 use Rattle.counting.proofs.Prelude.{_≡_, refl, sym, ap, _∙_, Bool, not, _&&_, List, [], ℕ, zero, suc, _+_, _≤_, _<_, arith}
 use mathlib.Core.Option.{Option·none-ne-some}
-use Rattle.specification.specs.Planning.{Held, State, predecessorOf, fresh, scan, augment, asks, matchingTo, candidate, marked, taken, begun, plannedTo, planned}
+use Rattle.specification.specs.Planning.{Held, State, predecessorOf, fresh, scan, augment, asks, matchingTo, candidate, marked, taken}
+use Rattle.specification.specs.Planning.{begun, plannedTo, planned}
 use Rattle.matching.specs.Visited.{seen}
 use Rattle.matching.proofs.Scan.{scan-ind, scan-end, scan-pass, scan-free, scan-moved, scan-stuck}
 use Rattle.matching.proofs.Sound.{Sound, sound-augment}

@@ -1,5 +1,6 @@
 -- Cells on the page have exact points, and what the calls test and give is what is right for their cells. Assumes nothing.
-use Rattle.counting.proofs.Prelude.{_≡_, refl, sym, _∙_, Bool, true, false, _||_, or-false, or-assoc, List, [], _∷_, map, ℕ, _*_, _^_, _<_, _≤_, arith, leb, lit≤, leb-false}
+use Rattle.counting.proofs.Prelude.{_≡_, refl, sym, _∙_, Bool, true, false, _||_, or-false, or-assoc, List, [], _∷_, map, ℕ, _*_, _^_, _<_}
+use Rattle.counting.proofs.Prelude.{_≤_, arith, leb, lit≤, leb-false}
 use native.Mathlib.Nat.{lt-of-lt-of-le, mul-lt-mul-of-pos-right}
 use lib.Ieee.Exact.{HasValue}
 use Rattle.counting.proofs.Truth.{or-neither}

@@ -14,7 +14,8 @@ use Rattle.specification.specs.Page.{perPoint, toPoints}
 pub exact : (n : ℕ) → n < 2 ^ 24 → HasValue (toPoints n) false n perPoint
 unfolding toPoints
 exact n h =
-    round-exact binary32 false n perPoint n 147 (omega arith) h (lt-of-lt-of-le (shl-lt 24 147 h) (lit≤ tt)) (sym (mul-assoc n (2 ^ 147) perPoint))
+    round-exact binary32 false n perPoint n 147 (omega arith) h (lt-of-lt-of-le (shl-lt 24 147 h) (lit≤ tt))
+    (sym (mul-assoc n (2 ^ 147) perPoint))
 
 -- 0.25, of which these are the bits
 abbrev quarter : Float
@@ -41,4 +42,6 @@ casts n h = le→leb n (2 ^ 24) (omega arith)
 -- what the code computes
 pub made : (n : ℕ) → n < 2 ^ 24 → mul binary32 (ofInt binary32 (pos n)) (ofBits binary32 1048576000) ≡ toPoints n
 unfolding ofInt
-made n h = ap (mul binary32 (round binary32 false n 1)) literal ∙ by-quarter (round binary32 false n 1) n (round-whole binary32 false n (omega arith))
+made n h =
+    ap (mul binary32 (round binary32 false n 1)) literal
+    ∙ by-quarter (round binary32 false n 1) n (round-whole binary32 false n (omega arith))

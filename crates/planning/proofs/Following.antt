@@ -1,5 +1,7 @@
 -- The loops over vertices: whose successor it is, and which channels have begun. Assumes nothing.
-use Rattle.counting.proofs.Prelude.{_≡_, refl, sym, ap, _∙_, subst, _≢_, List, [], _∷_, _++_, append-nil, append-assoc, flatten, ℕ, zero, suc, _+_, _-_, _*_, _≤_, _<_, min, arith, eqb, length, getD, set, replicate, length-append, length-set, length-replicate, getD-replicate, eq-eqb, ne-eqb, lt-ltb, le-ltb}
+use Rattle.counting.proofs.Prelude.{_≡_, refl, sym, ap, _∙_, subst, _≢_, List, [], _∷_, _++_, append-nil, append-assoc, flatten, ℕ, zero}
+use Rattle.counting.proofs.Prelude.{suc, _+_, _-_, _*_, _≤_, _<_, min, arith, eqb, length, getD, set, replicate, length-append, length-set}
+use Rattle.counting.proofs.Prelude.{length-replicate, getD-replicate, eq-eqb, ne-eqb, lt-ltb, le-ltb}
 use native.Mathlib.Decide.{ℕ-discrete}
 use mathlib.Core.Option.{Option, none, some, Option·some-injective}
 use native.Mathlib.Numerals.{add-one}
@@ -7,7 +9,8 @@ use lib.Seq.{getD-set-same, getD-set-other}
 use Rattle.specification.specs.Planning.{Held, predecessorOf, is?, matching, successorFrom, successor, chain, plannedTo, planned}
 use Rattle.specification.specs.Channels.{times}
 use Rattle.matching.proofs.Lists.{flatten-snoc, times-append, times-here, length-bound}
-use Rattle.matching.proofs.Chains.{begun-yes, begun-none, begun-no, successor-here, successor-on, successor-end, successor-fact, begun-once, begun-within, begun-room, begun-same}
+use Rattle.matching.proofs.Chains.{begun-yes, begun-none, begun-no, successor-here, successor-on, successor-end, successor-fact, begun-once}
+use Rattle.matching.proofs.Chains.{begun-within, begun-room, begun-same}
 use Rattle.matching.proofs.Asked.{asked-matching}
 use Rattle.search.specs.Tabled.{byteOf, Tabled}
 use Rattle.planning.specs.Arranged.{Arranged, Kept}
@@ -285,7 +288,8 @@ module _ (n : ℕ) (P : List ℕ) where
 -- ---- the answer
 
 -- no room
-pub chained-short : (n : ℕ) (table p : List ℕ) (r : Channels) → length p < 4 * min n 128 → r ≡ record { refusal = 8; count = 0 } → Chained n table p r p
+pub chained-short : (n : ℕ) (table p : List ℕ) (r : Channels) → length p < 4 * min n 128 → r ≡ record { refusal = 8; count = 0 }
+    → Chained n table p r p
 chained-short n table p r h e =
     let z : r .refusal ≡ 8 = ap (λ (x : Channels). x .refusal) e in
     record {

@@ -1,5 +1,6 @@
 -- Places stored vertex by vertex: what each step of the code makes of them and of an arrangement. Assumes nothing.
-use Rattle.counting.proofs.Prelude.{_≡_, refl, sym, ap, _∙_, _≢_, List, [], _∷_, _++_, flatten, ℕ, _+_, _-_, _*_, _≤_, _<_, arith, length, set, length-append, length-set}
+use Rattle.counting.proofs.Prelude.{_≡_, refl, sym, ap, _∙_, _≢_, List, [], _∷_, _++_, flatten, ℕ, _+_, _-_, _*_, _≤_, _<_, arith, length}
+use Rattle.counting.proofs.Prelude.{set, length-append, length-set}
 use native.Mathlib.Decide.{ℕ-discrete}
 use Rattle.counting.specs.Quads.{quad}
 use Rattle.counting.proofs.Quads.{quad-same, quad-other}

@@ -1,5 +1,6 @@
 -- The sets by key while they are filled. Assumes nothing.
-use Rattle.counting.proofs.Prelude.{_≡_, sym, ap, ap₂, _∙_, subst, _≢_, _⊎_, inl, inr, ⊎-elim, List, [], _∷_, ℕ, _+_, _-_, _*_, _/_, _≤_, _<_, max, arith, length, getD, set, replicate, length-set, length-replicate}
+use Rattle.counting.proofs.Prelude.{_≡_, sym, ap, ap₂, _∙_, subst, _≢_, _⊎_, inl, inr, ⊎-elim, List, [], _∷_, ℕ, _+_, _-_, _*_, _/_, _≤_}
+use Rattle.counting.proofs.Prelude.{_<_, max, arith, length, getD, set, replicate, length-set, length-replicate}
 use native.Mathlib.Nat.{mul-le-mul-left}
 use native.Mathlib.Decide.{ℕ-discrete}
 use lib.Bits.{bitOr}

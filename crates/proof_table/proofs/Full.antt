@@ -1,12 +1,15 @@
 -- A record of 128 vertices and 4,096 edges passes every check, and one with a vertex or an edge more does not. Assumes nothing.
-use Rattle.counting.proofs.Prelude.{_≡_, refl, ap, _∙_, true, false, _&&_, List, [], _∷_, ℕ, zero, suc, _+_, _*_, _/_, _%_, _≤_, _<_, arith, eqb, leb, length, getD, take, drop, eqb-true, lt-leb}
+use Rattle.counting.proofs.Prelude.{_≡_, refl, ap, _∙_, true, false, _&&_, List, [], _∷_, ℕ, zero, suc, _+_, _*_, _/_, _%_, _≤_, _<_, arith}
+use Rattle.counting.proofs.Prelude.{eqb, leb, length, getD, take, drop, eqb-true, lt-leb}
 use lib.Seq.{take-length}
 use Rattle.specification.specs.Count.{some}
-use Rattle.specification.specs.Graph.{Reaches, one, more, edgeCount, Edge, outsized?, strange?, reachable?, alternate, tailsOf, headsOf, alike?, duplicate?, unsized?}
+use Rattle.specification.specs.Graph.{Reaches, one, more, edgeCount, Edge, outsized?, strange?, reachable?, alternate, tailsOf, headsOf}
+use Rattle.specification.specs.Graph.{alike?, duplicate?, unsized?}
 use Rattle.specification.specs.declared.Fields.{Fields}
 use Rattle.specification.specs.declared.Layout.the-variants.{Good}
 use Rattle.specification.specs.Layout.{sizeAt, fieldAt, afterEdges, withEdges, withVertices, layoutOf}
-use Rattle.specification.specs.Checks.{content, edgesOf, size?, stranger?, double?, ring?, repeated?, lacking?, unled?, looseChecks, laterChecks, firstOf, refusalOf, contentOf, recordRefusal, said}
+use Rattle.specification.specs.Checks.{content, edgesOf, size?, stranger?, double?, ring?, repeated?, lacking?, unled?, looseChecks}
+use Rattle.specification.specs.Checks.{laterChecks, firstOf, refusalOf, contentOf, recordRefusal, said}
 use Rattle.counting.proofs.Somes.{some-none}
 use Rattle.counting.proofs.Truth.{and-elim}
 use Rattle.counting.proofs.Falsity.{not-true, neither}
@@ -180,5 +183,6 @@ one-more =
 
 pub more-arrows : Refused recordWithOneMore 2
 unfolding recordWithOneMore
-more-arrows = refused-size recordWithOneMore fieldsMore (laid-out-more (0 ∷ 1 ∷ bytes) (ap (λ k. suc (suc k)) (pairs-long fullTail fullHead 4096 0)))
+more-arrows =
+    refused-size recordWithOneMore fieldsMore (laid-out-more (0 ∷ 1 ∷ bytes) (ap (λ k. suc (suc k)) (pairs-long fullTail fullHead 4096 0)))
     (table .more-arrows _ one-more)

@@ -1,5 +1,6 @@
 -- What it means that a graph is not refused. Assumes nothing.
-use Rattle.counting.proofs.Prelude.{_≡_, refl, sym, _∙_, ⊎-elim, Bool, true, false, true≢false, _||_, List, ℕ, _≤_, _<_, arith, leb, getD, leb-false}
+use Rattle.counting.proofs.Prelude.{_≡_, refl, sym, _∙_, ⊎-elim, Bool, true, false, true≢false, _||_, List, ℕ, _≤_, _<_, arith, leb, getD}
+use Rattle.counting.proofs.Prelude.{leb-false}
 use Rattle.specification.specs.Count.{some}
 use Rattle.specification.specs.Graph.{edgeCount, outsized?, strange?, verdict, refusal}
 use Rattle.counting.proofs.Truth.{true-or-false, or-neither}
@@ -18,7 +19,10 @@ pub accepted-within : (n : ℕ) (tails heads : List ℕ) → refusal n tails hea
 unfolding refusal strange?
 accepted-within n tails heads e =
     let v = verdict-none (outsized? n (edgeCount tails heads)) (some (edgeCount tails heads) (strange? n tails heads)) e in (
-      record { tail = λ i l. leb-false n (getD tails i 0) (known i l (v .1) .0); head = λ i l. leb-false n (getD heads i 0) (known i l (v .1) .1) },
+      record {
+        tail = λ i l. leb-false n (getD tails i 0) (known i l (v .1) .0);
+        head = λ i l. leb-false n (getD heads i 0) (known i l (v .1) .1);
+      },
       outsized-back n (edgeCount tails heads) (v .0) .1,
     )
   where

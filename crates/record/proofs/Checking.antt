@@ -1,5 +1,6 @@
 -- What the checks of a graph hand over, by what the layers below promise. Assumes nothing.
-use Rattle.counting.proofs.Prelude.{_≡_, refl, sym, ap, _∙_, subst, _≢_, Bool, true, false, _&&_, List, ℕ, zero, suc, _*_, _≤_, _<_, min, arith, leb, length, eq-eqb, ne-eqb}
+use Rattle.counting.proofs.Prelude.{_≡_, refl, sym, ap, _∙_, subst, _≢_, Bool, true, false, _&&_, List, ℕ, zero, suc, _*_, _≤_, _<_, min}
+use Rattle.counting.proofs.Prelude.{arith, leb, length, eq-eqb, ne-eqb}
 use Rattle.counting.proofs.Sizes.{size-taken, sized}
 use Rattle.specification.specs.Count.{choose}
 use Rattle.specification.specs.Graph.{outsized?, verdict, reachable?, tailsOf, headsOf, unsized?}
@@ -31,7 +32,8 @@ never-none : (t : Bool) (k : ℕ) → k ≢ 0 → choose {A = ℕ} t (λ _. 3) (
 never-none true k h e = let q : _≡_ {A = ℕ} 3 0 = e in absurd (omega arith)
 never-none false k h e = h e
 
-module _ (n : ℕ) (ends : List ℕ) (given : Bool) (field e b t l p : List ℕ) (d : Descent) (e′ b′ t′ l′ p₁ : List ℕ) (promised : Descends n ends e b t l p d e′ b′ t′ l′ p₁) where
+module _ (n : ℕ) (ends : List ℕ) (given : Bool) (field e b t l p : List ℕ) (d : Descent) (e′ b′ t′ l′ p₁ : List ℕ)
+    (promised : Descends n ends e b t l p d e′ b′ t′ l′ p₁) where
   abbrev tails : List ℕ
   tails = tailsOf ends
 
@@ -42,7 +44,8 @@ module _ (n : ℕ) (ends : List ℕ) (given : Bool) (field e b t l p : List ℕ)
   answer = refusalOf (content n tails heads given field)
 
   -- the edges are refused
-  pub edges-fail : (k : ℕ) (r : Checked) → d .refusal ≢ 0 → k ≡ choose ((leb 4 (d .refusal) && leb (d .refusal) 5) && (given && unknown? n (verticesOf field))) (λ _. 3) (λ _. d .refusal)
+  pub edges-fail : (k : ℕ) (r : Checked) → d .refusal ≢ 0
+      → k ≡ choose ((leb 4 (d .refusal) && leb (d .refusal) 5) && (given && unknown? n (verticesOf field))) (λ _. 3) (λ _. d .refusal)
       → r ≡ uncheckedBy k → Checks n ends given field e b t l p r e′ b′ t′ l′ p₁
   edges-fail k r ne q made =
       let same : r .refusal ≡ k = ap (λ (x : Checked). x .refusal) made in
@@ -50,10 +53,20 @@ module _ (n : ℕ) (ends : List ℕ) (given : Bool) (field e b t l p : List ℕ)
         answer = λ s. same ∙ q ∙ sym (refused-edges n tails heads given field (d .refusal) (promised .answer s) ne);
         short = λ s.
             let q₁ = promised .short s in
-            let eight : d .refusal ≡ 8 = q₁ .0 in
-            (same ∙ q ∙ sym (first-high (d .refusal) given (unknown? n (verticesOf field)) (omega arith)) ∙ eight, q₁ .1, q₁ .2, q₁ .3, q₁ .4, q₁ .5);
+            let eight : d .refusal ≡ 8 = q₁ .0 in (
+              same ∙ q ∙ sym (first-high (d .refusal) given (unknown? n (verticesOf field)) (omega arith))
+                  ∙ eight,
+              q₁ .1,
+              q₁ .2,
+              q₁ .3,
+              q₁ .4,
+              q₁ .5,
+            );
         none = λ h. made ∙ ap uncheckedBy (sym same);
-        passes = λ z. absurd (never-none ((leb 4 (d .refusal) && leb (d .refusal) 5) && (given && unknown? n (verticesOf field))) (d .refusal) ne (sym q ∙ sym same ∙ z));
+        passes =
+            λ z. absurd
+            (never-none ((leb 4 (d .refusal) && leb (d .refusal) 5) && (given && unknown? n (verticesOf field))) (d .refusal) ne
+            (sym q ∙ sym same ∙ z));
         left = λ s _. subst (λ (x : ℕ). Left x n ends e b t l p e′ b′ t′ l′ p₁) (promised .answer s) (promised .left ne);
         tables = λ s z. absurd (ne (promised .answer s ∙ z));
         past = promised .past;
@@ -79,7 +92,9 @@ module _ (n : ℕ) (ends : List ℕ) (given : Bool) (field e b t l p : List ℕ)
       of-size = sized n (nonempty n tails heads accepted) small
 
       table-same : (u v : ℕ) → u < n → v < n → has? 2 t′ u v ≡ reachable? n tails heads u v
-      table-same u v hu hv = same-test 2 n tails heads t′ (promised .made passed .closure .bits) u v (let k = small in omega arith) (let k = small in omega arith)
+      table-same u v hu hv =
+          same-test 2 n tails heads t′ (promised .made passed .closure .bits) u v (let k = small in omega arith)
+          (let k = small in omega arith)
 
     module _ (ch : Channels) (p′ : List ℕ)
         (lined : Answers n (channelsRefusal n t′ given field) (channelsBy n t′ given field) p₁ ch p′) where

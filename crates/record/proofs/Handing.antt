@@ -24,7 +24,9 @@ module _ (b : List ℕ) (f : Fields) (good : layoutOf b ≡ Good f) (k : Checked
   abbrev field : List ℕ
   field = take ((f .lines + f .size) - f .lines) (drop (f .lines) b)
 
-  module _ (p : Checks (f .vertices) ends (f .given) field (replicate 256 0) (replicate 258 0) (replicate 256 0) (replicate 256 0) (replicate 512 0) k e′ b′ t′ l′ p′) where
+  module _
+      (p : Checks (f .vertices) ends (f .given) field (replicate 256 0) (replicate 258 0) (replicate 256 0) (replicate 256 0)
+      (replicate 512 0) k e′ b′ t′ l′ p′) where
     answer : k .refusal ≡ refusalOf (contentOf b f)
     answer = p .answer (fresh (f .vertices)) ∙ ap refusalOf (parts-content b f)
 
@@ -34,6 +36,9 @@ module _ (b : List ℕ) (f : Fields) (good : layoutOf b ≡ Good f) (k : Checked
     pub read-passed : k .refusal ≡ 0 → (r : Reading) → r ≡ record { refusal = 0; vertices = f .vertices; table = t′ } → Reads b r
     read-passed z r made =
         let passes = p .passes z in
-        let bits : (u v : ℕ) → u < 128 → v < 128 → at 2 t′ u v ≡ 1 ↔ Reachable (f .vertices) (tailsOf ends) (headsOf ends) u v = passes .descended .closure .bits in
-        subst (Reads b) (sym made) (read-reads b f (record { refusal = 0; vertices = f .vertices; table = t′ }) good (sym answer ∙ z) refl refl (p .long .2)
-        (subst (λ (c : Content). (u v : ℕ) → u < 128 → v < 128 → at 2 t′ u v ≡ 1 ↔ Reachable (c .vertices) (c .tails) (c .heads) u v) (parts-content b f) bits))
+        let bits : (u v : ℕ) → u < 128 → v < 128
+        → at 2 t′ u v ≡ 1 ↔ Reachable (f .vertices) (tailsOf ends) (headsOf ends) u v = passes .descended .closure .bits in
+        subst (Reads b) (sym made)
+        (read-reads b f (record { refusal = 0; vertices = f .vertices; table = t′ }) good (sym answer ∙ z) refl refl (p .long .2)
+        (subst (λ (c : Content). (u v : ℕ) → u < 128 → v < 128 → at 2 t′ u v ≡ 1 ↔ Reachable (c .vertices) (c .tails) (c .heads) u v)
+        (parts-content b f) bits))

@@ -1,9 +1,11 @@
 -- The checks one after the other: by the refusal of the edges alone, and then by the given channels. Assumes nothing.
-use Rattle.counting.proofs.Prelude.{_≡_, refl, sym, ap, _∙_, _≢_, Bool, true, false, _&&_, _||_, List, ℕ, _≤_, _<_, arith, eqb, leb, le-leb, lt-leb}
+use Rattle.counting.proofs.Prelude.{_≡_, refl, sym, ap, _∙_, _≢_, Bool, true, false, _&&_, _||_, List, ℕ, _≤_, _<_, arith, eqb, leb, le-leb}
+use Rattle.counting.proofs.Prelude.{lt-leb}
 use Rattle.specification.specs.Count.{choose, some}
 use Rattle.specification.specs.Graph.{edgeCount, outsized?, strange?, verdict, reachable?, duplicate?, unsized?}
 use Rattle.specification.specs.Channels.{linesOf, verticesOf, unknown?, repeats?, lacks?, broken?}
-use Rattle.specification.specs.Checks.{Content, content, size?, stranger?, double?, ring?, repeated?, lacking?, unled?, looseChecks, laterChecks, firstOf, refusalOf}
+use Rattle.specification.specs.Checks.{Content, content, size?, stranger?, double?, ring?, repeated?, lacking?, unled?, looseChecks}
+use Rattle.specification.specs.Checks.{laterChecks, firstOf, refusalOf}
 use Rattle.specification.specs.Graph as edges
 use Rattle.descent.specs.Promise.{edgesRefusal}
 use Rattle.channels.specs.Promise.{givenRefusal}
@@ -24,7 +26,8 @@ lines : (g r l b : Bool) → ℕ
 lines g r l b = choose (g && r) (λ _. 6) (λ _. choose (g && l) (λ _. 6) (λ _. choose (g && b) (λ _. 7) (λ _. 0)))
 
 -- the edges are refused with k: an unknown vertex in the given channels goes before duplicates and cycles
-edges-refused : (o s g d y : Bool) (rest k : ℕ) → k ≡ alone o s d y → k ≢ 0 → whole o s g d y rest ≡ choose ((leb 4 k && leb k 5) && g) (λ _. 3) (λ _. k)
+edges-refused : (o s g d y : Bool) (rest k : ℕ) → k ≡ alone o s d y → k ≢ 0
+    → whole o s g d y rest ≡ choose ((leb 4 k && leb k 5) && g) (λ _. 3) (λ _. k)
 unfolding whole alone verdict
 edges-refused true s g d y rest k e h = sym (rw e refl)
 edges-refused false true g d y rest k e h = sym (rw e refl)
@@ -76,7 +79,8 @@ module _ (n : ℕ) (tails heads : List ℕ) (given : Bool) (field : List ℕ) wh
   unfolding edgesRefusal edges.refusal alone
   as-alone = refl
 
-  pub refused-edges : (k : ℕ) → k ≡ edgesRefusal n tails heads → k ≢ 0 → refusalOf c ≡ choose ((leb 4 k && leb k 5) && (given && unknown? n (verticesOf field))) (λ _. 3) (λ _. k)
+  pub refused-edges : (k : ℕ) → k ≡ edgesRefusal n tails heads → k ≢ 0
+      → refusalOf c ≡ choose ((leb 4 k && leb k 5) && (given && unknown? n (verticesOf field))) (λ _. 3) (λ _. k)
   refused-edges k e h = as-whole ∙ edges-refused o s (given && unknown? n (verticesOf field)) d y rest k (e ∙ as-alone) h
 
   passed-edges : edgesRefusal n tails heads ≡ 0 → refusalOf c ≡ choose (given && unknown? n (verticesOf field)) (λ _. 3) (λ _. rest)
@@ -89,7 +93,9 @@ module _ (n : ℕ) (tails heads : List ℕ) (given : Bool) (field : List ℕ) wh
 -- ---- then the given channels
 
 -- what the planner answers of given channels is what the checks answer
-planner-answer : (u r l b : Bool) → choose {A = ℕ} u (λ _. 3) (λ _. choose (r || l) (λ _. 6) (λ _. choose b (λ _. 7) (λ _. 0))) ≡ choose u (λ _. 3) (λ _. lines true r l b)
+planner-answer : (u r l b : Bool)
+    → choose {A = ℕ} u (λ _. 3) (λ _. choose (r || l) (λ _. 6) (λ _. choose b (λ _. 7) (λ _. 0)))
+    ≡ choose u (λ _. 3) (λ _. lines true r l b)
 unfolding lines
 planner-answer true r l b = refl
 planner-answer false true l b = refl
@@ -108,9 +114,13 @@ module _ (n : ℕ) (tails heads : List ℕ) (field : List ℕ) (passes : edgesRe
   unfolding givenRefusal
   given-refusal leads same small =
       given-same n leads (reachable? n tails heads) same field
-      ∙ ap (λ (t : Bool). choose {A = ℕ} t (λ _. 2) (λ _. choose (unknown? n (verticesOf field)) (λ _. 3) (λ _. choose (repeats? (verticesOf field) || lacks? n (verticesOf field)) (λ _. 6)
+      ∙ ap
+      (λ (t : Bool). choose {A = ℕ} t (λ _. 2)
+      (λ _. choose (unknown? n (verticesOf field)) (λ _. 3)
+      (λ _. choose (repeats? (verticesOf field) || lacks? n (verticesOf field)) (λ _. 6)
       (λ _. choose (broken? (reachable? n tails heads) (linesOf field)) (λ _. 7) (λ _. 0))))) small
-      ∙ planner-answer (unknown? n (verticesOf field)) (repeats? (verticesOf field)) (lacks? n (verticesOf field)) (broken? (reachable? n tails heads) (linesOf field))
+      ∙ planner-answer (unknown? n (verticesOf field)) (repeats? (verticesOf field)) (lacks? n (verticesOf field))
+      (broken? (reachable? n tails heads) (linesOf field))
       ∙ sym (passed-edges n tails heads true field passes)
 
 -- ---- the same, case by case

@@ -1,5 +1,6 @@
 -- What a record says, by whether it is accepted. Assumes nothing.
-use Rattle.counting.proofs.Prelude.{_≡_, refl, sym, ap, ap₂, _∙_, subst, _≢_, _↔_, Bool, List, [], ℕ, _+_, _-_, _*_, _<_, arith, length, take, drop, eq-eqb, ne-eqb}
+use Rattle.counting.proofs.Prelude.{_≡_, refl, sym, ap, ap₂, _∙_, subst, _≢_, _↔_, Bool, List, [], ℕ, _+_, _-_, _*_, _<_, arith, length}
+use Rattle.counting.proofs.Prelude.{take, drop, eq-eqb, ne-eqb}
 use Rattle.specification.specs.Count.{choose}
 use Rattle.specification.specs.Sets.{at}
 use Rattle.specification.specs.Graph.{tailsOf, headsOf, refusal, verdict, outsized?, Reachable, unsized?}
@@ -25,16 +26,22 @@ good-refusal b f e = ap (refusalIn refusalOf b) e
 
 pub accepted-says : (b : List ℕ) (f : Fields) → layoutOf b ≡ Good f → recordRefusal b ≡ 0 → said b ≡ contentOf b f
 unfolding said
-accepted-says b f e z = ap (λ (t : Bool). choose t (λ _. contentIn b (layoutOf b)) (λ _. nothing)) (eq-eqb (recordRefusal b) 0 z) ∙ ap (contentIn b) e
+accepted-says b f e z =
+    ap (λ (t : Bool). choose t (λ _. contentIn b (layoutOf b)) (λ _. nothing)) (eq-eqb (recordRefusal b) 0 z) ∙ ap (contentIn b) e
 
 -- the parts of the bytes that are lent are those of the content
 pub parts-content : (b : List ℕ) (f : Fields)
-    → content (f .vertices) (tailsOf (take ((f .edges + 2 * f .count) - f .edges) (drop (f .edges) b))) (headsOf (take ((f .edges + 2 * f .count) - f .edges) (drop (f .edges) b))) (f .given) (take ((f .lines + f .size) - f .lines) (drop (f .lines) b))
+    → content (f .vertices) (tailsOf (take ((f .edges + 2 * f .count) - f .edges) (drop (f .edges) b)))
+    (headsOf (take ((f .edges + 2 * f .count) - f .edges) (drop (f .edges) b))) (f .given)
+    (take ((f .lines + f .size) - f .lines) (drop (f .lines) b))
     ≡ contentOf b f
 unfolding contentOf
 parts-content b f =
-    ap₂ (λ (i j : ℕ). content (f .vertices) (tailsOf (take i (drop (f .edges) b))) (headsOf (take i (drop (f .edges) b))) (f .given) (take j (drop (f .lines) b)))
-    (let e : (f .edges + 2 * f .count) - f .edges ≡ 2 * f .count = omega arith in e) (let e : (f .lines + f .size) - f .lines ≡ f .size = omega arith in e)
+    ap₂
+    (λ (i j : ℕ). content (f .vertices) (tailsOf (take i (drop (f .edges) b))) (headsOf (take i (drop (f .edges) b))) (f .given)
+    (take j (drop (f .lines) b)))
+    (let e : (f .edges + 2 * f .count) - f .edges ≡ 2 * f .count = omega arith in e)
+    (let e : (f .lines + f .size) - f .lines ≡ f .size = omega arith in e)
 
 -- ---- what reading answers
 
@@ -52,12 +59,16 @@ unread-reads b k r e ne q =
       answer = sym e;
       vertices = sym (ap (λ (c : Content). c .vertices) (refused-says b no));
       masks = refl;
-      bits = subst (λ (c : Content). (u v : ℕ) → u < 128 → v < 128 → at 2 (unreadBy k .table) u v ≡ 1 ↔ Reachable (c .vertices) (c .tails) (c .heads) u v) (sym (refused-says b no)) bits;
+      bits =
+          subst (λ (c : Content). (u v : ℕ) → u < 128 → v < 128
+          → at 2 (unreadBy k .table) u v ≡ 1 ↔ Reachable (c .vertices) (c .tails) (c .heads) u v) (sym (refused-says b no)) bits;
       none = λ h. refl;
     })
 
-pub read-reads : (b : List ℕ) (f : Fields) (r : Reading) → layoutOf b ≡ Good f → refusalOf (contentOf b f) ≡ 0 → r .refusal ≡ 0 → r .vertices ≡ f .vertices → length (r .table) ≡ 256
-    → ((u v : ℕ) → u < 128 → v < 128 → at 2 (r .table) u v ≡ 1 ↔ Reachable (contentOf b f .vertices) (contentOf b f .tails) (contentOf b f .heads) u v) → Reads b r
+pub read-reads : (b : List ℕ) (f : Fields) (r : Reading) → layoutOf b ≡ Good f → refusalOf (contentOf b f) ≡ 0 → r .refusal ≡ 0
+    → r .vertices ≡ f .vertices → length (r .table) ≡ 256
+    → ((u v : ℕ) → u < 128 → v < 128 → at 2 (r .table) u v ≡ 1
+    ↔ Reachable (contentOf b f .vertices) (contentOf b f .tails) (contentOf b f .heads) u v) → Reads b r
 unfolding contentOf
 read-reads b f r e z a n l bits =
     let ok : recordRefusal b ≡ 0 = good-refusal b f e ∙ z in
@@ -66,6 +77,8 @@ read-reads b f r e z a n l bits =
       answer = a ∙ sym ok;
       vertices = n ∙ sym (ap (λ (c : Content). c .vertices) says);
       masks = l;
-      bits = subst (λ (c : Content). (u v : ℕ) → u < 128 → v < 128 → at 2 (r .table) u v ≡ 1 ↔ Reachable (c .vertices) (c .tails) (c .heads) u v) (sym says) bits;
+      bits =
+          subst (λ (c : Content). (u v : ℕ) → u < 128 → v < 128
+          → at 2 (r .table) u v ≡ 1 ↔ Reachable (c .vertices) (c .tails) (c .heads) u v) (sym says) bits;
       none = λ h. absurd (h a);
     }

@@ -1,9 +1,13 @@
 -- The sound records are accepted, and no others. Assumes nothing.
-use Rattle.counting.proofs.Prelude.{_≡_, refl, sym, ap, _∙_, subst, _↔_, _⊎_, ⊎-elim, _≢_, Bool, true, false, true≢false, not, _&&_, _||_, List, [], _∷_, ℕ, zero, suc, _≤_, _<_, arith, eqb, leb, length, getD, eq-eqb, eqb-true, le-ltb, lt-leb, leb-false}
+use Rattle.counting.proofs.Prelude.{_≡_, refl, sym, ap, _∙_, subst, _↔_, _⊎_, ⊎-elim, _≢_, Bool, true, false, true≢false, not, _&&_, _||_}
+use Rattle.counting.proofs.Prelude.{List, [], _∷_, ℕ, zero, suc, _≤_, _<_, arith, eqb, leb, length, getD, eq-eqb, eqb-true, le-ltb, lt-leb}
+use Rattle.counting.proofs.Prelude.{leb-false}
 use Rattle.specification.specs.Count.{choose, some}
 use Rattle.specification.specs.Channels.{times, linked, every, allLinked, linesOf, verticesOf, unknown?, repeats?, lacks?, broken?}
 use Rattle.specification.specs.Graph.{Edge, outsized?, strange?, verdict, refusal, reachable?, alike?, duplicate?}
-use Rattle.specification.specs.Checks.{Content, edgesOf, size?, stranger?, double?, ring?, repeated?, lacking?, unled?, looseChecks, laterChecks, firstOf, refusalOf, contentOf, refusalIn, recordRefusal, Sized, EndsKnown, GivenKnown, Distinct, Acyclic, Once, Led, Sound, SoundRecord}
+use Rattle.specification.specs.Checks.{Content, edgesOf, size?, stranger?, double?, ring?, repeated?, lacking?, unled?, looseChecks}
+use Rattle.specification.specs.Checks.{laterChecks, firstOf, refusalOf, contentOf, refusalIn, recordRefusal, Sized, EndsKnown, GivenKnown}
+use Rattle.specification.specs.Checks.{Distinct, Acyclic, Once, Led, Sound, SoundRecord}
 use Rattle.specification.specs.declared.Layout.{Layout}
 use Rattle.specification.specs.declared.Layout.the-variants.{Good, Bad}
 use Rattle.specification.specs.Layout.{layoutOf}
@@ -86,10 +90,12 @@ module _ (n m : ℕ) (tails heads : List ℕ) where
   known-ends h = some-none m (strange? n tails heads) (λ i l. neither _ _ (lt-leb n _ (h i l .0)) (lt-leb n _ (h i l .1)))
 
 module _ (c : Content) where
-  none-before : double? c ≡ false → (i j : ℕ) → i < edgesOf c → j < i → getD (c .tails) j 0 ≡ getD (c .tails) i 0 → getD (c .heads) j 0 ≡ getD (c .heads) i 0 → ⊥
+  none-before : double? c ≡ false → (i j : ℕ) → i < edgesOf c → j < i → getD (c .tails) j 0 ≡ getD (c .tails) i 0
+      → getD (c .heads) j 0 ≡ getD (c .heads) i 0 → ⊥
   unfolding double? duplicate? alike?
   none-before e i j l k p q =
-      true≢false (sym (and-intro _ _ (eq-eqb _ _ p) (eq-eqb _ _ q)) ∙ none-found i (alike? (c .tails) (c .heads) i) (none-found (edgesOf c) (λ i. some i (alike? (c .tails) (c .heads) i)) e i l) j k)
+      true≢false (sym (and-intro _ _ (eq-eqb _ _ p) (eq-eqb _ _ q))
+      ∙ none-found i (alike? (c .tails) (c .heads) i) (none-found (edgesOf c) (λ i. some i (alike? (c .tails) (c .heads) i)) e i l) j k)
 
   no-double : double? c ≡ false → Distinct c
   no-double e i j l k p q =
@@ -101,7 +107,8 @@ module _ (c : Content) where
   distinct-no-double : Distinct c → double? c ≡ false
   unfolding double? duplicate? alike?
   distinct-no-double d =
-      some-none (edgesOf c) (λ i. some i (alike? (c .tails) (c .heads) i)) (λ i l. some-none i (alike? (c .tails) (c .heads) i) (λ j k. not-true (alike? (c .tails) (c .heads) i j) (λ t.
+      some-none (edgesOf c) (λ i. some i (alike? (c .tails) (c .heads) i))
+      (λ i l. some-none i (alike? (c .tails) (c .heads) i) (λ j k. not-true (alike? (c .tails) (c .heads) i j) (λ t.
       let p = and-elim (eqb (getD (c .tails) j 0) (getD (c .tails) i 0)) (eqb (getD (c .heads) j 0) (getD (c .heads) i 0)) t in
       let z = d j i (omega arith) l (eqb-true _ _ (p .0)) (eqb-true _ _ (p .1)) in
       omega arith)))
@@ -122,13 +129,16 @@ module _ (f : ℕ → ℕ → Bool) where
   led-linked (x ∷ []) h = refl
   led-linked (x ∷ y ∷ l) h = and-intro (f x y) (linked f (y ∷ l)) (h 0 (omega arith)) (led-linked (y ∷ l) (λ j k. h (suc j) (omega arith)))
 
-  all-led : (ls : List (List ℕ)) → allLinked f ls ≡ true → (k j : ℕ) → suc j < length (getD ls k []) → f (getD (getD ls k []) j 0) (getD (getD ls k []) (suc j) 0) ≡ true
+  all-led : (ls : List (List ℕ)) → allLinked f ls ≡ true → (k j : ℕ) → suc j < length (getD ls k [])
+      → f (getD (getD ls k []) j 0) (getD (getD ls k []) (suc j) 0) ≡ true
   unfolding every
   all-led [] e k j h = absurd (omega arith)
   all-led (l ∷ ls) e zero j h = linked-led l (and-elim (linked f l) (every (linked f) ls) e .0) j h
   all-led (l ∷ ls) e (suc k) j h = all-led ls (and-elim (linked f l) (every (linked f) ls) e .1) k j h
 
-  led-all : (ls : List (List ℕ)) → ((k j : ℕ) → suc j < length (getD ls k []) → f (getD (getD ls k []) j 0) (getD (getD ls k []) (suc j) 0) ≡ true) → allLinked f ls ≡ true
+  led-all : (ls : List (List ℕ))
+      → ((k j : ℕ) → suc j < length (getD ls k []) → f (getD (getD ls k []) j 0) (getD (getD ls k []) (suc j) 0) ≡ true)
+      → allLinked f ls ≡ true
   unfolding every
   led-all [] h = refl
   led-all (l ∷ ls) h = and-intro (linked f l) (every (linked f) ls) (led-linked l (h 0)) (led-all ls (λ k. h (suc k)))

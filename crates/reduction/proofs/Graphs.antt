@@ -6,7 +6,8 @@ use Rattle.reach.proofs.Decide.{reachable-decided}
 use Rattle.reduction.specs.Reduction.{Dag}
 
 module _ (n : ℕ) (tails heads : List ℕ) (accepted : refusal n tails heads ≡ 0)
-    (distinct : (i j : ℕ) → i < edgeCount tails heads → j < edgeCount tails heads → getD tails i 0 ≡ getD tails j 0 → getD heads i 0 ≡ getD heads j 0 → i ≡ j)
+    (distinct : (i j : ℕ) → i < edgeCount tails heads → j < edgeCount tails heads → getD tails i 0 ≡ getD tails j 0
+    → getD heads i 0 ≡ getD heads j 0 → i ≡ j)
     (acyclic : (u : ℕ) → Reaches (Edge tails heads) u u → ⊥) where
   -- by computed reachability
   pub reachable-dag : Dag (reachable? n tails heads) n tails heads

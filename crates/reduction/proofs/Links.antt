@@ -25,45 +25,56 @@ module _ (leads : ℕ → ℕ → Bool) (n : ℕ) (tails heads : List ℕ) where
 
   module _ (d : Dag leads n tails heads) where
     -- every set of links with the graph's reachability has the reduced edges: nothing lies between their ends
-    pub reduced-linked : (link : ℕ → ℕ → Bool) → SameClosure n tails heads link → (u v : ℕ) → Reduced leads n tails heads u v → link u v ≡ true
+    pub reduced-linked : (link : ℕ → ℕ → Bool) → SameClosure n tails heads link → (u v : ℕ) → Reduced leads n tails heads u v
+        → link u v ≡ true
     reduced-linked link same u v r = go (same u v .1 (one (r .0)))
       where
         go : Reaches (Linked n link) u v → link u v ≡ true
         go (one a) = a .2
         go (more a q) =
             let p = same u v .0 (more a q) in
-            let t = transitive-between leads n tails heads d u v (route-begins leads n tails heads d p) (route-ends leads n tails heads d p) .1 (_, same u _ .0 (one a), same _ v .0 q) in
+            let t = transitive-between leads n tails heads d u v (route-begins leads n tails heads d p)
+            (route-ends leads n tails heads d p) .1 (_, same u _ .0 (one a), same _ v .0 q) in
             absurd (true≢false (sym t ∙ r .1))
 
     -- the edges as numbers
-    reduced-number : (i : ℕ) → i < edgeCount tails heads → not (transitive? leads n (getD tails i 0) (getD heads i 0)) ≡ true → Reduced leads n tails heads (getD tails i 0) (getD heads i 0)
+    reduced-number : (i : ℕ) → i < edgeCount tails heads → not (transitive? leads n (getD tails i 0) (getD heads i 0)) ≡ true
+        → Reduced leads n tails heads (getD tails i 0) (getD heads i 0)
     unfolding Edge
     reduced-number i l e = ((i, l, refl, refl), not-holds (transitive? leads n (getD tails i 0) (getD heads i 0)) e)
 
     -- NO FEWER LINKS have the graph's descent than there are firm arrows
-    pub links-least : (link : ℕ → ℕ → Bool) → SameClosure n tails heads link → reducedCount leads n (edgeCount tails heads) tails heads ≤ linkCount n link
+    pub links-least : (link : ℕ → ℕ → Bool) → SameClosure n tails heads link
+        → reducedCount leads n (edgeCount tails heads) tails heads ≤ linkCount n link
     unfolding reducedCount linkCount
     links-least link same =
-        pairs-le (edgeCount tails heads) n (λ e. not (transitive? leads n (getD tails e 0) (getD heads e 0))) (λ e. getD tails e 0) (λ e. getD heads e 0)
+        pairs-le (edgeCount tails heads) n (λ e. not (transitive? leads n (getD tails e 0) (getD heads e 0))) (λ e. getD tails e 0)
+        (λ e. getD heads e 0)
         (d .ends) (d .distinct) link (λ i l e. reduced-linked link same (getD tails i 0) (getD heads i 0) (reduced-number i l e))
 
     -- THE FIRM ARROWS AS LINKS have the graph's descent
     pub reduced-links : SameClosure n tails heads (reducedLink leads n tails heads)
     reduced-links u v = (
       (λ p. reduced-reaches leads n tails heads d u v .0 (reaches-map (λ u v a. link-decided u v .1 (a .2)) p)),
-      λ p. reaches-map (λ u v r. (route-begins leads n tails heads d (one (r .0)), route-ends leads n tails heads d (one (r .0)), link-decided u v .0 r)) (reduced-reaches leads n tails heads d u v .1 p),
+      λ p. reaches-map
+          (λ u v r. (route-begins leads n tails heads d (one (r .0)), route-ends leads n tails heads d (one (r .0)), link-decided u v .0 r))
+          (reduced-reaches leads n tails heads d u v .1 p),
     )
 
     -- and they are as many as the firm arrows
     pub reduced-link-count : linkCount n (reducedLink leads n tails heads) ≡ reducedCount leads n (edgeCount tails heads) tails heads
     unfolding Edge reducedCount linkCount
     reduced-link-count =
-        sym (pairs-eq (edgeCount tails heads) n (λ e. not (transitive? leads n (getD tails e 0) (getD heads e 0))) (λ e. getD tails e 0) (λ e. getD heads e 0)
-        (d .ends) (d .distinct) (reducedLink leads n tails heads) (λ i l e. link-decided (getD tails i 0) (getD heads i 0) .0 (reduced-number i l e))
+        sym
+        (pairs-eq (edgeCount tails heads) n (λ e. not (transitive? leads n (getD tails e 0) (getD heads e 0))) (λ e. getD tails e 0)
+        (λ e. getD heads e 0)
+        (d .ends) (d .distinct) (reducedLink leads n tails heads)
+        (λ i l e. link-decided (getD tails i 0) (getD heads i 0) .0 (reduced-number i l e))
         (λ u v hu hv e. number u v (link-decided u v .1 e)))
       where
         number : (u v : ℕ) → Reduced leads n tails heads u v
-            → (i : ℕ) × (i < edgeCount tails heads) × (not (transitive? leads n (getD tails i 0) (getD heads i 0)) ≡ true) × (getD tails i 0 ≡ u) × (getD heads i 0 ≡ v)
+            → (i : ℕ) × (i < edgeCount tails heads) × (not (transitive? leads n (getD tails i 0) (getD heads i 0)) ≡ true)
+            × (getD tails i 0 ≡ u) × (getD heads i 0 ≡ v)
         number u v r = (r .0 .0, r .0 .1, ap not (ap₂ (transitive? leads n) (r .0 .2) (r .0 .3) ∙ r .1), r .0 .2, r .0 .3)
 
     -- so they are the fewest

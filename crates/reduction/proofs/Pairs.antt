@@ -59,7 +59,8 @@ module _ (m n : ℕ) (f : ℕ → Bool) (s t : ℕ → ℕ) (ends : (i : ℕ) �
           go : (b : Bool) → g u v ≡ b → indicator (g u v) ≤ count m (standsFor u v)
           go true e =
               let o = onto u v a b e in
-              let r = and-intro (f (o .0) && eqb (s (o .0)) u) (eqb (t (o .0)) v) (and-intro (f (o .0)) (eqb (s (o .0)) u) (o .2) (eq-eqb (s (o .0)) u (o .3))) (eq-eqb (t (o .0)) v (o .4)) in
+              let r = and-intro (f (o .0) && eqb (s (o .0)) u) (eqb (t (o .0)) v)
+              (and-intro (f (o .0)) (eqb (s (o .0)) u) (o .2) (eq-eqb (s (o .0)) u (o .3))) (eq-eqb (t (o .0)) v (o .4)) in
               omega (arith, ap indicator e, ap indicator r, sum-term m (λ i. indicator (standsFor u v i)) (o .0) (o .1))
           go false e = omega (arith, ap indicator e)
 

@@ -1,5 +1,6 @@
 -- Transitive edges are those with a route of two edges or more, and without them every vertex reaches what it reached. Assumes nothing.
-use Rattle.counting.proofs.Prelude.{_≡_, refl, sym, ap, _∙_, subst, _↔_, Bool, true, false, true≢false, _&&_, List, ℕ, zero, suc, _<_, arith}
+use Rattle.counting.proofs.Prelude.{_≡_, refl, sym, ap, _∙_, subst, _↔_, Bool, true, false, true≢false, _&&_, List, ℕ, zero, suc, _<_}
+use Rattle.counting.proofs.Prelude.{arith}
 use native.Mathlib.Nat.{not-suc-le-zero}
 use Rattle.specification.specs.Count.{indicator, count}
 use Rattle.counting.proofs.Truth.{and-intro, and-elim}
@@ -54,7 +55,8 @@ module _ (leads : ℕ → ℕ → Bool) (n : ℕ) (tails heads : List ℕ) (d : 
 
   -- THE IMPLIED ARROWS: a pair is transitive exactly when a route of two edges or more joins it
   pub transitive-longer : (u v : ℕ) → u < n → v < n → (transitive? leads n u v ≡ true) ↔ Longer (Edge tails heads) u v
-  transitive-longer u v hu hv = ((λ e. longer-between .1 (transitive-between u v hu hv .0 e)), λ l. transitive-between u v hu hv .1 (longer-between .0 l))
+  transitive-longer u v hu hv =
+      ((λ e. longer-between .1 (transitive-between u v hu hv .0 e)), λ l. transitive-between u v hu hv .1 (longer-between .0 l))
 
   -- the number of vertices between u and v
   abbrev betweenCount : ℕ → ℕ → ℕ
@@ -66,8 +68,14 @@ module _ (leads : ℕ → ℕ → Bool) (n : ℕ) (tails heads : List ℕ) (d : 
   unfolding count
   fewer a b u v w ha hb p q none f =
       sum-smaller n (λ x. indicator (leads a x && leads x b)) (λ x. indicator (leads u x && leads x v)) w hw
-      (omega (arith, ap indicator (between u v w hu hv hw .1 (p, q)), ap indicator (not-true (leads a w && leads w b) (λ e. none (between a b w ha hb hw .0 e)))))
-      (λ x hx. indicator-mono (leads a x && leads x b) (leads u x && leads x v) (λ e. between u v x hu hv hx .1 (f x (between a b x ha hb hx .0 e))))
+      (omega (
+        arith,
+        ap indicator (between u v w hu hv hw .1 (p, q)),
+        ap indicator
+            (not-true (leads a w && leads w b) (λ e. none (between a b w ha hb hw .0 e))),
+      ))
+      (λ x hx. indicator-mono (leads a x && leads x b) (leads u x && leads x v)
+      (λ e. between u v x hu hv hx .1 (f x (between a b x ha hb hx .0 e))))
     where
       hu : u < n
       hu = route-begins p
@@ -89,15 +97,18 @@ module _ (leads : ℕ → ℕ → Bool) (n : ℕ) (tails heads : List ℕ) (d : 
       hv : v < n
       hv = route-ends p
 
-      go : (b : Bool) → transitive? leads n u v ≡ b → Route u v → ((a b : ℕ) → betweenCount a b < k → Route a b → Reaches (Reduced leads n tails heads) a b)
+      go : (b : Bool) → transitive? leads n u v ≡ b → Route u v
+          → ((a b : ℕ) → betweenCount a b < k → Route a b → Reaches (Reduced leads n tails heads) a b)
           → Reaches (Reduced leads n tails heads) u v
       go false e (one a) again = one (a, e)
       go false e (more a q) again = absurd (true≢false (sym (transitive-longer u v hu hv .1 (_, a, q)) ∙ e))
       go true e _ again =
           let b = transitive-between u v hu hv .0 e in
           let hw = route-ends (b .1) in
-          let left = fewer u (b .0) u v (b .0) hu hw (b .1) (b .2) (λ c. d .acyclic (b .0) (c .1)) (λ x c. (c .0, reaches-trans (c .1) (b .2))) in
-          let right = fewer (b .0) v u v (b .0) hw hv (b .1) (b .2) (λ c. d .acyclic (b .0) (c .0)) (λ x c. (reaches-trans (b .1) (c .0), c .1)) in
+          let left = fewer u (b .0) u v (b .0) hu hw (b .1) (b .2) (λ c. d .acyclic (b .0) (c .1))
+          (λ x c. (c .0, reaches-trans (c .1) (b .2))) in
+          let right = fewer (b .0) v u v (b .0) hw hv (b .1) (b .2) (λ c. d .acyclic (b .0) (c .0))
+          (λ x c. (reaches-trans (b .1) (c .0), c .1)) in
           reaches-trans (again u (b .0) (omega arith) (b .1)) (again (b .0) v (omega arith) (b .2))
 
   -- THE FIRM ARROWS have the graph's descent

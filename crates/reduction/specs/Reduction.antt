@@ -29,6 +29,7 @@ pub record Fewest (n : ℕ) (tails heads : List ℕ) (link : ℕ → ℕ → Boo
 -- a directed acyclic graph of n vertices, no two edges with the same ends; `leads` decides reachability on its vertices
 pub record Dag (leads : ℕ → ℕ → Bool) (n : ℕ) (tails heads : List ℕ) : Type 0 where
   pub ends : (i : ℕ) → i < edgeCount tails heads → (getD tails i 0 < n) × (getD heads i 0 < n)
-  pub distinct : (i j : ℕ) → i < edgeCount tails heads → j < edgeCount tails heads → getD tails i 0 ≡ getD tails j 0 → getD heads i 0 ≡ getD heads j 0 → i ≡ j
+  pub distinct : (i j : ℕ) → i < edgeCount tails heads → j < edgeCount tails heads → getD tails i 0 ≡ getD tails j 0
+      → getD heads i 0 ≡ getD heads j 0 → i ≡ j
   pub acyclic : (u : ℕ) → Reaches (Edge tails heads) u u → ⊥
   pub decided : (u v : ℕ) → u < n → v < n → (leads u v ≡ true) ↔ Reaches (Edge tails heads) u v

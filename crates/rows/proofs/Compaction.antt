@@ -13,7 +13,8 @@ module _ (E : ℕ → ℕ → Bool) (n : ℕ) (other : ℕ → ℕ) (rises : (u 
   lower : (k v : ℕ) → v < n → rowWithin E n k v ≤ other v
   unfolding rowWithin
   lower zero v h = zero-le
-  lower (suc k) v h = above-le n (λ u. E u v) (rowWithin E n k) (other v) (λ u l e. let a = lower k u l in let b = rises u v l h e in omega arith)
+  lower (suc k) v h =
+      above-le n (λ u. E u v) (rowWithin E n k) (other v) (λ u l e. let a = lower k u l in let b = rises u v l h e in omega arith)
 
   pub rows-least : (v : ℕ) → v < n → row E n v ≤ other v
   rows-least = lower 128
@@ -39,8 +40,10 @@ module _ (E L : ℕ → ℕ → Bool) (n : ℕ) (o : Order E L n) where
   fewer u v hu hv e =
       let uv = o .edges u v hu hv e in
       sum-smaller n (λ x. indicator (L x u)) (λ x. indicator (L x v)) u hu
-      (⊎-elim (λ t. absurd (o .irrefl u hu t)) (λ f. let a = ap indicator f in let b = ap indicator uv in omega arith) (true-or-false (L u u)))
-      (λ x hx. ⊎-elim (λ t. let b = ap indicator (o .trans x u v hx hu hv t uv) in let c = indicator-le (L x u) in omega arith) (λ f. let a = ap indicator f in omega arith) (true-or-false (L x u)))
+      (⊎-elim (λ t. absurd (o .irrefl u hu t)) (λ f. let a = ap indicator f in let b = ap indicator uv in omega arith)
+      (true-or-false (L u u)))
+      (λ x hx. ⊎-elim (λ t. let b = ap indicator (o .trans x u v hx hu hv t uv) in let c = indicator-le (L x u) in omega arith)
+      (λ f. let a = ap indicator f in omega arith) (true-or-false (L x u)))
 
   -- itself is not before it
   before-lt : (v : ℕ) → v < n → before v < n

@@ -10,7 +10,8 @@ use Rattle.reach.proofs.Decide.{edge-decided, reachable-decided}
 use Rattle.reach.proofs.Refusing.{accepted-within}
 use Rattle.rows.proofs.Compaction.{Order, rows-below, rows-rule}
 
-module _ (n : ℕ) (tails heads : List ℕ) (accepted : refusal n tails heads ≡ 0) (acyclic : some 128 (λ u. reachable? n tails heads u u) ≡ false) where
+module _ (n : ℕ) (tails heads : List ℕ) (accepted : refusal n tails heads ≡ 0)
+    (acyclic : some 128 (λ u. reachable? n tails heads u u) ≡ false) where
   small : n ≤ 128
   small = accepted-within n tails heads accepted .1
 

@@ -1,5 +1,6 @@
 -- The pass over the edges' bytes, one edge after the other. Assumes nothing.
-use Rattle.counting.proofs.Prelude.{_≡_, refl, sym, ap, ap₂, _∙_, subst, _≢_, _⊎_, ⊎-elim, Bool, true, false, true≢false, _||_, List, ℕ, _+_, _*_, _/_, _%_, _≤_, _<_, min, arith, eqb, leb, length, getD, eqb-true, eqb-false, le-leb, lt-leb}
+use Rattle.counting.proofs.Prelude.{_≡_, refl, sym, ap, ap₂, _∙_, subst, _≢_, _⊎_, ⊎-elim, Bool, true, false, true≢false, _||_, List, ℕ}
+use Rattle.counting.proofs.Prelude.{_+_, _*_, _/_, _%_, _≤_, _<_, min, arith, eqb, leb, length, getD, eqb-true, eqb-false, le-leb, lt-leb}
 use native.Mathlib.Nat.{not-suc-le-zero, lt-of-lt-of-le}
 use native.Mathlib.Numerals.{add-one}
 use borrow.Author.Count.{below-more}

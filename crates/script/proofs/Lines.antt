@@ -3,8 +3,10 @@ use Rattle.counting.proofs.Prelude.{_≡_, refl, sym, ap, ap₂, _∙_, Bool, t
 use Rattle.specification.specs.Count.{choose}
 use Rattle.script.specs.declared.Numeral.{Numeral}
 use Rattle.script.specs.declared.Scanner.{Scanner}
-use Rattle.specification.specs.Orders.{Parts, prepend, parts, same, wordsName, addName, leadsName, Number, numberOf, Order, withOne, withTwo, read, order}
-use Rattle.script.specs.Scanning.{advanced, extended, within, nextPart, scanned, begun, scan, withNumber, finishedTwo, finishedOne, finished, cut}
+use Rattle.specification.specs.Orders.{Parts, prepend, parts, same, wordsName, addName, leadsName, Number, numberOf, Order, withOne}
+use Rattle.specification.specs.Orders.{withTwo, read, order}
+use Rattle.script.specs.Scanning.{advanced, extended, within, nextPart, scanned, begun, scan, withNumber, finishedTwo, finishedOne}
+use Rattle.script.specs.Scanning.{finished, cut}
 use Rattle.script.proofs.Names.{followed, followed-same}
 use Rattle.script.proofs.Numbers.{gathered, valued, gathered-number}
 
@@ -30,7 +32,8 @@ scan-over s [] = refl
 scan-over s (b ∷ l) = go (eqb b 32) (λ z. scan-over z l)
   where
     go : (t : Bool) → ((z : Scanner) → scan z l ≡ over z (parts l))
-        → scan (choose t (λ _. nextPart s) (λ _. within s b)) l ≡ over s (choose t (λ _. Parts.more [] (parts l)) (λ _. prepend b (parts l)))
+        → scan (choose t (λ _. nextPart s) (λ _. within s b)) l
+        ≡ over s (choose t (λ _. Parts.more [] (parts l)) (λ _. prepend b (parts l)))
     go true rest = rest (nextPart s)
     go false rest = rest (within s b) ∙ sym (over-prepend s b (parts l))
 
@@ -101,7 +104,8 @@ same-number Numeral.Bad f g e = refl
 
 -- the states after the first, the second and the third part
 module _ (p q r : List ℕ) where
-  first-part : absorbed begun p ≡ state 0 (followed wordsName 0 p) (followed addName 0 p) (followed leadsName 0 p) Numeral.Empty Numeral.Empty
+  first-part : absorbed begun p ≡ state 0 (followed wordsName 0 p) (followed addName 0 p) (followed leadsName 0 p) Numeral.Empty
+      Numeral.Empty
   first-part = absorbed-name 0 0 0 Numeral.Empty Numeral.Empty p
 
   second-part : absorbed (nextPart (absorbed begun p)) q
@@ -110,7 +114,8 @@ module _ (p q r : List ℕ) where
   second-part = ap (λ (s : Scanner). absorbed (nextPart s) q) first-part ∙ absorbed-first _ _ _ Numeral.Empty Numeral.Empty q
 
   third-part : absorbed (nextPart (absorbed (nextPart (absorbed begun p)) q)) r
-      ≡ state 2 (followed wordsName 0 p) (followed addName 0 p) (followed leadsName 0 p) (gathered Numeral.Empty q) (gathered Numeral.Empty r)
+      ≡ state 2 (followed wordsName 0 p) (followed addName 0 p) (followed leadsName 0 p) (gathered Numeral.Empty q)
+      (gathered Numeral.Empty r)
   unfolding nextPart
   third-part = ap (λ (s : Scanner). absorbed (nextPart s) r) second-part ∙ absorbed-second _ _ _ (gathered Numeral.Empty q) Numeral.Empty r
 
@@ -129,7 +134,8 @@ finished-over (Parts.more p (Parts.more q (Parts.last r))) =
     (followed-same addName (omega arith) 0 p zero-le) (followed-same leadsName (omega arith) 0 p zero-le)
     ∙ two-numbers (same p addName) (same p leadsName) (numberOf q) (numberOf r)
 finished-over (Parts.more p (Parts.more q (Parts.more r ps))) =
-    ap finished (ap (λ (s : Scanner). over (nextPart s) ps) (third-part p q r) ∙ over-rest _ _ _ _ _ ps) ∙ nothing (gathered Numeral.Empty q)
+    ap finished (ap (λ (s : Scanner). over (nextPart s) ps) (third-part p q r) ∙ over-rest _ _ _ _ _ ps)
+    ∙ nothing (gathered Numeral.Empty q)
 
 -- EVERY LINE: read byte by byte from its begin, a line comes to its order
 pub every-line : (line : List ℕ) → finished (scan begun line) ≡ cut (order line)

@@ -1,5 +1,6 @@
 -- A name matched byte by byte: it is matched whole exactly when the part is the name. Assumes nothing.
-use Rattle.counting.proofs.Prelude.{_≡_, refl, _∙_, Bool, true, false, _&&_, List, [], _∷_, ℕ, _+_, _≤_, _<_, arith, eqb, ltb, length, getD, drop, drop-of-length-le, eq-eqb, ne-eqb, lt-ltb, le-ltb}
+use Rattle.counting.proofs.Prelude.{_≡_, refl, _∙_, Bool, true, false, _&&_, List, [], _∷_, ℕ, _+_, _≤_, _<_, arith, eqb, ltb, length, getD}
+use Rattle.counting.proofs.Prelude.{drop, drop-of-length-le, eq-eqb, ne-eqb, lt-ltb, le-ltb}
 use native.Mathlib.Decide.{decLt}
 use native.Mathlib.Numerals.{add-one}
 use lib.Seq.{drop-cons}
@@ -36,7 +37,8 @@ module _ (name : List ℕ) (short : length name < 7) where
     where
       go : Dec (m < length name) → (t : Bool) → eqb (getD name m 0) b ≡ t
           → (m + 1 ≤ length name → eqb (followed name (m + 1) l) (length name) ≡ same l (drop (m + 1) name))
-          → eqb (followed name (choose (ltb m (length name) && eqb (getD name m 0) b) (λ _. m + 1) (λ _. 7)) l) (length name) ≡ same (b ∷ l) (drop m name)
+          → eqb (followed name (choose (ltb m (length name) && eqb (getD name m 0) b) (λ _. m + 1) (λ _. 7)) l) (length name)
+          ≡ same (b ∷ l) (drop m name)
       go (yes k) true e rest = rw (lt-ltb m (length name) k, drop-cons name m 0 k, e) (rest (omega arith) ∙ rw (add-one m))
       go (yes k) false e rest = rw (lt-ltb m (length name) k, drop-cons name m 0 k, e) (missed-fails l)
       go (no d) t e rest = rw (le-ltb m (length name) (omega arith), at-end m h d .1) (missed-fails l)

@@ -28,7 +28,8 @@ gathered-from v (b ∷ l) = go (digit? b) (gathered-from (v * 10 + (b - 48)) l)
         → gathered (choose t (λ _. Numeral.Value (min (min (min v 129) 129 * 10 + (b - 48)) 129)) (λ _. Numeral.Bad)) l
         ≡ valued (choose t (λ _. decimal (v * 10 + (b - 48)) l) (λ _. Number.none))
     go true rest =
-        ap (λ (n : ℕ). gathered (Numeral.Value n) l) (let e : min (min (min v 129) 129 * 10 + (b - 48)) 129 ≡ min (v * 10 + (b - 48)) 129 = omega arith in e) ∙ rest
+        ap (λ (n : ℕ). gathered (Numeral.Value n) l)
+        (let e : min (min (min v 129) 129 * 10 + (b - 48)) 129 ≡ min (v * 10 + (b - 48)) 129 = omega arith in e) ∙ rest
     go false rest = bad-stays l
 
 -- a part that is no number is as one with no byte

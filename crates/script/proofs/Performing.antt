@@ -10,7 +10,8 @@ use Rattle.script.specs.declared.Command.{Command}
 use Rattle.script.specs.declared.Performed.{Performed}
 use Rattle.specification.specs.Orders.{Order, order}
 use Rattle.script.specs.Scanning.{orderOf, cut}
-use Rattle.script.specs.Performing.{Said, saying, saidOf, Obeyed, answered, obey, obeyAll, saidAll, Effect, PerformPromise, Replayed, Script}
+use Rattle.script.specs.Performing.{Said, saying, saidOf, Obeyed, answered, obey, obeyAll, saidAll, Effect, PerformPromise, Replayed}
+use Rattle.script.specs.Performing.{Script}
 use Rattle.script.specs.Performing.Replayed.{done, next}
 use Rattle.script.proofs.Lines.{every-line}
 
@@ -42,7 +43,8 @@ performs s c k r e f =
 small : (n : ℕ) → n < 129 → min n 129 ≡ n
 small n h = omega arith
 
-cut-call : (n : ℕ) → n ≤ 128 → (f : ℕ → ℕ → Turn) (t : Turn) → ((u v : ℕ) → (n ≤ u) ⊎ (n ≤ v) → f u v ≡ t) → (u v : ℕ) → f (min u 129) (min v 129) ≡ f u v
+cut-call : (n : ℕ) → n ≤ 128 → (f : ℕ → ℕ → Turn) (t : Turn) → ((u v : ℕ) → (n ≤ u) ⊎ (n ≤ v) → f u v ≡ t) → (u v : ℕ)
+    → f (min u 129) (min v 129) ≡ f u v
 cut-call n h f t e u v = go (lt-or-le u 129) (lt-or-le v 129)
   where
     go : (u < 129) ⊎ (129 ≤ u) → (v < 129) ⊎ (129 ≤ v) → f (min u 129) (min v 129) ≡ f u v
@@ -63,8 +65,10 @@ cut-start g n = go (lt-or-le n 129)
 pub cut-same : (g : Graph) → Lawful g → (o : Order) → obey g (cut o) ≡ obey g o
 unfolding obey cut
 cut-same g l (Order.words n) = cut-start g n
-cut-same g l (Order.add u v) = ap answered (cut-call (g .vertices) (l .small) (λ x y. step g (Call.add x y)) (refusedThree g) (unknown-add g) u v)
-cut-same g l (Order.leads u v) = ap answered (cut-call (g .vertices) (l .small) (λ x y. step g (Call.leads x y)) (refusedThree g) (unknown-leads g) u v)
+cut-same g l (Order.add u v) =
+    ap answered (cut-call (g .vertices) (l .small) (λ x y. step g (Call.add x y)) (refusedThree g) (unknown-add g) u v)
+cut-same g l (Order.leads u v) =
+    ap answered (cut-call (g .vertices) (l .small) (λ x y. step g (Call.leads x y)) (refusedThree g) (unknown-leads g) u v)
 cut-same g l Order.unreadable = refl
 
 -- ---- every script

@@ -13,7 +13,8 @@ module _ (leads : ℕ → ℕ → Bool) (n : ℕ) where
   unfolding matching
   ask-none = ap (λ j. asks leads n j 0 (replicate 128 nobody)) (let e : n ≡ n - 0 = omega arith in e)
 
-  pub ask-more : (h : ℕ) (P P′ T′ : List ℕ) (b : Bool) → h < n → Augments leads n h (fresh P) (state P′ T′ b) → asks leads n (n - h) h P ≡ asks leads n (n - (h + 1)) (h + 1) P′
+  pub ask-more : (h : ℕ) (P P′ T′ : List ℕ) (b : Bool) → h < n → Augments leads n h (fresh P) (state P′ T′ b)
+      → asks leads n (n - h) h P ≡ asks leads n (n - (h + 1)) (h + 1) P′
   unfolding asks
   ask-more h P P′ T′ b l g =
       ap (λ j. asks leads n j h P) (let e : n - h ≡ suc (n - (h + 1)) = omega arith in e)

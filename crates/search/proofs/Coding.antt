@@ -1,10 +1,12 @@
 -- The steps over the tables are the rule's: the same searches leave the same predecessors. Assumes nothing.
-use Rattle.counting.proofs.Prelude.{_≡_, refl, sym, ap, _∙_, subst, Bool, true, false, not, _&&_, List, [], ℕ, zero, suc, _+_, _≤_, _<_, arith, eqb, length, getD, set, replicate, length-set, length-replicate, getD-replicate, eq-eqb, ne-eqb}
+use Rattle.counting.proofs.Prelude.{_≡_, refl, sym, ap, _∙_, subst, Bool, true, false, not, _&&_, List, [], ℕ, zero, suc, _+_, _≤_, _<_}
+use Rattle.counting.proofs.Prelude.{arith, eqb, length, getD, set, replicate, length-set, length-replicate, getD-replicate, eq-eqb, ne-eqb}
 use native.Mathlib.Decide.{ℕ-discrete}
 use lib.Seq.{getD-set-same, getD-set-other}
 use mathlib.Core.Option.{none, some, Option·some-injective, Option·none-ne-some}
 use Rattle.specification.specs.Channels.{has}
-use Rattle.specification.specs.Planning.{Held, State, predecessorOf, candidate, marked, taken, answered, fresh, scan, augment, asks, matchingTo, matching}
+use Rattle.specification.specs.Planning.{Held, State, predecessorOf, candidate, marked, taken, answered, fresh, scan, augment, asks}
+use Rattle.specification.specs.Planning.{matchingTo, matching}
 use Rattle.masks.proofs.Members.{length-inserted, member-zeros}
 use Rattle.matching.specs.Visited as visit
 use Rattle.matching.proofs.Scan.{put, put-here, put-other, scan-ind}

@@ -1,16 +1,19 @@
 -- What holds in the middle of the code's search, and what each of its steps makes of it. Assumes nothing.
-use Rattle.counting.proofs.Prelude.{_≡_, refl, sym, ap, _∙_, _≢_, ⊎-elim, Bool, true, false, not, _&&_, true≢false, List, ℕ, zero, suc, _+_, _-_, _≤_, _<_, arith, length, getD, set, eq-eqb, ne-eqb}
+use Rattle.counting.proofs.Prelude.{_≡_, refl, sym, ap, _∙_, _≢_, ⊎-elim, Bool, true, false, not, _&&_, true≢false, List, ℕ, zero, suc, _+_}
+use Rattle.counting.proofs.Prelude.{_-_, _≤_, _<_, arith, length, getD, set, eq-eqb, ne-eqb}
 use native.Mathlib.Nat.{not-suc-le-zero, add-suc, add-zero}
 use native.Mathlib.Decide.{decLt, ℕ-discrete}
 use Rattle.counting.proofs.Truth.{lt-or-le}
 use Rattle.specification.specs.Sets.{member?, inserted, has?}
 use Rattle.search.specs.Steps.Coded.{State, nobody, seen, unvisited, scan, augment, candidate, predecessorOf, marked, taken, missed}
 use Rattle.search.specs.Steps.Search.{state, open?, NextOpen, Augments}
-use Rattle.search.proofs.Steps.{scan-end, scan-pass, scan-free, scan-moved, scan-stuck, candidate-fact, marked-seen, marked-mono, marked-fewer}
+use Rattle.search.proofs.Steps.{scan-end, scan-pass, scan-free, scan-moved, scan-stuck, candidate-fact, marked-seen, marked-mono}
+use Rattle.search.proofs.Steps.{marked-fewer}
 
 -- vertices that are no candidates are passed over
 module _ (leads : ℕ → ℕ → Bool) (n : ℕ) (again : ℕ → State → State) (h : ℕ) (s : State) where
-  scan-skip : (a d : ℕ) → ((v : ℕ) → a ≤ v → v < a + d → candidate leads h v s ≡ false) → scan leads n again h (n - a) a s ≡ scan leads n again h (n - (a + d)) (a + d) s
+  scan-skip : (a d : ℕ) → ((v : ℕ) → a ≤ v → v < a + d → candidate leads h v s ≡ false)
+      → scan leads n again h (n - a) a s ≡ scan leads n again h (n - (a + d)) (a + d) s
   scan-skip a zero f = ap (λ x. scan leads n again h (n - x) x s) (sym (add-zero a))
   scan-skip a (suc d) f = scan-skip a d (λ v l m. f v l (omega arith)) ∙ go (decLt (a + d) n)
     where
@@ -25,8 +28,11 @@ module _ (leads : ℕ → ℕ → Bool) (n : ℕ) (again : ℕ → State → Sta
           ∙ sym (scan-end leads n again h 0 (a + suc d) s)
           ∙ ap (λ j. scan leads n again h j (a + suc d) s) (let e : 0 ≡ n - (a + suc d) = omega arith in e)
 
-  pub scan-to : (a b : ℕ) → a ≤ b → ((v : ℕ) → a ≤ v → v < b → candidate leads h v s ≡ false) → scan leads n again h (n - a) a s ≡ scan leads n again h (n - b) b s
-  scan-to a b l f = scan-skip a (b - a) (λ v m k. f v m (omega arith)) ∙ ap (λ x. scan leads n again h (n - x) x s) (let e : a + (b - a) ≡ b = omega arith in e)
+  pub scan-to : (a b : ℕ) → a ≤ b → ((v : ℕ) → a ≤ v → v < b → candidate leads h v s ≡ false)
+      → scan leads n again h (n - a) a s ≡ scan leads n again h (n - b) b s
+  scan-to a b l f =
+      scan-skip a (b - a) (λ v m k. f v m (omega arith))
+      ∙ ap (λ x. scan leads n again h (n - x) x s) (let e : a + (b - a) ≡ b = omega arith in e)
 
 -- a vertex that is visited is not open, and one that is not open stays so while what is visited stays visited
 visited-shut : (a b : Bool) → b ≡ true → (a && not b) ≡ false
@@ -49,7 +55,8 @@ pub record Going (table : List ℕ) (n h : ℕ) (P₀ T₀ P T : List ℕ) (v : 
   pub passed : (u : ℕ) → u < v → open? table h T u ≡ false
   pub next : v < n → candidate (has? 2 table) h v (state P T false) ≡ true
   pub on : (k : ℕ) → unvisited n (state P₀ T₀ false) < suc k
-      → augment (has? 2 table) n (suc k) h (state P₀ T₀ false) ≡ scan (has? 2 table) n (augment (has? 2 table) n k) h (n - v) v (state P T false)
+      → augment (has? 2 table) n (suc k) h (state P₀ T₀ false)
+      ≡ scan (has? 2 table) n (augment (has? 2 table) n k) h (n - v) v (state P T false)
 
 -- a depth above a number is one more than some depth
 deep : (Q : ℕ → Type 0) (m : ℕ) → ((k : ℕ) → m < suc k → Q (suc k)) → (k : ℕ) → m < k → Q k
@@ -64,10 +71,12 @@ module _ (table : List ℕ) (n h : ℕ) where
   go k = augment leads n k
 
   -- the next vertex to try, as the code found it
-  going-to : {P₀ T₀ : List ℕ} (P T : List ℕ) (a r : ℕ) → n ≤ 128 → length P ≡ 128 → length T ≡ 2 → unvisited n (state P T false) ≤ unvisited n (state P₀ T₀ false)
+  going-to : {P₀ T₀ : List ℕ} (P T : List ℕ) (a r : ℕ) → n ≤ 128 → length P ≡ 128 → length T ≡ 2
+      → unvisited n (state P T false) ≤ unvisited n (state P₀ T₀ false)
       → ((u : ℕ) → member? T₀ 0 u ≡ true → member? T 0 u ≡ true) → a ≤ 128 → ((u : ℕ) → u < a → open? table h T u ≡ false)
       → NextOpen table h T a r
-      → ((k : ℕ) → unvisited n (state P₀ T₀ false) < suc k → go (suc k) h (state P₀ T₀ false) ≡ scan leads n (go k) h (n - a) a (state P T false))
+      → ((k : ℕ) → unvisited n (state P₀ T₀ false) < suc k
+      → go (suc k) h (state P₀ T₀ false) ≡ scan leads n (go k) h (n - a) a (state P T false))
       → Going table n h P₀ T₀ P T r
   unfolding open? candidate seen
   going-to {P₀} {T₀} P T a r few lp lv fw mono small below p on = record {
@@ -158,7 +167,8 @@ module _ (table : List ℕ) (n h : ℕ) where
         mono = λ u q. grown u (g .mono u q);
       }
 
-      module _ (P′ T′ : List ℕ) (b : Bool) (f : getD P v 0 ≢ nobody) (q : Augments leads n (getD P v 0) (state P T₁ false) (state P′ T′ b)) where
+      module _ (P′ T′ : List ℕ) (b : Bool) (f : getD P v 0 ≢ nobody)
+          (q : Augments leads n (getD P v 0) (state P T₁ false) (state P′ T′ b)) where
         -- the call's result is the definition's, one level less deep
         again : (k : ℕ) → unvisited n s₀ < suc k → state P′ T′ b ≡ go k (getD P v 0) (state P (inserted T 0 v) false)
         again k u = q .same k (omega (arith, falls)) ∙ ap (λ x. go k (getD P v 0) (state P x false)) m

@@ -1,5 +1,6 @@
 -- The vertices that one set has and another lacks, found by the masks. Assumes nothing.
-use Rattle.counting.proofs.Prelude.{_≡_, refl, sym, ap, ap₂, _∙_, _≢_, ⊎-elim, not, _&&_, List, [], _∷_, ℕ, zero, suc, _+_, _-_, _*_, _/_, _%_, _^_, _≤_, _<_, arith, eqb, getD, set, eq-eqb}
+use Rattle.counting.proofs.Prelude.{_≡_, refl, sym, ap, ap₂, _∙_, _≢_, ⊎-elim, not, _&&_, List, [], _∷_, ℕ, zero, suc, _+_, _-_, _*_, _/_}
+use Rattle.counting.proofs.Prelude.{_%_, _^_, _≤_, _<_, arith, eqb, getD, set, eq-eqb}
 use native.Mathlib.Nat.{lt-of-le-of-lt}
 use lib.Bits.{bitOr, and-le-l}
 use lib.Count.{trailingZeros}
@@ -12,7 +13,8 @@ use Rattle.masks.proofs.Sets.{without-member}
 use Rattle.masks.proofs.Pairing.{pair-low, pair-high}
 use Rattle.masks.proofs.Tables.{Row, pair-row, row-member}
 
-module _ (table visited : List ℕ) (h a b c d : ℕ) (ea : a ≡ getD table (2 * h + 0) 0) (eb : b ≡ getD visited (0 + 0) 0) (ec : c ≡ getD table (2 * h + 1) 0) (ed : d ≡ getD visited (0 + 1) 0)
+module _ (table visited : List ℕ) (h a b c d : ℕ) (ea : a ≡ getD table (2 * h + 0) 0) (eb : b ≡ getD visited (0 + 0) 0)
+    (ec : c ≡ getD table (2 * h + 1) 0) (ed : d ≡ getD visited (0 + 1) 0)
     (fit : (i : ℕ) → getD visited i 0 < 2 ^ 64) where
   open-bit : (v : ℕ) → v < 128 → member? (without a b ∷ without c d ∷ []) 0 v ≡ open? table h visited v
   unfolding open? has? at

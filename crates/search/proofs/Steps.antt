@@ -1,5 +1,6 @@
 -- The steps over the tables, case by case. Nothing else opens their `scan`. Assumes nothing.
-use Rattle.counting.proofs.Prelude.{_≡_, refl, ap, _∙_, _≢_, Bool, true, false, not, ℕ, zero, suc, _+_, _≤_, _<_, arith, eqb, length, not-true}
+use Rattle.counting.proofs.Prelude.{_≡_, refl, ap, _∙_, _≢_, Bool, true, false, not, ℕ, zero, suc, _+_, _≤_, _<_, arith, eqb, length}
+use Rattle.counting.proofs.Prelude.{not-true}
 use native.Mathlib.Decide.{ℕ-discrete}
 use Rattle.specification.specs.Count.{indicator, sum, count}
 use Rattle.counting.proofs.Truth.{and-elim}

@@ -14,7 +14,8 @@ use Rattle.specification.specs.Rows.{row, rowsUsed}
 use Rattle.specification.specs.Marks.{transitive?, reducedCount}
 use Rattle.specification.specs.Bundles.{Bundle, bundleOf, adjacent?, bundlesOf, empty}
 use Rattle.specification.specs.Tracks.{tracks}
-use Rattle.specification.specs.Geometry.{Point, point, Widths, evenGaps, blockStart, ownColumn, courseOf, gapWidth, trackAt, straight, byTrack}
+use Rattle.specification.specs.Geometry.{Point, point, Widths, evenGaps, blockStart, ownColumn, courseOf, gapWidth, trackAt, straight}
+use Rattle.specification.specs.Geometry.{byTrack}
 use Rattle.specification.specs.declared.Course.{Course}
 use Rattle.specification.specs.declared.Kind.{Kind}
 use Rattle.specification.specs.declared.Kind.the-variants.{Path, PathTransitive, Straight, Bent}
@@ -112,7 +113,8 @@ crossing (course.Bent x y) = Bent (record { column = x; row = y })
 unfoldable pub kindBetween : Content → Plan → ℕ → ℕ → Kind
 kindBetween c p u v =
     choose (eqb (channelOf (p .channels) u) (channelOf (p .channels) v))
-    (λ _. choose (adjacent? (positionOf (p .channels) u) (positionOf (p .channels) v)) (λ _. Path) (λ _. PathTransitive (bundleOf (p .bundles) u v)))
+    (λ _. choose (adjacent? (positionOf (p .channels) u) (positionOf (p .channels) v))
+    (λ _. Path) (λ _. PathTransitive (bundleOf (p .bundles) u v)))
     (λ _. crossing (courseOf (placeOf c p) (c .vertices) u v))
 
 -- ---- the entries that are handed over

@@ -34,7 +34,8 @@ size? c = outsized? (c .vertices) (edgesOf c)
 
 -- 3 'stranger': an edge or a given channel names a vertex of n or more
 unfoldable pub stranger? : Content → Bool
-stranger? c = some (edgesOf c) (strange? (c .vertices) (c .tails) (c .heads)) || (c .given && unknown? (c .vertices) (verticesOf (c .field)))
+stranger? c =
+    some (edgesOf c) (strange? (c .vertices) (c .tails) (c .heads)) || (c .given && unknown? (c .vertices) (verticesOf (c .field)))
 
 -- 4 'double': an edge stands twice
 unfoldable pub double? : Content → Bool

@@ -76,7 +76,8 @@ unfoldable pub read : Parts → Order
 read (Parts.last p) = Order.unreadable
 read (Parts.more p (Parts.last q)) = choose (same p wordsName) (λ _. withOne Order.words (numberOf q)) (λ _. Order.unreadable)
 read (Parts.more p (Parts.more q (Parts.last r))) =
-    choose (same p addName) (λ _. withTwo Order.add (numberOf q) (numberOf r)) (λ _. choose (same p leadsName) (λ _. withTwo Order.leads (numberOf q) (numberOf r)) (λ _. Order.unreadable))
+    choose (same p addName) (λ _. withTwo Order.add (numberOf q) (numberOf r))
+    (λ _. choose (same p leadsName) (λ _. withTwo Order.leads (numberOf q) (numberOf r)) (λ _. Order.unreadable))
 read (Parts.more p (Parts.more q (Parts.more r ps))) = Order.unreadable
 
 -- the order of a line, without its line end

@@ -41,4 +41,6 @@ joinedAt refusal points a b c d = record {
 
 -- an answer of at most four points, as numbers
 abbrev pub strokeFor : Answer → Stroke
-strokeFor a = joinedAt (a .number) (length (a .points)) (getD (a .points) 0 origin) (getD (a .points) 1 origin) (getD (a .points) 2 origin) (getD (a .points) 3 origin)
+strokeFor a =
+    joinedAt (a .number) (length (a .points)) (getD (a .points) 0 origin) (getD (a .points) 1 origin) (getD (a .points) 2 origin)
+    (getD (a .points) 3 origin)

@@ -9,7 +9,9 @@ use Rattle.specification.specs.Graph.{edge?}
 use Rattle.specification.specs.Checks.{Content, content, edgesOf, refusalOf, nothing, recordRefusal, said}
 use Rattle.specification.specs.Marks.{transitive?}
 use Rattle.specification.specs.Geometry.{Point, point}
-use Rattle.specification.specs.Chart.{leads?, descendantsOf, tailOf, headOf, rowOf, rowCount, transitiveEdge?, reducedEdges, channelsOf, planOf, tracksIn, columnIn, widthOf, vertexEntry, edgeEntry, bundleEntry, polylineOf}
+use Rattle.specification.specs.Chart.{leads?, descendantsOf, tailOf, headOf, rowOf, rowCount, transitiveEdge?, reducedEdges}
+use Rattle.specification.specs.Chart.{channelsOf, planOf, tracksIn, columnIn, widthOf, vertexEntry, edgeEntry, bundleEntry}
+use Rattle.specification.specs.Chart.{polylineOf}
 use Rattle.specification.specs.declared.Kind.{Kind}
 use Rattle.specification.specs.declared.Kind.the-variants.{Path, PathTransitive, Straight, Bent}
 
@@ -94,19 +96,24 @@ Refused b k = (recordRefusal b ≡ k) × (said b ≡ nothing)
 
 -- the entry of a vertex: channel, position, column, row, descendants
 abbrev pub Word : Content → ℕ → ℕ → ℕ → ℕ → ℕ → ℕ → Type 0
-Word c v channel position column row descendants = vertexEntry c (planOf c) v ≡ record { channel = channel; position = position; column = column; row = row; descendants = descendants }
+Word c v channel position column row descendants =
+    vertexEntry c (planOf c) v ≡ record { channel = channel; position = position; column = column; row = row; descendants = descendants }
 
 -- tail, head, kind and mark of an edge
 abbrev pub Arrow : Content → ℕ → ℕ → ℕ → Kind → Bool → Type 0
-Arrow c e u v kind transitive = (tailOf c e ≡ u) × (headOf c e ≡ v) × (edgeEntry c (planOf c) e ≡ record { number = e; kind = kind; transitive = transitive })
+Arrow c e u v kind transitive =
+    (tailOf c e ≡ u) × (headOf c e ≡ v) × (edgeEntry c (planOf c) e ≡ record { number = e; kind = kind; transitive = transitive })
 
 -- channel, rows and track of a bundle
 abbrev pub Side : Content → ℕ → ℕ → ℕ → ℕ → ℕ → Type 0
-Side c b channel first last track = bundleEntry (planOf c) b ≡ record { channel = channel; «first_row» = first; «last_row» = last; track = track }
+Side c b channel first last track =
+    bundleEntry (planOf c) b ≡ record { channel = channel; «first_row» = first; «last_row» = last; track = track }
 
 -- the polyline of an edge
 abbrev pub drawn : Content → ℕ → List Point
-drawn c e = polylineOf (vertexEntry c (planOf c) (tailOf c e)) (vertexEntry c (planOf c) (headOf c e)) (edgeEntry c (planOf c) e .kind) (bundleEntry (planOf c))
+drawn c e =
+    polylineOf (vertexEntry c (planOf c) (tailOf c e)) (vertexEntry c (planOf c) (headOf c e)) (edgeEntry c (planOf c) e .kind)
+    (bundleEntry (planOf c))
 
 abbrev pub firm : Bool
 firm = false
@@ -127,18 +134,24 @@ pub record Table : Type 0 where
   pub p3 : (rowOf graph1 0 ≡ 0) × (rowOf graph1 1 ≡ 1) × (rowOf graph1 2 ≡ 1) × (rowOf graph1 3 ≡ 2) × (rowOf graph1 4 ≡ 3)
   pub p3-used : rowCount graph1 ≡ 4
   -- P4: the last edge is transitive, and no other
-  pub p4 : (transitiveEdge? graph1 0 ≡ false) × (transitiveEdge? graph1 1 ≡ false) × (transitiveEdge? graph1 2 ≡ false) × (transitiveEdge? graph1 3 ≡ false) × (transitiveEdge? graph1 4 ≡ false) × (transitiveEdge? graph1 5 ≡ true)
+  pub p4 : (transitiveEdge? graph1 0 ≡ false) × (transitiveEdge? graph1 1 ≡ false) × (transitiveEdge? graph1 2 ≡ false)
+      × (transitiveEdge? graph1 3 ≡ false) × (transitiveEdge? graph1 4 ≡ false) × (transitiveEdge? graph1 5 ≡ true)
   pub p4-firm : reducedEdges graph1 ≡ 5
   -- P5: one channel, X = 3; the bundle into 3 over rows 0 .. 3 in track 0, the one into 2 over rows 0 .. 2 in track 1
   pub p5-record : Says record5 graph5
   pub p5-line : channelsOf graph5 ≡ (0 ∷ 1 ∷ 2 ∷ 3 ∷ []) ∷ []
-  pub p5-bundles : planOf graph5 .bundles ≡ record { channel = 0; into = true; vertex = 3; first = 0; last = 3 } ∷ record { channel = 0; into = true; vertex = 2; first = 0; last = 2 } ∷ []
+  pub p5-bundles : planOf graph5 .bundles ≡ record { channel = 0; into = true; vertex = 3; first = 0; last = 3 }
+      ∷ record { channel = 0; into = true; vertex = 2; first = 0; last = 2 } ∷ []
   pub p5-tracks : Side graph5 0 0 0 3 0 × Side graph5 1 0 0 2 1
-  pub p5-own : (columnIn (planOf graph5) 0 ≡ 3) × (columnIn (planOf graph5) 1 ≡ 3) × (columnIn (planOf graph5) 2 ≡ 3) × (columnIn (planOf graph5) 3 ≡ 3)
+  pub p5-own : (columnIn (planOf graph5) 0 ≡ 3) × (columnIn (planOf graph5) 1 ≡ 3) × (columnIn (planOf graph5) 2 ≡ 3)
+      × (columnIn (planOf graph5) 3 ≡ 3)
   pub p5-counts : (tracksIn (planOf graph5) 0 ≡ 2) × (widthOf (planOf graph5) ≡ 5)
-  pub p5-arrows : Arrow graph5 0 0 1 Path firm × Arrow graph5 1 0 2 (PathTransitive 1) implied × Arrow graph5 2 0 3 (PathTransitive 0) implied × Arrow graph5 3 1 2 Path firm × Arrow graph5 4 1 3 (PathTransitive 0) implied × Arrow graph5 5 2 3 Path firm
+  pub p5-arrows : Arrow graph5 0 0 1 Path firm × Arrow graph5 1 0 2 (PathTransitive 1) implied
+      × Arrow graph5 2 0 3 (PathTransitive 0) implied × Arrow graph5 3 1 2 Path firm × Arrow graph5 4 1 3 (PathTransitive 0) implied
+      × Arrow graph5 5 2 3 Path firm
   -- the tracks' columns, by 8.1: 1 for the bundle into 3, 0 for that into 2
-  pub p5-drawn : (drawn graph5 2 ≡ point 3 0 ∷ point 1 0 ∷ point 1 3 ∷ point 3 3 ∷ []) × (drawn graph5 1 ≡ point 3 0 ∷ point 0 0 ∷ point 0 2 ∷ point 3 2 ∷ [])
+  pub p5-drawn : (drawn graph5 2 ≡ point 3 0 ∷ point 1 0 ∷ point 1 3 ∷ point 3 3 ∷ [])
+      × (drawn graph5 1 ≡ point 3 0 ∷ point 0 0 ∷ point 0 2 ∷ point 3 2 ∷ [])
   -- P6: the edge 0→5 has its bend in column 2, row 1
   pub p6-record : Says record6 graph6
   pub p6-lines : channelsOf graph6 ≡ (0 ∷ []) ∷ (1 ∷ 2 ∷ []) ∷ (3 ∷ 4 ∷ 5 ∷ []) ∷ []
@@ -163,9 +176,12 @@ pub record Table : Type 0 where
   pub repeated-first : Refused (1 ∷ 0 ∷ 1 ∷ 2 ∷ 2 ∷ 0 ∷ 0 ∷ 3 ∷ 0 ∷ 5 ∷ 2 ∷ 0 ∷ 1 ∷ 1 ∷ 0 ∷ []) 6
   pub lacking-first : Refused (1 ∷ 0 ∷ 1 ∷ 3 ∷ 2 ∷ 0 ∷ 0 ∷ 3 ∷ 0 ∷ 3 ∷ 2 ∷ 0 ∷ 1 ∷ []) 6
   -- the sample listing: its header, words and arrows
-  pub header : (graph1 .vertices ≡ 5) × (edgesOf graph1 ≡ 6) × (rowCount graph1 ≡ 4) × (length (channelsOf graph1) ≡ 2) × (reducedEdges graph1 ≡ 5) × (length (planOf graph1 .bundles) ≡ 0) × (widthOf (planOf graph1) ≡ 6)
-  pub words : Word graph1 0 0 0 1 0 4 × Word graph1 1 0 1 1 1 2 × Word graph1 2 1 0 4 1 2 × Word graph1 3 1 1 4 2 1 × Word graph1 4 0 2 1 3 0
-  pub arrows : Arrow graph1 0 0 1 Path firm × Arrow graph1 1 0 2 Straight firm × Arrow graph1 2 1 3 Straight firm × Arrow graph1 3 2 3 Path firm × Arrow graph1 4 3 4 Straight firm × Arrow graph1 5 0 3 Straight implied
+  pub header : (graph1 .vertices ≡ 5) × (edgesOf graph1 ≡ 6) × (rowCount graph1 ≡ 4) × (length (channelsOf graph1) ≡ 2)
+      × (reducedEdges graph1 ≡ 5) × (length (planOf graph1 .bundles) ≡ 0) × (widthOf (planOf graph1) ≡ 6)
+  pub words : Word graph1 0 0 0 1 0 4 × Word graph1 1 0 1 1 1 2 × Word graph1 2 1 0 4 1 2 × Word graph1 3 1 1 4 2 1
+      × Word graph1 4 0 2 1 3 0
+  pub arrows : Arrow graph1 0 0 1 Path firm × Arrow graph1 1 0 2 Straight firm × Arrow graph1 2 1 3 Straight firm
+      × Arrow graph1 3 2 3 Path firm × Arrow graph1 4 3 4 Straight firm × Arrow graph1 5 0 3 Straight implied
   -- limits (16.2): without tag 2 it is 1, with an empty tag 2 accepted (P8), with an empty tag 3 it is 6
   pub no-arrows-field : Refused (1 ∷ 0 ∷ 1 ∷ 1 ∷ []) 1
   pub empty-lines-field : Refused (1 ∷ 0 ∷ 1 ∷ 1 ∷ 2 ∷ 0 ∷ 0 ∷ 3 ∷ 0 ∷ 0 ∷ []) 6
@@ -179,4 +195,5 @@ pub record Table : Type 0 where
   -- rows 0 .. 2 and 2 .. 4 share row 2: two tracks
   pub shared : Side touching 0 0 0 2 0 × Side touching 1 0 2 4 1 × (tracksIn (planOf touching) 0 ≡ 2)
   -- edge 3 is transitive by a route of three edges; no route of two goes along it
-  pub longer : (transitiveEdge? detour 3 ≡ true) × (reducedEdges detour ≡ 3) × (transitive? (edge? (detour .tails) (detour .heads)) 4 0 3 ≡ false)
+  pub longer : (transitiveEdge? detour 3 ≡ true) × (reducedEdges detour ≡ 3)
+      × (transitive? (edge? (detour .tails) (detour .heads)) 4 0 3 ≡ false)

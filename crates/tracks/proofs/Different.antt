@@ -1,5 +1,6 @@
 -- Laws of `differentIn`; nothing else opens it. Assumes nothing.
-use Rattle.counting.proofs.Prelude.{_≡_, refl, sym, ap, ap₂, _∙_, _⊎_, inl, inr, Bool, true, false, true≢false, not, _&&_, _||_, ℕ, zero, suc, _+_, _≤_, _<_, arith, eqb, eq-eqb, ne-eqb, eqb-true, not-true}
+use Rattle.counting.proofs.Prelude.{_≡_, refl, sym, ap, ap₂, _∙_, _⊎_, inl, inr, Bool, true, false, true≢false, not, _&&_, _||_, ℕ, zero}
+use Rattle.counting.proofs.Prelude.{suc, _+_, _≤_, _<_, arith, eqb, eq-eqb, ne-eqb, eqb-true, not-true}
 use native.Mathlib.Decide.{ℕ-discrete, decLt}
 use Rattle.specification.specs.Count.{indicator, sum, count, some}
 use Rattle.counting.proofs.Truth.{and-intro, and-elim}
@@ -24,12 +25,14 @@ different-least (suc n) test f S sub inj =
     sub′ : (i : ℕ) → i < n → S i ≡ true → test i ≡ true
     sub′ i a = sub i (omega arith)
 
-    counted : S n ≡ true → indicator (test n && not (some n (λ j. test j && eqb (f j) (f n)))) ≡ indicator (not (some n (λ j. test j && eqb (f j) (f n))))
+    counted : S n ≡ true → indicator (test n && not (some n (λ j. test j && eqb (f j) (f n))))
+        ≡ indicator (not (some n (λ j. test j && eqb (f j) (f n))))
     counted e = ap (λ b. indicator (b && not (some n (λ j. test j && eqb (f j) (f n))))) (sub n (omega arith) e)
 
     -- the value of n stands before, at k, which is not in S: k for n
     moved : S n ≡ true → (k : ℕ) → k < n → test k ≡ true → f k ≡ f n
-        → ((T : ℕ → Bool) → ((i : ℕ) → i < n → T i ≡ true → test i ≡ true) → ((i j : ℕ) → i < n → j < n → T i ≡ true → T j ≡ true → f i ≡ f j → i ≡ j) → count n T ≤ differentIn n test f)
+        → ((T : ℕ → Bool) → ((i : ℕ) → i < n → T i ≡ true → test i ≡ true)
+        → ((i j : ℕ) → i < n → j < n → T i ≡ true → T j ≡ true → f i ≡ f j → i ≡ j) → count n T ≤ differentIn n test f)
         → count n S + 1 ≤ differentIn n test f
     moved s k l tk e ih = out (S k) refl
       where
@@ -63,11 +66,13 @@ different-least (suc n) test f S sub inj =
         out true p = absurd (let z : k ≡ n = inj k n (omega arith) (omega arith) p s e in omega arith)
         out false p =
             let t : indicator (T k) ≡ 1 = ap (λ b. indicator (b || S k)) (eq-eqb k k refl) in
-            let d : count n T + indicator (S k) ≡ count n S + indicator (T k) = sum-change n (λ i. indicator (T i)) (λ i. indicator (S i)) k l (λ j m. ap (λ b. indicator (b || S j)) (ne-eqb j k m)) in
+            let d : count n T + indicator (S k) ≡ count n S + indicator (T k) =
+            sum-change n (λ i. indicator (T i)) (λ i. indicator (S i)) k l (λ j m. ap (λ b. indicator (b || S j)) (ne-eqb j k m)) in
             omega (arith, ap indicator p, ih T subT injT)
 
     go : (b : Bool) → S n ≡ b → (o : Bool) → some n (λ j. test j && eqb (f j) (f n)) ≡ o
-        → ((T : ℕ → Bool) → ((i : ℕ) → i < n → T i ≡ true → test i ≡ true) → ((i j : ℕ) → i < n → j < n → T i ≡ true → T j ≡ true → f i ≡ f j → i ≡ j) → count n T ≤ differentIn n test f)
+        → ((T : ℕ → Bool) → ((i : ℕ) → i < n → T i ≡ true → test i ≡ true)
+        → ((i j : ℕ) → i < n → j < n → T i ≡ true → T j ≡ true → f i ≡ f j → i ≡ j) → count n T ≤ differentIn n test f)
         → count n S + indicator (S n) ≤ differentIn n test f + indicator (test n && not (some n (λ j. test j && eqb (f j) (f n))))
     go false e o p ih = omega (arith, ap indicator e, ih S sub′ inj′)
     go true e false p ih = omega (arith, ap indicator e, counted e, ap (λ b. indicator (not b)) p, ih S sub′ inj′)
@@ -114,7 +119,8 @@ different-below n m test f l = omega (
 pub different-count : (n : ℕ) (test : ℕ → Bool) (f : ℕ → ℕ) → differentIn n test f ≤ count n test
 unfolding differentIn count
 different-count n test f =
-    sum-mono n (λ i. indicator (test i && old i)) (λ i. indicator (test i)) (λ i l. indicator-mono (test i && old i) (test i) (λ e. and-elim (test i) (old i) e .0))
+    sum-mono n (λ i. indicator (test i && old i)) (λ i. indicator (test i))
+    (λ i l. indicator-mono (test i && old i) (test i) (λ e. and-elim (test i) (old i) e .0))
   where
     old : ℕ → Bool
     old i = not (some i (λ j. test j && eqb (f j) (f i)))

@@ -1,5 +1,6 @@
 -- The tracks hang on the first n bundles only. Assumes nothing.
-use Rattle.counting.proofs.Prelude.{_≡_, refl, ap, ap₂, _∙_, Bool, _&&_, _||_, List, ℕ, zero, suc, _+_, _≤_, _<_, arith, eqb, leb, ltb, getD, set}
+use Rattle.counting.proofs.Prelude.{_≡_, refl, ap, ap₂, _∙_, Bool, _&&_, _||_, List, ℕ, zero, suc, _+_, _≤_, _<_, arith, eqb, leb, ltb}
+use Rattle.counting.proofs.Prelude.{getD, set}
 use Rattle.specification.specs.Count.{choose}
 use Rattle.counting.proofs.Somes.{some-ext}
 use Rattle.specification.specs.Limits.{rowNumbers}
@@ -27,7 +28,8 @@ module _ (n : ℕ) (channel first last channel′ first′ last′ : ℕ → ℕ
   row-ext r (suc b) track h =
       let e = row-ext r b track (omega arith) in
       ap₂ (λ (x : Bool) (y : List ℕ). choose {A = List ℕ} x (λ _. placed n channel first last b y) (λ _. y)) (ap (λ x. eqb x r) (f b h)) e
-      ∙ ap (λ (y : List ℕ). choose {A = List ℕ} (eqb (first′ b) r) (λ _. y) (λ _. inRow n channel′ first′ last′ r b track)) (placed-ext b (inRow n channel′ first′ last′ r b track) h)
+      ∙ ap (λ (y : List ℕ). choose {A = List ℕ} (eqb (first′ b) r) (λ _. y) (λ _. inRow n channel′ first′ last′ r b track))
+      (placed-ext b (inRow n channel′ first′ last′ r b track) h)
 
   rows-ext : (r : ℕ) → inRows n channel first last r ≡ inRows n channel′ first′ last′ r
   unfolding inRows

@@ -1,5 +1,7 @@
 -- Laws of `lowestFree`, and of the tests of `busy`; nothing else opens them. Assumes nothing.
-use Rattle.counting.proofs.Prelude.{_≡_, refl, sym, ap, ap₂, _∙_, _⊎_, inl, inr, ⊎-elim, Bool, true, false, _&&_, List, ℕ, zero, suc, _+_, _*_, _≤_, _<_, max, arith, eqb, leb, ltb, getD, eq-eqb, eqb-true, leb-true, le-leb, lt-ltb, le-ltb, ltb-true}
+use Rattle.counting.proofs.Prelude.{_≡_, refl, sym, ap, ap₂, _∙_, _⊎_, inl, inr, ⊎-elim, Bool, true, false, _&&_, List, ℕ, zero, suc, _+_}
+use Rattle.counting.proofs.Prelude.{_*_, _≤_, _<_, max, arith, eqb, leb, ltb, getD, eq-eqb, eqb-true, leb-true, le-leb, lt-ltb, le-ltb}
+use Rattle.counting.proofs.Prelude.{ltb-true}
 use native.Mathlib.Nat.{not-suc-le-zero}
 use native.Mathlib.Decide.{ℕ-discrete}
 use Rattle.specification.specs.Count.{choose}
@@ -123,21 +125,25 @@ pub meet-sym : (channel first last : ℕ → ℕ) (p q : ℕ) → meet channel f
 meet-sym channel first last p q e = let x = meet-fact channel first last p q e in meet-yes channel first last q p (sym (x .0)) (x .2) (x .1)
 
 -- bundles of one channel that cover a row meet, and those that meet cover one
-pub row-meet : (channel first last : ℕ → ℕ) (p q r : ℕ) → channel p ≡ channel q → (first p ≤ r) × (r ≤ last p) → (first q ≤ r) × (r ≤ last q) → meet channel first last p q ≡ true
+pub row-meet : (channel first last : ℕ → ℕ) (p q r : ℕ) → channel p ≡ channel q → (first p ≤ r) × (r ≤ last p)
+    → (first q ≤ r) × (r ≤ last q) → meet channel first last p q ≡ true
 row-meet channel first last p q r c x y = meet-yes channel first last p q c (omega arith) (omega arith)
 
 pub meet-row : (channel first last : ℕ → ℕ) (p q : ℕ) → first p ≤ last p → first q ≤ last q → meet channel first last p q ≡ true
     → (r : ℕ) × (first p ≤ r) × (r ≤ last p) × (first q ≤ r) × (r ≤ last q)
-meet-row channel first last p q a b e = let x = meet-fact channel first last p q e in (max (first p) (first q), omega arith, omega arith, omega arith, omega arith)
+meet-row channel first last p q a b e =
+    let x = meet-fact channel first last p q e in (max (first p) (first q), omega arith, omega arith, omega arith, omega arith)
 
 -- no bundle blocks itself
 pub blocks-self : (channel first last : ℕ → ℕ) (b : ℕ) → blocks channel first last b b ≡ false
-blocks-self channel first last b = not-true _ (λ e. ⊎-elim (λ l. omega arith) (λ l. omega arith) (earlier-fact first b b (blocks-fact channel first last b b e .0)))
+blocks-self channel first last b =
+    not-true _ (λ e. ⊎-elim (λ l. omega arith) (λ l. omega arith) (earlier-fact first b b (blocks-fact channel first last b b e .0)))
 
 -- ---- busy tracks
 
 module _ (n : ℕ) (channel first last : ℕ → ℕ) (track : List ℕ) (b c : ℕ) where
-  pub busy-fact : busy n channel first last track b c ≡ true → (q : ℕ) × (q < n) × (blocks channel first last q b ≡ true) × (getD track q 0 ≡ c)
+  pub busy-fact : busy n channel first last track b c ≡ true
+      → (q : ℕ) × (q < n) × (blocks channel first last q b ≡ true) × (getD track q 0 ≡ c)
   unfolding busy
   busy-fact e =
       let w = some-which n (λ q. blocks channel first last q b && eqb (getD track q 0) c) e in
@@ -147,4 +153,5 @@ module _ (n : ℕ) (channel first last : ℕ → ℕ) (track : List ℕ) (b c : 
   pub busy-yes : (q : ℕ) → q < n → blocks channel first last q b ≡ true → getD track q 0 ≡ c → busy n channel first last track b c ≡ true
   unfolding busy
   busy-yes q l x y =
-      some-found n (λ q. blocks channel first last q b && eqb (getD track q 0) c) q l (and-intro (blocks channel first last q b) (eqb (getD track q 0) c) x (eq-eqb _ _ y))
+      some-found n (λ q. blocks channel first last q b && eqb (getD track q 0) c) q l
+      (and-intro (blocks channel first last q b) (eqb (getD track q 0) c) x (eq-eqb _ _ y))

@@ -1,5 +1,6 @@
 -- The tracks are lawful, in each channel as many as 1 + the highest, and no lawful tracks are fewer. Assumes nothing.
-use Rattle.counting.proofs.Prelude.{_≡_, refl, sym, ap, _∙_, _≢_, Bool, true, _&&_, ℕ, suc, _*_, _≤_, _<_, arith, eqb, leb, getD, le-leb, leb-true, eq-eqb, eqb-true}
+use Rattle.counting.proofs.Prelude.{_≡_, refl, sym, ap, _∙_, _≢_, Bool, true, _&&_, ℕ, suc, _*_, _≤_, _<_, arith, eqb, leb, getD, le-leb}
+use Rattle.counting.proofs.Prelude.{leb-true, eq-eqb, eqb-true}
 use native.Mathlib.Nat.{le-antisymm}
 use native.Mathlib.Decide.{ℕ-discrete, decLt}
 use Rattle.specification.specs.Count.{count, above}
@@ -48,7 +49,8 @@ module _ (channel first last : ℕ → ℕ) (c r : ℕ) where
 
 -- among the bundles of another list: a row is covered no less often
 depth-among : (n : ℕ) (channel first last : ℕ → ℕ) (c n′ : ℕ) (channel′ first′ last′ : ℕ → ℕ) (c′ r : ℕ)
-    → Among n channel first last c n′ channel′ first′ last′ c′ → count n (covers channel first last c r) ≤ count n′ (covers channel′ first′ last′ c′ r)
+    → Among n channel first last c n′ channel′ first′ last′ c′
+    → count n (covers channel first last c r) ≤ count n′ (covers channel′ first′ last′ c′ r)
 depth-among n channel first last c n′ channel′ first′ last′ c′ r u =
     into-count n n′ (covers channel first last c r) (covers channel′ first′ last′ c′ r) (u .to)
     (λ b l e. u .below b l (mine b e)) same (λ a b l k s t e. u .one a b l k (mine a s) (mine b t) e)
@@ -59,7 +61,8 @@ depth-among n channel first last c n′ channel′ first′ last′ c′ r u =
     same : (b : ℕ) → b < n → covers channel first last c r b ≡ true → covers channel′ first′ last′ c′ r (u .to b) ≡ true
     same b l e =
         let x = covers-fact channel first last c r b e in
-        covers-yes channel′ first′ last′ c′ r (u .to b) (u .there b l (x .0)) (omega (arith, x, u .firsts b l (x .0))) (omega (arith, x, u .lasts b l (x .0)))
+        covers-yes channel′ first′ last′ c′ r (u .to b) (u .there b l (x .0)) (omega (arith, x, u .firsts b l (x .0)))
+        (omega (arith, x, u .lasts b l (x .0)))
 
 module _ (n : ℕ) (channel first last : ℕ → ℕ) (small : n ≤ mostBundles) (i : Intervals n first last) where
   track : ℕ → ℕ
@@ -75,11 +78,14 @@ module _ (n : ℕ) (channel first last : ℕ → ℕ) (small : n ≤ mostBundles
   unfolding track
   lawful = record { apart = λ a b l m d s e. go a b l m d s e (decLt (turn first a) (turn first b)) }
     where
-      go : (a b : ℕ) → a < n → b < n → a ≢ b → meet channel first last a b ≡ true → track a ≡ track b → Dec (turn first a < turn first b) → ⊥
-      go a b l m d s e (yes t) = placed .done b m (turns b m) .free a l (blocks-yes channel first last a b (turn-earlier first a b (omega arith) t) s) e
+      go : (a b : ℕ) → a < n → b < n → a ≢ b → meet channel first last a b ≡ true → track a ≡ track b → Dec (turn first a < turn first b)
+          → ⊥
+      go a b l m d s e (yes t) =
+          placed .done b m (turns b m) .free a l (blocks-yes channel first last a b (turn-earlier first a b (omega arith) t) s) e
       go a b l m d s e (no t) =
           let o : turn first b < turn first a = other (ℕ-discrete (turn first a) (turn first b)) in
-          placed .done a l (turns a l) .free b m (blocks-yes channel first last b a (turn-earlier first b a (omega arith) o) (meet-sym channel first last a b s)) (sym e)
+          placed .done a l (turns a l) .free b m
+          (blocks-yes channel first last b a (turn-earlier first b a (omega arith) o) (meet-sym channel first last a b s)) (sym e)
         where
           other : Dec (turn first a ≡ turn first b) → turn first b < turn first a
           other (yes q) = absurd (d (omega arith))
@@ -88,9 +94,11 @@ module _ (n : ℕ) (channel first last : ℕ → ℕ) (small : n ≤ mostBundles
   -- where a bundle has track t, t + 1 bundles of its channel cover its first row
   stacked : (b : ℕ) → b < n → suc (track b) ≤ count n (covers channel first last (channel b) (first b))
   unfolding track
-  stacked b l = onto-count n (suc (track b)) (covers channel first last (channel b) (first b)) track (λ c m. go c m (ℕ-discrete c (track b)))
+  stacked b l =
+      onto-count n (suc (track b)) (covers channel first last (channel b) (first b)) track (λ c m. go c m (ℕ-discrete c (track b)))
     where
-      go : (c : ℕ) → c < suc (track b) → Dec (c ≡ track b) → (w : ℕ) × (w < n) × (covers channel first last (channel b) (first b) w ≡ true) × (track w ≡ c)
+      go : (c : ℕ) → c < suc (track b) → Dec (c ≡ track b)
+          → (w : ℕ) × (w < n) × (covers channel first last (channel b) (first b) w ≡ true) × (track w ≡ c)
       go c m (yes q) = (b, l, covers-yes channel first last (channel b) (first b) b refl (omega arith) (i .ordered b l), sym q)
       go c m (no q) =
           let f = placed .done b l (turns b l) .low c (omega arith) in
@@ -101,7 +109,8 @@ module _ (n : ℕ) (channel first last : ℕ → ℕ) (small : n ≤ mostBundles
 
   least : (c n′ : ℕ) (channel′ first′ last′ : ℕ → ℕ) (c′ : ℕ) (track′ : ℕ → ℕ) → Among n channel first last c n′ channel′ first′ last′ c′
       → Apart n′ channel′ first′ last′ track′ → above n (λ b. eqb (channel b) c) track ≤ differentIn n′ (λ b. eqb (channel′ b) c′) track′
-  least c n′ channel′ first′ last′ c′ track′ u w = above-le n (λ b. eqb (channel b) c) track (differentIn n′ (λ b. eqb (channel′ b) c′) track′) each
+  least c n′ channel′ first′ last′ c′ track′ u w =
+      above-le n (λ b. eqb (channel b) c) track (differentIn n′ (λ b. eqb (channel′ b) c′) track′) each
     where
       each : (b : ℕ) → b < n → eqb (channel b) c ≡ true → track b < differentIn n′ (λ b. eqb (channel′ b) c′) track′
       each b l e = omega (
@@ -125,7 +134,8 @@ module _ (n : ℕ) (channel first last : ℕ → ℕ) (small : n ≤ mostBundles
 
   counted : (c : ℕ) → differentIn n (λ b. eqb (channel b) c) track ≡ above n (λ b. eqb (channel b) c) track
   counted c = le-antisymm
-      (different-below n (above n (λ b. eqb (channel b) c) track) (λ b. eqb (channel b) c) track (λ b l e. above-each n (λ b. eqb (channel b) c) track b l e))
+      (different-below n (above n (λ b. eqb (channel b) c) track) (λ b. eqb (channel b) c) track
+      (λ b l e. above-each n (λ b. eqb (channel b) c) track b l e))
       (least c n channel first last c track (itself c) lawful)
 
 -- the rule's tracks are packed
@@ -135,5 +145,7 @@ unfolding track
 tracks-packed n channel first last small i = record {
   lawful = lawful n channel first last small i;
   counted = counted n channel first last small i;
-  least = λ c n′ channel′ first′ last′ c′ track′ u w. omega (arith, counted n channel first last small i c, least n channel first last small i c n′ channel′ first′ last′ c′ track′ u w);
+  least =
+      λ c n′ channel′ first′ last′ c′ track′ u w.
+      omega (arith, counted n channel first last small i c, least n channel first last small i c n′ channel′ first′ last′ c′ track′ u w);
 }

@@ -1,5 +1,6 @@
 -- Every bundle that had its turn has the lowest track that those before it left free. Assumes nothing.
-use Rattle.counting.proofs.Prelude.{_≡_, sym, ap, _∙_, _≢_, true, true≢false, List, ℕ, zero, suc, _+_, _*_, _≤_, _<_, arith, length, getD, set, length-set, length-replicate, eq-eqb, ne-eqb}
+use Rattle.counting.proofs.Prelude.{_≡_, sym, ap, _∙_, _≢_, true, true≢false, List, ℕ, zero, suc, _+_, _*_, _≤_, _<_, arith, length, getD}
+use Rattle.counting.proofs.Prelude.{set, length-set, length-replicate, eq-eqb, ne-eqb}
 use native.Mathlib.Nat.{not-suc-le-zero}
 use native.Mathlib.Decide.{ℕ-discrete, decLt}
 use lib.Seq.{getD-set-same, getD-set-other}

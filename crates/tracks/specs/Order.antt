@@ -34,5 +34,7 @@ pub record Intervals (n : ℕ) (first last : ℕ → ℕ) : Type 0 where
 pub record Packed (n : ℕ) (channel first last track : ℕ → ℕ) : Type 0 where
   pub lawful : Apart n channel first last track
   pub counted : (c : ℕ) → differentIn n (λ b. eqb (channel b) c) track ≡ above n (λ b. eqb (channel b) c) track
-  pub least : (c n′ : ℕ) (channel′ first′ last′ : ℕ → ℕ) (c′ : ℕ) (track′ : ℕ → ℕ) → Among n channel first last c n′ channel′ first′ last′ c′
-      → Apart n′ channel′ first′ last′ track′ → differentIn n (λ b. eqb (channel b) c) track ≤ differentIn n′ (λ b. eqb (channel′ b) c′) track′
+  pub least : (c n′ : ℕ) (channel′ first′ last′ : ℕ → ℕ) (c′ : ℕ) (track′ : ℕ → ℕ)
+      → Among n channel first last c n′ channel′ first′ last′ c′
+      → Apart n′ channel′ first′ last′ track′
+      → differentIn n (λ b. eqb (channel b) c) track ≤ differentIn n′ (λ b. eqb (channel′ b) c′) track′

@@ -21,7 +21,8 @@ bundleCount n spans = min n (min mostBundles (length spans / 4))
 abbrev pub tracksOf : ℕ → List ℕ → List ℕ
 tracksOf r spans = tracks r (quad 0 spans) (quad 1 spans) (endOf (quad 1 spans) (quad 2 spans))
 
--- r bundles count; the fourth number of each is its track now, and every other number is as it was; used′ has how many tracks each channel has
+-- r bundles count; the fourth number of each is its track now, and every other
+-- number is as it was; used′ has how many tracks each channel has
 pub record Tracked (n : ℕ) (spans used₀ : List ℕ) (r : ℕ) (spans′ used′ : List ℕ) : Type 0 where
   pub counted : r ≡ bundleCount n spans
   pub track : (b : ℕ) → b < r → quad 3 spans′ b ≡ getD (tracksOf r spans) b 0

@@ -15,10 +15,10 @@ returns-2 c =
 
 returns-3 : tie.Need-returns-3
 returns-3 c =
-    let test = c .before .before .before .before .before in
-    let call = test .before .before in
+    let fill-state = c .before .before in let test = fill-state .before .before .before in let call = test .before .before in
     let st = call .before in
-    add-done _ _ _ (st .before .before .if1 .left) _ (st .session-of .ensures) _ (call .add .ensures) (test .if2 .left) _ (c .before .before .fill-state .ensures)
+    add-done _ _ _ (st .before .before .if1 .left) _ (st .session-of .ensures) _ (call .add .ensures) (test .if2 .left) _
+    (fill-state .fill-state .ensures)
 
 pub ceviloneth-session-add-spec : {M : Type 1} → statement M
 ceviloneth-session-add-spec =

@@ -8,7 +8,9 @@ returns : tie.Need-returns
 returns c = tells-short _ _ _ (c .before .if1 .taken) _ (c .told .ensures)
 
 returns-2 : tie.Need-returns-2
-returns-2 c = let st = c .before .before in tells _ _ _ (st .before .if1 .left) _ (st .session-of .ensures) _ (c .before .leads .ensures) _ (c .told2 .ensures)
+returns-2 c =
+    let leads = c .before in let st = leads .before in
+    tells _ _ _ (st .before .if1 .left) _ (st .session-of .ensures) _ (leads .leads .ensures) _ (c .told2 .ensures)
 
 pub ceviloneth-session-leads-spec : {M : Type 1} → statement M
 ceviloneth-session-leads-spec =

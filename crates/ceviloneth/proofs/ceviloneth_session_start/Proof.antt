@@ -12,9 +12,8 @@ returns-2 c = let st = c .before .before in start-refused _ _ (st .before .if1 .
 
 returns-3 : tie.Need-returns-3
 returns-3 c =
-    let st = c .before .before .before .before .before in
-    let call = st .before .before in
-    start-done _ _ (call .before .if1 .left) _ (call .start .ensures) (st .if2 .left) _ (c .before .before .fill-state .ensures)
+    let fill-state = c .before .before in let st = fill-state .before .before .before in let call = st .before .before in
+    start-done _ _ (call .before .if1 .left) _ (call .start .ensures) (st .if2 .left) _ (fill-state .fill-state .ensures)
 
 pub ceviloneth-session-start-spec : {M : Type 1} → statement M
 ceviloneth-session-start-spec =

@@ -4,6 +4,10 @@ use Rattle.planning.proofs.Laying.{kept-same, kept-placed}
 use Rattle.channels.proofs.lay.Statement.{statement}
 use Rattle.channels.proofs.lay.Tie as tie
 
+-- the places that facts are read from
+abbrev start-of : tie.Else1 → tie.Start
+start-of c = c .before .before
+
 returns : tie.Need-returns
 returns c =
     let st = c .before .before in
@@ -17,18 +21,18 @@ returns c =
 
 opened-requires : tie.Need-opened-requires
 opened-requires c κs =
-    let st = c .before .before in
+    let st = start-of c in
     let room = c .if1 .left in
     let few = st .pre .1 in
     (omega arith, λ d. st .pre .3 (let q = st .pre .2 in omega arith))
 
 slice-write-places-2 : tie.Need-slice-write-places-2
-slice-write-places-2 c = simp length-set (omega (arith, c .before .before .before .pre .0))
+slice-write-places-2 c = simp length-set (omega (arith, start-of (c .before) .pre .0))
 
 returns-2 : tie.Need-returns-2
 returns-2 c =
     let o = c .opened .ensures in
-    let z = c .before .before .before .pre .1 in record {
+    let z = start-of (c .before) .pre .1 in record {
       opened = λ _. o .0;
       stored = λ _. refl;
       some = o .1;

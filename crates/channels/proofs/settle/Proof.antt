@@ -10,13 +10,15 @@ returns c =
 
 returns-2 : tie.Need-returns-2
 returns-2 c =
-    let a = c .before .before .args in
-    settled-short (a .fault) (a .vertices) (a .n) (c .before .if1 .left) (c .if2 .taken)
+    let if1 = c .before in
+    let a = if1 .before .args in
+    settled-short (a .fault) (a .vertices) (a .n) (if1 .if1 .left) (c .if2 .taken)
 
 returns-3 : tie.Need-returns-3
 returns-3 c =
-    let a = c .before .before .args in
-    settled-rest (a .fault) (a .vertices) (a .n) (c .before .if1 .left) (c .if2 .left)
+    let if1 = c .before in
+    let a = if1 .before .args in
+    settled-rest (a .fault) (a .vertices) (a .n) (if1 .if1 .left) (c .if2 .left)
 
 pub settle-spec : {M : Type 1} → statement M
 settle-spec = tie.close (tie.spec returns returns-2 returns-3)

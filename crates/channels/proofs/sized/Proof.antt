@@ -20,10 +20,12 @@ returns-4 c =
 
 returns-5 : tie.Need-returns-5
 returns-5 c =
+    let if3 = c .before in
     let some = c .if4 .left in
-    let few = c .before .before .if1 .left in
-    let room = c .before .if3 .left in
+    let few = if3 .before .if1 .left in
+    let room = if3 .if3 .left in
     record { short = λ l. absurd (omega arith); size = λ _. sym (size-taken _ (sized _ some few)); fits = λ _. (some, few, room) }
 
 pub sized-spec : {M : Type 1} → statement M
-sized-spec = tie.close (tie.spec (λ c. search needs) (λ c. search needs) returns-2 (λ c. search needs) (λ c. search needs) returns-4 returns-5)
+sized-spec =
+    tie.close (tie.spec (λ c. search needs) (λ c. search needs) returns-2 (λ c. search needs) (λ c. search needs) returns-4 returns-5)

@@ -18,37 +18,47 @@ abbrev μ-loop : tie.MeasureT-loop
 μ-loop n table field places₀ seen₀ fault₀ count₀ vertices₀ p₀ last₀ left₀ i₀
     places seen fault count vertices p last left i = length field - i
 
+-- the places that facts are read from
+abbrev start-of : tie.After-slice-known Inv-loop μ-loop → tie.Start Inv-loop μ-loop
+start-of c = c .before .before .before
+
+abbrev head-of : tie.Else1 Inv-loop μ-loop → tie.At-loop Inv-loop μ-loop
+head-of c = c .before .before .before .before
+
+abbrev turn-of : tie.After-wide Inv-loop μ-loop → tie.In-loop Inv-loop μ-loop
+turn-of c = c .before .before
+
 loop-holds : tie.Need-loop-holds Inv-loop μ-loop
 loop-holds c =
-    (omega arith, walking-none _ _ _, tabling-none _ _ _ (c .before .before .before .pre .3), kept-same _ _)
+    (omega arith, walking-none _ _ _, tabling-none _ _ _ (start-of c .pre .3), kept-same _ _)
 
 same-length : tie.Need-same-length Inv-loop μ-loop
-same-length c = c .before .before .before .before .before .loop .inv .3 .long
+same-length c = head-of (c .before) .loop .inv .3 .long
 
 returns : tie.Need-returns Inv-loop μ-loop
 returns c =
-    let o = c .before .before .before .before .before in
-    let st = o .before .before .before .before in
+    let if1 = c .before in let wide = if1 .before in let test = turn-of wide in let o = test .before in let st = start-of (o .before) in
     let l = o .loop in
-    let here = c .before .before .before .before .loop-test .taken in
+    let here = test .loop-test .taken in
     walks-refused _ _ _ _ _ (l .inv .3) _ refl
     (walked-unknown _ _ _ (l .i) here (l .left) (l .last) (l .seen) (l .vertices) (l .fault) (l .inv .1)
-    _ (c .before .before .wide .ensures .0) (c .before .if1 .left) (st .pre .0) (st .pre .1) (c .if2 .taken))
+    _ (wide .wide .ensures .0) (if1 .if1 .left) (st .pre .0) (st .pre .1) (c .if2 .taken))
 
 lay-requires : tie.Need-lay-requires Inv-loop μ-loop
 lay-requires c κs =
-    let o = c .before .before .before .before .before .before .before .before .before in
+    let if2 = c .before .before .before .before in let o = head-of (if2 .before) in
     let t = o .loop .inv .2 in
-    let v = c .before .before .before .before .if2 .left in
-    let pre = o .before .before .before .before .pre in
+    let v = if2 .if2 .left in
+    let pre = start-of (o .before) .pre in
     let small = pre .1 in
     (omega (arith, pre .2, o .loop .inv .3 .long), t .lines, t .place, t .some, omega arith)
 
 loop-again : tie.Need-loop-again Inv-loop μ-loop
 loop-again c =
-    let l = c .before .before .before .before .loop in
-    let here = c .before .before .before .loop-test .taken in
-    let byte = c .before .wide .ensures .0 in (
+    let wide = c .before in let test = turn-of wide in
+    let l = test .before .loop in
+    let here = test .loop-test .taken in
+    let byte = wide .wide .ensures .0 in (
       omega arith,
       walking-length _ _ _ (l .i) here (l .left) (l .last) (l .seen) (l .vertices) (l .fault) (l .inv .1) _ byte (c .if1 .taken),
       tabling-length _ _ (l .i) here (l .left) (l .p) (l .vertices) _ _ (l .inv .2) _ byte (c .if1 .taken),
@@ -57,17 +67,16 @@ loop-again c =
 
 loop-again-2 : tie.Need-loop-again-2 Inv-loop μ-loop
 loop-again-2 c =
-    let t = c .before .before .lay .ensures in
-    let w = c .before .before .before .before .before in
-    let y = w .before .before in
-    let d = y .before in
-    let byte = d .before .wide .ensures in
-    let h = d .before .before .before in
-    let l = h .before .loop in
-    let room = h .before .before .before .before .before .pre .2 in (
+    let lay = c .before .before in let w = lay .before .before .before in let y = w .before .before in let d = y .before in
+    let wide = d .before in let h = turn-of wide in let head = h .before in
+    let t = lay .lay .ensures in
+    let byte = wide .wide .ensures in
+    let l = head .loop in
+    let room = start-of (head .before) .pre .2 in (
       omega arith,
       walking-more _ _ _ (l .i) (h .loop-test .taken) (l .left) (l .last) (l .seen) (l .vertices) (l .fault) (l .inv .1)
-          _ (byte .0) (d .if1 .left) (byte .1) _ (w .weigh .ensures .1) (y .if2 .left) (w .weigh .kept .1 .0 ∙ l .inv .1 .masks) _ (w .weigh .ensures .0),
+          _ (byte .0) (d .if1 .left) (byte .1) _ (w .weigh .ensures .1) (y .if2 .left) (w .weigh .kept .1 .0 ∙ l .inv .1 .masks) _
+          (w .weigh .ensures .0),
       tabling-more _ _ (l .i) (h .loop-test .taken) (l .left) (l .p) (l .vertices) _ _ (l .inv .2) _ (byte .0)
           (l .inv .1 .counted) (d .if1 .left) (omega (arith, l .inv .3 .long)) _ _ t,
       kept-on _ _ _ (l .inv .3) _ (t .kept _ (y .if2 .left)),
@@ -78,10 +87,9 @@ same-length-2 c = c .before .before .loop .inv .3 .long
 
 returns-2 : tie.Need-returns-2 Inv-loop μ-loop
 returns-2 c =
-    let o = c .before .before in
-    let st = o .before .before .before .before in
+    let test = c .before in let o = test .before in let st = start-of (o .before) in
     let l = o .loop in
-    let done = c .before .loop-test .left in
+    let done = test .loop-test .left in
     walks-all _ _ _ _ _ (l .inv .3) _ (st .pre .1) (l .i) (l .left) (l .p) (l .vertices) (l .fault) (c .settle .ensures)
     (walked-all _ _ _ (st .pre .0) (st .pre .1) (l .i) (l .left) (l .last) (l .seen) (l .vertices) (l .fault) (l .inv .1) done)
     done (l .inv .2)

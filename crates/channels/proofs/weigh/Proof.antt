@@ -4,6 +4,13 @@ use Rattle.channels.proofs.Walking.{weighed-again, weighed-kept, weighe
 use Rattle.channels.proofs.weigh.Statement.{statement}
 use Rattle.channels.proofs.weigh.Tie as tie
 
+-- the places that facts are read from
+abbrev insert-of : tie.Else2 → tie.After-insert
+insert-of c = c .before .before .before
+
+abbrev else1-of : tie.After-insert → tie.Else1
+else1-of c = c .before .before
+
 returns : tie.Need-returns
 returns c =
     let e = sym (c .before .contains .ensures) ∙ c .if1 .taken in
@@ -11,23 +18,21 @@ returns c =
 
 returns-2 : tie.Need-returns-2
 returns-2 c =
-    let d = c .before .before .before .before .before in
+    let insert = c .before .before .before in let d = else1-of insert in
     let e = sym (d .before .contains .ensures) ∙ d .if1 .left in
-    (weighed-kept _ _ _ e (c .if2 .taken), λ _. c .before .before .before .insert .ensures .1)
+    (weighed-kept _ _ _ e (c .if2 .taken), λ _. insert .insert .ensures .1)
 
 returns-3 : tie.Need-returns-3
 returns-3 c =
-    let i = c .before .before .before .before .before in
-    let d = i .before .before in
+    let follows = c .before in let if2 = follows .before in let i = insert-of if2 in let d = else1-of i in
     let e = sym (d .before .contains .ensures) ∙ d .if1 .left in
-    (weighed-led _ _ _ e (c .before .before .if2 .left) (sym (c .before .follows .ensures) ∙ c .if3 .taken), λ _. i .insert .ensures .1)
+    (weighed-led _ _ _ e (if2 .if2 .left) (sym (follows .follows .ensures) ∙ c .if3 .taken), λ _. i .insert .ensures .1)
 
 returns-4 : tie.Need-returns-4
 returns-4 c =
-    let i = c .before .before .before .before .before in
-    let d = i .before .before in
+    let follows = c .before in let if2 = follows .before in let i = insert-of if2 in let d = else1-of i in
     let e = sym (d .before .contains .ensures) ∙ d .if1 .left in
-    (weighed-cut _ _ _ e (c .before .before .if2 .left) (sym (c .before .follows .ensures) ∙ c .if3 .left), λ _. i .insert .ensures .1)
+    (weighed-cut _ _ _ e (if2 .if2 .left) (sym (follows .follows .ensures) ∙ c .if3 .left), λ _. i .insert .ensures .1)
 
 pub weigh-spec : {M : Type 1} → statement M
 weigh-spec =

@@ -5,15 +5,15 @@ use Rattle.chart_entries.proofs.code_at.Tie as tie
 
 returns : tie.Need-returns
 returns c =
-    let st = c .before .before .before in
-    let ends = st .before .before .before .before in
+    let number-at2 = c .before in let number-at = number-at2 .before in let st = number-at .before in let byte-at3 = st .before in
+    let byte-at2 = byte-at3 .before in let byte-at = byte-at2 .before in let ends = byte-at .before in
     rw (
-      st .before .before .before .byte-at .ensures,
-      st .before .before .byte-at2 .ensures,
-      st .before .byte-at3 .ensures,
+      byte-at .byte-at .ensures,
+      byte-at2 .byte-at2 .ensures,
+      byte-at3 .byte-at3 .ensures,
       st .byte-at4 .ensures,
-      c .before .before .number-at .ensures,
-      c .before .number-at2 .ensures,
+      number-at .number-at .ensures,
+      number-at2 .number-at2 .ensures,
       ends .before .wide .ensures .0,
       ends .wide2 .ensures .0,
     ) at (c .kind-of .ensures)

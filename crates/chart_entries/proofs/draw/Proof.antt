@@ -14,8 +14,10 @@ use prog.Wp.{Heap, WpFn, Tables}
 use ghost.Atoms.{Atoms, sem}
 use contract.Monad.{Fun, fact}
 use contract.Running.{givenOf, tables, tablesOf}
-use types.Kit.{Given, Item, ‵, raw, _⊛_, some, later, ⋆, _$_, _∵_, !, qed, by, move, drop, use1, use3, split, join, pick, rewrite, fsplit, fjoin, suffices, frame, await, done}
-use types.Run.{look, init, forget, stop, hop, fld, from, load, of-opd, addr, and-then, no-more, assigns, land, returns, enter, alloc1, alloc0, params1, pass1, pass0, free1, free0}
+use types.Kit.{Given, Item, ‵, raw, _⊛_, some, later, ⋆, _$_, _∵_, !, qed, by, move, drop, use1, use3, split, join, pick, rewrite, fsplit}
+use types.Kit.{fjoin, suffices, frame, await, done}
+use types.Run.{look, init, forget, stop, hop, fld, from, load, of-opd, addr, and-then, no-more, assigns, land, returns, enter, alloc1}
+use types.Run.{alloc0, params1, pass1, pass0, free1, free0}
 use types.Part.{agg, whole, sub, look-in}
 use sound.WpLaws.{fmOf, WpFn-mono}
 use denote.RattleType.{owns}
@@ -51,7 +53,8 @@ use Rattle.specification.proofs.ChartCounts as Ct
 use Rattle.specification.proofs.ChartCounts.Laws as Ct′
 use Rattle.chart_entries.proofs.Calling.{HandC, hands}
 use Rattle.chart_entries.proofs.Handing.{of-graph}
-use Rattle.chart_entries.proofs.Passed.{Passed, partSlot, gave, spelled, told, gone, unsaid, lend, n₁, n₂, n₃, κs, qs, token₀, part, tokens, lists, finals, ending, gathered}
+use Rattle.chart_entries.proofs.Passed.{Passed, partSlot, gave, spelled, told, gone, unsaid, lend, n₁, n₂, n₃, κs, qs, token₀, part}
+use Rattle.chart_entries.proofs.Passed.{tokens, lists, finals, ending, gathered}
 use Rattle.chart_entries.proofs.sheet_of_graph as plan
 use Rattle.chart_entries.proofs.sheet_of_graph.Symbol as plan-def
 use Rattle.chart_entries.proofs.sheet_of_graph.Symbol.{name as #plan}
@@ -67,7 +70,10 @@ use Rattle.chart_entries.proofs.draw.Code.Mir as m
 
 -- the graph is dropped, and each list is given up to `hand_over`
 abbrev stayed : Stays (f.ended .signature .params) (f.ended .kept)
-stayed = (stay-dropped (plain (λ _. usize)) yes, (stay-dropped partSlot yes, (stay-dropped (plain (λ _. bool)) yes, (stay-dropped partSlot yes, gave))))
+stayed = (
+  stay-dropped (plain (λ _. usize)) yes,
+  (stay-dropped partSlot yes, (stay-dropped (plain (λ _. bool)) yes, (stay-dropped partSlot yes, gave))),
+)
 
 module _ {M : Type 1} (𝓤 : URA M) (H : Heap 𝓤) (A : Atoms 𝓤) (mem : Memory → SProp 𝓤) (run : Routine → Fun 𝓤) where
   abbrev PlanC : Contract 𝓤
@@ -81,7 +87,10 @@ module _ {M : Type 1} (𝓤 : URA M) (H : Heap 𝓤) (A : Atoms 𝓤) (W : Given
     (P : Passed) (n : ℕ) (y : RefT (List ℕ)) (given : Bool) (z : RefT (List ℕ)) (n-fits : n < 2 ^ 64)
     (is-y : Is (ShrSlice (named 0) (P .κ₀) u8) y (slice-vals y)) (is-z : Is (ShrSlice (named 0) (P .κ₀) u8) z (slice-vals z)) where
   abbrev Arg : Type 0
-  Arg = ℕ × (RefT (List ℕ) × (Bool × (RefT (List ℕ) × (RefT (List VertexEntry) × (RefT (List EdgeEntry) × (RefT (List BundleEntry) × Unit {0}))))))
+  Arg =
+      ℕ
+      × (RefT (List ℕ)
+      × (Bool × (RefT (List ℕ) × (RefT (List VertexEntry) × (RefT (List EdgeEntry) × (RefT (List BundleEntry) × Unit {0}))))))
 
   abbrev a : Arg
   a = (n, (y, (given, (z, (P .x₁, (P .x₂, (P .x₃, tt)))))))
@@ -90,7 +99,10 @@ module _ {M : Type 1} (𝓤 : URA M) (H : Heap 𝓤) (A : Atoms 𝓤) (W : Given
   Vs = List Val
 
   abbrev vals : Vs × (Vs × (Vs × (Vs × (Vs × (Vs × (Vs × Unit {0}))))))
-  vals = (vint w64 n ∷ [], (slice-vals y, (vbool given ∷ [], (slice-vals z, (slice-vals (P .x₁), (slice-vals (P .x₂), (slice-vals (P .x₃), tt)))))))
+  vals = (
+    vint w64 n ∷ [],
+    (slice-vals y, (vbool given ∷ [], (slice-vals z, (slice-vals (P .x₁), (slice-vals (P .x₂), (slice-vals (P .x₃), tt)))))),
+  )
 
   abbrev passed : Vs
   passed = vint w64 n ∷ sliceVal (y .ptr) (length (now y)) ∷ vbool given ∷ sliceVal (z .ptr) (length (now z))
@@ -110,7 +122,19 @@ module _ {M : Type 1} (𝓤 : URA M) (H : Heap 𝓤) (A : Atoms 𝓤) (W : Given
   args = (n, (y, (given, (z, (n₁ P, (n₂ P, (n₃ P, tt)))))))
 
   abbrev to-plan : PlanC 𝓤 H A mem run .Ghost
-  to-plan = (((P .κ₀, tt), (P .q₀, tt), tt, args, (vint w64 n ∷ [], (slice-vals y, (vbool given ∷ [], (slice-vals z, (vint w64 (n₁ P) ∷ [], (vint w64 (n₂ P) ∷ [], (vint w64 (n₃ P) ∷ [], tt)))))))), tt)
+  to-plan = (
+    (
+      (P .κ₀, tt),
+      (P .q₀, tt),
+      tt,
+      args,
+      (
+        vint w64 n ∷ [],
+        (slice-vals y, (vbool given ∷ [], (slice-vals z, (vint w64 (n₁ P) ∷ [], (vint w64 (n₂ P) ∷ [], (vint w64 (n₃ P) ∷ [], tt)))))),
+      ),
+    ),
+    tt,
+  )
 
   abbrev bytes : List (Item 𝓤)
   bytes = ‵ (token₀ P) ∷ ‵ (part P y) ∷ ‵ (part P z) ∷ []
@@ -138,7 +162,12 @@ module _ {M : Type 1} (𝓤 : URA M) (H : Heap 𝓤) (A : Atoms 𝓤) (W : Given
 
   starts : ent 𝓤 (onEntry 𝓤 H A f.signature (κs P) (qs P) a vals) (⋆ 𝓤 H A starting)
   starts =
-      qed W (tokens P 𝓤 H A W ∷ ‵ (owns (usize ∷ ShrSlice (named 0) (P .κ₀) u8 ∷ bool ∷ ShrSlice (named 0) (P .κ₀) u8 ∷ MutSlice (named 1) (P .κ₁) Vt.the-row ∷ MutSlice (named 2) (P .κ₂) Et.the-row ∷ MutSlice (named 3) (P .κ₃) Bt.the-row ∷ []) a vals) ∷ []) ∵
+      qed W
+      (tokens P 𝓤 H A W
+      ∷ ‵
+      (owns
+      (usize ∷ ShrSlice (named 0) (P .κ₀) u8 ∷ bool ∷ ShrSlice (named 0) (P .κ₀) u8 ∷ MutSlice (named 1) (P .κ₁) Vt.the-row
+      ∷ MutSlice (named 2) (P .κ₂) Et.the-row ∷ MutSlice (named 3) (P .κ₃) Bt.the-row ∷ []) a vals) ∷ []) ∵
       split ! $ move ! (1 ∷ []) $ split ! $ move ! (1 ∷ []) $ split ! $ move ! (1 ∷ []) $ split ! $ move ! (1 ∷ []) $ drop ! $
       -- [t₃; t₂; t₁; t₀; what is owned]
       move ! (4 ∷ []) $ fsplit ! $ drop ! $ fsplit ! $ move ! (1 ∷ []) $ fsplit ! $ drop ! $ fsplit ! $ move ! (1 ∷ []) $ fsplit ! $
@@ -147,16 +176,19 @@ module _ {M : Type 1} (𝓤 : URA M) (H : Heap 𝓤) (A : Atoms 𝓤) (W : Given
       move ! (8 ∷ 4 ∷ 3 ∷ 7 ∷ 2 ∷ 6 ∷ 1 ∷ 5 ∷ 0 ∷ []) $ done !
 
   module _ (d : Sheet) (r : ChartCounts) (w : Val) (zs₁ : List VertexEntry) (zs₂ : List EdgeEntry) (zs₃ : List BundleEntry) where
-    exits : Plan d → Leaves d (now y) (now (P .x₁)) (now (P .x₂)) (now (P .x₃)) r zs₁ zs₂ zs₃ → ent 𝓤 (⋆ 𝓤 H A (ending P 𝓤 H A W r w zs₁ zs₂ zs₃)) (Post w)
+    exits : Plan d → Leaves d (now y) (now (P .x₁)) (now (P .x₂)) (now (P .x₃)) r zs₁ zs₂ zs₃
+        → ent 𝓤 (⋆ 𝓤 H A (ending P 𝓤 H A W r w zs₁ zs₂ zs₃)) (Post w)
     exits pl e =
         qed W (raw (⋆ 𝓤 H A (ending P 𝓤 H A W r w zs₁ zs₂ zs₃)) ∷ []) ∵
         suffices ! _ (ends-at 𝓤 H A f.ended stayed (f.clauses 𝓤 H A mem run) W bound w r (tt, (tt, (tt, (tt, (zs₁, (zs₂, (zs₃, tt)))))))
         (tt, (tt, (tt, (tt, (e .vertices .as-long, (e .edges .as-long, (e .bundles .as-long, tt)))))))) $
         says ! (of-graph _ _ _ _ _ _ d r n (now y) given (now z) pl e) $
-        use1 W (tokens P 𝓤 H A W ⊛ ‵ (finals P 𝓤 H A W r w zs₁ zs₂ zs₃) ⊛ ‵ (Ct.the-row .own r (w ∷ []))) (gathered P 𝓤 H A W r w zs₁ zs₂ zs₃) $
+        use1 W (tokens P 𝓤 H A W ⊛ ‵ (finals P 𝓤 H A W r w zs₁ zs₂ zs₃) ⊛ ‵ (Ct.the-row .own r (w ∷ [])))
+        (gathered P 𝓤 H A W r w zs₁ zs₂ zs₃) $
         split ! $ frame ! $ split ! $ nothing ! $ fjoin ! $ nothing ! $ fjoin ! $ nothing ! $ fjoin ! $ nothing ! $ fjoin ! $ done !
 
-  walk : (𝓣 : Tables 𝓤 H) → Known 𝓤 H A mem run 𝓣 → ent 𝓤 (onEntry 𝓤 H A f.signature (κs P) (qs P) a vals) (WpFn 𝓤 H (𝓣 .C) (𝓣 .Λ) code.function passed Post)
+  walk : (𝓣 : Tables 𝓤 H) → Known 𝓤 H A mem run 𝓣
+      → ent 𝓤 (onEntry 𝓤 H A f.signature (κs P) (qs P) a vals) (WpFn 𝓤 H (𝓣 .C) (𝓣 .Λ) code.function passed Post)
   walk 𝓣 known = via 𝓤 _ starts
       (qed W starting ∵ enter ! (𝓣 .C) (𝓣 .Λ) code.function passed _ $
       alloc1 ! (λ l₀. alloc1 ! (λ l₁. alloc1 ! (λ l₂. alloc1 ! (λ l₃. alloc1 ! (λ l₄. alloc1 ! (λ l₅. alloc1 ! (λ l₆.
@@ -169,33 +201,57 @@ module _ {M : Type 1} (𝓤 : URA M) (H : Heap 𝓤) (A : Atoms 𝓤) (W : Given
       pass1 ! (init ! 24 refl (tt, (tt, (record { fits = P .fits₁ .0 }, tt)))) $
       pass1 ! (init ! 22 refl (tt, (tt, (record { fits = P .fits₂ .0 }, tt)))) $
       pass1 ! (init ! 20 refl (tt, (tt, (record { fits = P .fits₃ .0 }, tt)))) $ pass0 ! $
-      assigns ! (of-opd ! (load ! (from ! (fld ! refl (stop !))) (look-in ! 24 (sub ! 1 refl (whole !))))) (from ! (stop !)) (init ! 16 refl (tt, record { fits = P .fits₁ .0 })) $
-      assigns ! (of-opd ! (load ! (from ! (fld ! refl (stop !))) (look-in ! 22 (sub ! 1 refl (whole !))))) (from ! (stop !)) (init ! 14 refl (tt, record { fits = P .fits₂ .0 })) $
-      assigns ! (of-opd ! (load ! (from ! (fld ! refl (stop !))) (look-in ! 20 (sub ! 1 refl (whole !))))) (from ! (stop !)) (init ! 12 refl (tt, record { fits = P .fits₃ .0 })) $
+      assigns ! (of-opd ! (load ! (from ! (fld ! refl (stop !))) (look-in ! 24 (sub ! 1 refl (whole !))))) (from ! (stop !))
+      (init ! 16 refl (tt, record { fits = P .fits₁ .0 })) $
+      assigns ! (of-opd ! (load ! (from ! (fld ! refl (stop !))) (look-in ! 22 (sub ! 1 refl (whole !))))) (from ! (stop !))
+      (init ! 14 refl (tt, record { fits = P .fits₂ .0 })) $
+      assigns ! (of-opd ! (load ! (from ! (fld ! refl (stop !))) (look-in ! 20 (sub ! 1 refl (whole !))))) (from ! (stop !))
+      (init ! 12 refl (tt, record { fits = P .fits₃ .0 })) $
       -- [_17; …; _0; t₀; the ends; the field; t₁; x₁; t₂; x₂; t₃; x₃]
       move ! (37 ∷ []) $ use1 W (‵ (part P y) ⊛ ‵ (part P y)) (shr-slice-copy 𝓤 H A W (named 0) (P .κ₀) u8 .twice y (slice-vals y)) $
       split ! $ move ! (38 ∷ 0 ∷ 39 ∷ []) $
       use3 W (raw (PlanC 𝓤 H A mem run .pre to-plan)) asks $
       -- [what `sheet_of_graph` asks; the ends; _17; …; _0; t₁; x₁; t₂; x₂; t₃; x₃]
       calls-at ! (fmOf 𝓤 H (W .laws) 𝓣) (PlanC 𝓤 H A mem run) (known .of-plan) to-plan
-      (and-then ! (load ! (from ! (stop !)) (look ! 34 refl)) (and-then ! (load ! (from ! (stop !)) (look ! 32 refl)) (and-then ! (load ! (from ! (stop !)) (look ! 30 refl)) (and-then ! (load ! (from ! (stop !)) (look ! 28 refl)) (and-then ! (load ! (from ! (stop !)) (look ! 18 refl)) (and-then ! (load ! (from ! (stop !)) (look ! 16 refl)) (and-then ! (load ! (from ! (stop !)) (look ! 14 refl)) (no-more !)))))))) (λ v.
-      use1 W (later (some (λ (d : Sheet). ((‵ (token₀ P) ⊛ ‵ ftrue) ⊛ ‵ (S.the-row .own d (v ∷ []))) ⊛ raw (said d)))) (id⊢ 𝓤 _) $ await ! tt $ pick ! (λ d.
+      (and-then ! (load ! (from ! (stop !)) (look ! 34 refl))
+      (and-then ! (load ! (from ! (stop !)) (look ! 32 refl))
+      (and-then ! (load ! (from ! (stop !)) (look ! 30 refl))
+      (and-then ! (load ! (from ! (stop !)) (look ! 28 refl))
+      (and-then ! (load ! (from ! (stop !)) (look ! 18 refl))
+      (and-then ! (load ! (from ! (stop !)) (look ! 16 refl)) (and-then ! (load ! (from ! (stop !)) (look ! 14 refl)) (no-more !))))))))
+      (λ v.
+      use1 W (later (some (λ (d : Sheet). ((‵ (token₀ P) ⊛ ‵ ftrue) ⊛ ‵ (S.the-row .own d (v ∷ []))) ⊛ raw (said d)))) (id⊢ 𝓤 _) $
+      await ! tt $ pick ! (λ d.
       split ! $ move ! (1 ∷ []) $ use1 W (raw (fact 𝓤 (Plan d))) (tells d) $ heard ! (Plan d) (λ pl. split ! $ split ! $
       move ! (1 ∷ []) $ drop ! $
       move ! (1 ∷ []) $ peeks ! S.the-row (Is S.the-row) (shows 𝓤 H A S.the-row) d (v ∷ []) (λ is. drop ! $
       land ! (from ! (stop !)) (init ! 20 refl (LL.lawful S.the-type S′.the-laws 𝓤 H A W .typed d _ is .0)) $
-      rewrite ! 20 (λ (w : Val). ‵ (fat fullShare (spell m.table (pointee (S.the-row .written))) l₈ 0 w)) (ap only (LL.tells S.the-type S′.the-laws d _ is)) refl $
+      rewrite ! 20 (λ (w : Val). ‵ (fat fullShare (spell m.table (pointee (S.the-row .written))) l₈ 0 w))
+      (ap only (LL.tells S.the-type S′.the-laws d _ is)) refl $
       let is-d : Is S.the-row d (LL.vals S.the-type S′.the-laws d) = subst (Is S.the-row d) (LL.tells S.the-type S′.the-laws d _ is) is in
       -- [t₀; the ends; _17; …; _0; t₁; x₁; t₂; x₂; t₃; x₃]
-      assigns ! (addr ! (from ! (fld ! refl (hop ! (look-in ! 26 (sub ! 0 refl (whole !))) (stop !))))) (from ! (stop !)) (init ! 12 refl (tt, tt)) $
-      assigns ! (agg ! (and-then ! (load ! (from ! (stop !)) (look ! 12 refl)) (and-then ! (load ! (from ! (fld ! refl (stop !))) (look-in ! 26 (sub ! 1 refl (whole !)))) (no-more !)))) (from ! (stop !)) (init ! 10 refl (tt, (tt, (record { fits = P .fits₁ .0 }, tt)))) $
-      assigns ! (addr ! (from ! (fld ! refl (hop ! (look-in ! 24 (sub ! 0 refl (whole !))) (stop !))))) (from ! (stop !)) (init ! 8 refl (tt, tt)) $
-      assigns ! (agg ! (and-then ! (load ! (from ! (stop !)) (look ! 8 refl)) (and-then ! (load ! (from ! (fld ! refl (stop !))) (look-in ! 24 (sub ! 1 refl (whole !)))) (no-more !)))) (from ! (stop !)) (init ! 6 refl (tt, (tt, (record { fits = P .fits₂ .0 }, tt)))) $
-      assigns ! (addr ! (from ! (fld ! refl (hop ! (look-in ! 22 (sub ! 0 refl (whole !))) (stop !))))) (from ! (stop !)) (init ! 4 refl (tt, tt)) $
-      assigns ! (agg ! (and-then ! (load ! (from ! (stop !)) (look ! 4 refl)) (and-then ! (load ! (from ! (fld ! refl (stop !))) (look-in ! 22 (sub ! 1 refl (whole !)))) (no-more !)))) (from ! (stop !)) (init ! 2 refl (tt, (tt, (record { fits = P .fits₃ .0 }, tt)))) $
+      assigns ! (addr ! (from ! (fld ! refl (hop ! (look-in ! 26 (sub ! 0 refl (whole !))) (stop !))))) (from ! (stop !))
+      (init ! 12 refl (tt, tt)) $
+      assigns ! (agg ! (and-then ! (load ! (from ! (stop !)) (look ! 12 refl))
+      (and-then ! (load ! (from ! (fld ! refl (stop !))) (look-in ! 26 (sub ! 1 refl (whole !)))) (no-more !)))) (from ! (stop !))
+      (init ! 10 refl (tt, (tt, (record { fits = P .fits₁ .0 }, tt)))) $
+      assigns ! (addr ! (from ! (fld ! refl (hop ! (look-in ! 24 (sub ! 0 refl (whole !))) (stop !))))) (from ! (stop !))
+      (init ! 8 refl (tt, tt)) $
+      assigns ! (agg ! (and-then ! (load ! (from ! (stop !)) (look ! 8 refl))
+      (and-then ! (load ! (from ! (fld ! refl (stop !))) (look-in ! 24 (sub ! 1 refl (whole !)))) (no-more !)))) (from ! (stop !))
+      (init ! 6 refl (tt, (tt, (record { fits = P .fits₂ .0 }, tt)))) $
+      assigns ! (addr ! (from ! (fld ! refl (hop ! (look-in ! 22 (sub ! 0 refl (whole !))) (stop !))))) (from ! (stop !))
+      (init ! 4 refl (tt, tt)) $
+      assigns ! (agg ! (and-then ! (load ! (from ! (stop !)) (look ! 4 refl))
+      (and-then ! (load ! (from ! (fld ! refl (stop !))) (look-in ! 22 (sub ! 1 refl (whole !)))) (no-more !)))) (from ! (stop !))
+      (init ! 2 refl (tt, (tt, (record { fits = P .fits₃ .0 }, tt)))) $
       move ! (0 ∷ 1 ∷ 38 ∷ 39 ∷ 40 ∷ 41 ∷ 42 ∷ 43 ∷ []) $
       hands 𝓤 H A mem run W P y d is-d (pl .room) 𝓣 (known .of-hand)
-      (and-then ! (load ! (from ! (stop !)) (look ! 19 refl)) (and-then ! (load ! (from ! (stop !)) (look ! 31 refl)) (and-then ! (load ! (from ! (stop !)) (look ! 9 refl)) (and-then ! (load ! (from ! (stop !)) (look ! 5 refl)) (and-then ! (load ! (from ! (stop !)) (look ! 1 refl)) (no-more !)))))) (λ r w zs₁ zs₂ zs₃ e is-r.
+      (and-then ! (load ! (from ! (stop !)) (look ! 19 refl))
+      (and-then ! (load ! (from ! (stop !)) (look ! 31 refl))
+      (and-then ! (load ! (from ! (stop !)) (look ! 9 refl))
+      (and-then ! (load ! (from ! (stop !)) (look ! 5 refl)) (and-then ! (load ! (from ! (stop !)) (look ! 1 refl)) (no-more !))))))
+      (λ r w zs₁ zs₂ zs₃ e is-r.
       -- [the answer; the last lists and the tokens; _17; …]
       land ! (from ! (stop !)) (init ! 42 refl (LL.lawful Ct.the-type Ct′.the-laws 𝓤 H A W .typed r _ is-r .0)) $
       returns ! (look ! 42 refl) $
@@ -212,17 +268,29 @@ module _ {M : Type 1} (𝓤 : URA M) (H : Heap 𝓤) (A : Atoms 𝓤) (W : Given
       by ! (exits d r w zs₁ zs₂ zs₃ pl e)))))))))))))))))))))))))
 
 module _ {M : Type 1} (𝓤 : URA M) (H : Heap 𝓤) (A : Atoms 𝓤) (W : Given 𝓤 H A) (mem : Memory → SProp 𝓤) (run : Routine → Fun 𝓤) where
-  draw-walks : (𝓣 : Tables 𝓤 H) → Known 𝓤 H A mem run 𝓣 → Walks 𝓤 H A f.ended stayed (WpFn 𝓤 H (𝓣 .C) (𝓣 .Λ) code.function) (f.clauses 𝓤 H A mem run)
+  draw-walks : (𝓣 : Tables 𝓤 H) → Known 𝓤 H A mem run 𝓣
+      → Walks 𝓤 H A f.ended stayed (WpFn 𝓤 H (𝓣 .C) (𝓣 .Λ) code.function) (f.clauses 𝓤 H A mem run)
   draw-walks 𝓣 known = walked 𝓤 H A f.ended stayed (f.clauses 𝓤 H A mem run) (WpFn 𝓤 H (𝓣 .C) (𝓣 .Λ) code.function)
       (λ κs. (uint-vals w64, (slice-vals, (bool-vals, (slice-vals, spelled κs)))))
       (λ κs. (uint-tells w64, (shr-slice-tells (named 0) (κs .0) u8, (bool-tells, (shr-slice-tells (named 0) (κs .0) u8, told κs)))))
-      (λ κs qs bounds a g are. via 𝓤 _ (fst∗ 𝓤 _ (emp 𝓤)) (walk 𝓤 H A W mem run (lend κs qs (a .1 .1 .1 .1) (are .1 .1 .1 .1)) (a .0) (a .1 .0) (a .1 .1 .0) (a .1 .1 .1 .0) (are .0 .1) (are .1 .0) (are .1 .1 .1 .0) 𝓣 known))
+      (λ κs qs bounds a g are. via 𝓤 _ (fst∗ 𝓤 _ (emp 𝓤))
+      (walk 𝓤 H A W mem run (lend κs qs (a .1 .1 .1 .1) (are .1 .1 .1 .1)) (a .0) (a .1 .0) (a .1 .1 .0) (a .1 .1 .1 .0) (are .0 .1)
+      (are .1 .0) (are .1 .1 .1 .0) 𝓣 known))
 
   goes : AllGo 𝓤 H A W 4 (f.signature .params) (f.ended .kept) stayed
-  goes = (unsaid 𝓤 H A W (plain (λ _. usize)) (λ κs x f. refl), (unsaid 𝓤 H A W partSlot (λ κs x f. refl), (unsaid 𝓤 H A W (plain (λ _. bool)) (λ κs x f. refl), (unsaid 𝓤 H A W partSlot (λ κs x f. refl), gone 𝓤 H A W))))
+  goes = (
+    unsaid 𝓤 H A W (plain (λ _. usize)) (λ κs x f. refl),
+    (
+      unsaid 𝓤 H A W partSlot (λ κs x f. refl),
+      (unsaid 𝓤 H A W (plain (λ _. bool)) (λ κs x f. refl), (unsaid 𝓤 H A W partSlot (λ κs x f. refl), gone 𝓤 H A W)),
+    ),
+  )
 
-  draw-meets : (𝓣 : Tables 𝓤 H) → Known 𝓤 H A mem run 𝓣 → Meets 𝓤 H A f.signature (WpFn 𝓤 H (𝓣 .C) (𝓣 .Λ) code.function) (f.spec 𝓤 H A mem run)
-  draw-meets 𝓣 known = walk-meets 𝓤 H A f.ended stayed W goes (f.clauses 𝓤 H A mem run) (WpFn 𝓤 H (𝓣 .C) (𝓣 .Λ) code.function) (WpFn-mono 𝓤 H (W .laws) 𝓣 code.function) (draw-walks 𝓣 known)
+  draw-meets : (𝓣 : Tables 𝓤 H) → Known 𝓤 H A mem run 𝓣
+      → Meets 𝓤 H A f.signature (WpFn 𝓤 H (𝓣 .C) (𝓣 .Λ) code.function) (f.spec 𝓤 H A mem run)
+  draw-meets 𝓣 known =
+      walk-meets 𝓤 H A f.ended stayed W goes (f.clauses 𝓤 H A mem run) (WpFn 𝓤 H (𝓣 .C) (𝓣 .Λ) code.function)
+      (WpFn-mono 𝓤 H (W .laws) 𝓣 code.function) (draw-walks 𝓣 known)
 
 pub draw-spec : {M : Type 1} → stated.statement M
 unfolding code.routine tablesOf
@@ -230,6 +298,10 @@ draw-spec 𝓤 H 𝓜 𝓖 𝓡 =
     entered 𝓤 H (tripleOf 𝓤 H (𝓖 .A) f.signature (f.spec 𝓤 H (𝓖 .A) (𝓜 .mem) (𝓡 .run)))
     (tables 𝓤 H 𝓜 𝓡 code.env .C) (tables 𝓤 H 𝓜 𝓡 code.env .Λ) #draw code.function (code.unfolded 𝓤 H 𝓜 𝓡)
     (draw-meets 𝓤 H (𝓖 .A) (givenOf 𝓤 H 𝓜 𝓖) (𝓜 .mem) (𝓡 .run) (tablesOf 𝓤 H 𝓜 (tables 𝓤 H 𝓜 𝓡 code.env)) (record {
-      of-plan = cited 𝓤 H (PlanC 𝓤 H (𝓖 .A) (𝓜 .mem) (𝓡 .run)) 𝓜 𝓡 code.env #plan plan-def.routine code.calls-chart-entries·sheet-of-graph (plan-thm.met 𝓤 H 𝓜 𝓖 𝓡);
-      of-hand = cited 𝓤 H (HandC 𝓤 H (𝓖 .A) (𝓜 .mem) (𝓡 .run)) 𝓜 𝓡 code.env #hand hand-def.routine code.calls-chart-entries·hand-over (hand-thm.met 𝓤 H 𝓜 𝓖 𝓡);
+      of-plan =
+          cited 𝓤 H (PlanC 𝓤 H (𝓖 .A) (𝓜 .mem) (𝓡 .run)) 𝓜 𝓡 code.env #plan plan-def.routine code.calls-chart-entries·sheet-of-graph
+          (plan-thm.met 𝓤 H 𝓜 𝓖 𝓡);
+      of-hand =
+          cited 𝓤 H (HandC 𝓤 H (𝓖 .A) (𝓜 .mem) (𝓡 .run)) 𝓜 𝓡 code.env #hand hand-def.routine code.calls-chart-entries·hand-over
+          (hand-thm.met 𝓤 H 𝓜 𝓖 𝓡);
     }))

@@ -6,8 +6,9 @@ use Rattle.chart_entries.proofs.edge_at.Tie as tie
 
 returns : tie.Need-returns
 returns c =
-    edge-made _ _ _ _ _ _ _ (c .before .before .before .byte-at .ensures) (c .before .before .byte-at2 .ensures)
-    (c .before .kind-at .ensures) (c .mark-at .ensures)
+    let kind-at = c .before in let byte-at2 = kind-at .before in
+    edge-made _ _ _ _ _ _ _ (byte-at2 .before .byte-at .ensures) (byte-at2 .byte-at2 .ensures)
+    (kind-at .kind-at .ensures) (c .mark-at .ensures)
 
 pub edge-at-spec : {M : Type 1} → statement M
 edge-at-spec =

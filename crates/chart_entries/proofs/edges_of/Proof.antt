@@ -8,29 +8,37 @@ use Rattle.chart_entries.proofs.Sheets.{ends-bad, ends-read}
 use Rattle.chart_entries.proofs.edges_of.Statement.{statement}
 use Rattle.chart_entries.proofs.edges_of.Tie as tie
 
+-- the places that facts are read from
+abbrev start-of : tie.After-layout → tie.Start
+start-of c = c .before .before .before .before
+
 -- the fields that were found stand as they must
-good : (c : tie.After-layout) → layoutOf (c .before .before .before .before .args .bytes .now) ≡ Good (c .layout .given .0 .0)
+good : (c : tie.After-layout) → layoutOf (start-of c .args .bytes .now) ≡ Good (c .layout .given .0 .0)
 good c = case-layout _ _ _ (c .before .before .layout-of .ensures) (c .layout .given .1)
 
-laid : (c : tie.After-layout) → LaidOut (c .before .before .before .before .args .bytes .now) (c .layout .given .0 .0)
+laid : (c : tie.After-layout) → LaidOut (start-of c .args .bytes .now) (c .layout .given .0 .0)
 laid c = layout-good _ _ (good c)
 
 enum-told : tie.Need-enum-told
 enum-told c = search needs
 
 returns : tie.Need-returns
-returns c = ends-bad _ (case-layout _ _ _ (c .before .before .before .layout-of .ensures) (c .before .enum-told .given .1))
+returns c =
+    let enum-told = c .before in
+    ends-bad _ (case-layout _ _ _ (enum-told .before .before .layout-of .ensures) (enum-told .enum-told .given .1))
 
 mul-to : tie.Need-mul-to
 mul-to c =
-    let k = laid (c .before .before) in
-    let known = c .before .before .before .before .before .before .good .0 in
+    let layout = c .before .before in
+    let k = laid layout in
+    let known = start-of layout .good .0 in
     record { fits = omega arith }
 
 add-to : tie.Need-add-to
 add-to c =
-    let k = laid (c .before .before) in
-    let known = c .before .before .before .before .before .before .good .0 in
+    let layout = c .before .before in
+    let k = laid layout in
+    let known = start-of layout .good .0 in
     record { fits = omega arith }
 
 part-result-end : tie.Need-part-result-end

@@ -26,6 +26,8 @@ unfolding code.routine tablesOf
 fill-vertices-spec 𝓤 H 𝓜 𝓖 𝓡 =
     entered 𝓤 H (tripleOf 𝓤 H (𝓖 .A) f.signature (f.spec 𝓤 H (𝓖 .A) (𝓜 .mem) (𝓡 .run)))
     (tables 𝓤 H 𝓜 𝓡 code.env .C) (tables 𝓤 H 𝓜 𝓡 code.env .Λ) #fill code.function (code.unfolded 𝓤 H 𝓜 𝓡)
-    (fill-meets sheet T.the-type vertexAt 128 T′.the-laws #entry (spell m.table (pointee (S.the-row .written))) 𝓤 H (𝓖 .A) (givenOf 𝓤 H 𝓜 𝓖) tt
+    (fill-meets sheet T.the-type vertexAt 128 T′.the-laws #entry (spell m.table (pointee (S.the-row .written))) 𝓤 H (𝓖 .A) (givenOf 𝓤 H 𝓜 𝓖)
+    tt
     (λ d is. LL.lawful S.the-type S′.the-laws 𝓤 H (𝓖 .A) (givenOf 𝓤 H 𝓜 𝓖) .typed d _ is .0) (tablesOf 𝓤 H 𝓜 (tables 𝓤 H 𝓜 𝓡 code.env))
-    (cited 𝓤 H (Entry sheet T.the-type vertexAt 128 𝓤 H (𝓖 .A)) 𝓜 𝓡 code.env #entry entry-def.routine code.calls-chart-entries·vertex-at (entry-thm.met 𝓤 H 𝓜 𝓖 𝓡)))
+    (cited 𝓤 H (Entry sheet T.the-type vertexAt 128 𝓤 H (𝓖 .A)) 𝓜 𝓡 code.env #entry entry-def.routine code.calls-chart-entries·vertex-at
+    (entry-thm.met 𝓤 H 𝓜 𝓖 𝓡)))

@@ -13,8 +13,10 @@ use prog.Wp.{Heap, WpFn, Tables}
 use ghost.Atoms.{Atoms, sem}
 use contract.Monad.{Fun, fact}
 use contract.Running.{givenOf, tables, tablesOf}
-use types.Kit.{Given, ‵, raw, _⊛_, some, later, ⋆, _$_, _∵_, !, qed, by, move, drop, use0, use1, split, join, pick, fsplit, fjoin, suffices, frame, await, done}
-use types.Run.{look, init, store, forget, stop, hop, fld, from, load, addr, and-then, no-more, assigns, land, returns, enter, alloc1, alloc0, params1, pass1, pass0, free1, free0}
+use types.Kit.{Given, ‵, raw, _⊛_, some, later, ⋆, _$_, _∵_, !, qed, by, move, drop, use0, use1, split, join, pick, fsplit, fjoin, suffices}
+use types.Kit.{frame, await, done}
+use types.Run.{look, init, store, forget, stop, hop, fld, from, load, addr, and-then, no-more, assigns, land, returns, enter, alloc1}
+use types.Run.{alloc0, params1, pass1, pass0, free1, free0}
 use types.Part.{agg, whole, sub, look-in}
 use sound.WpLaws.{fmOf, WpFn-mono}
 use denote.RattleType.{owns}
@@ -51,7 +53,8 @@ use Rattle.chart_entries.proofs.Sheet.Laws as S′
 use Rattle.specification.proofs.ChartCounts as Ct
 use Rattle.specification.proofs.ChartCounts.Laws as Ct′
 use Rattle.chart_entries.proofs.Source.{sheet}
-use Rattle.chart_entries.proofs.Passed.{Passed, partSlot, gave, spelled, told, gone, unsaid, lend, n₁, n₂, n₃, κs, qs, tokens, finals, ending, gathered}
+use Rattle.chart_entries.proofs.Passed.{Passed, partSlot, gave, spelled, told, gone, unsaid, lend, n₁, n₂, n₃, κs, qs, tokens}
+use Rattle.chart_entries.proofs.Passed.{finals, ending, gathered}
 use Rattle.chart_entries.proofs.summary as summary
 use Rattle.chart_entries.proofs.summary.Symbol as summary-def
 use Rattle.chart_entries.proofs.summary.Symbol.{name as #summary}
@@ -86,7 +89,8 @@ module _ {M : Type 1} (𝓤 : URA M) (H : Heap 𝓤) (A : Atoms 𝓤) (mem : Mem
     pub of-summary : Triple 𝓤 (𝓣 .C #summary) SummaryC
 
 module _ {M : Type 1} (𝓤 : URA M) (H : Heap 𝓤) (A : Atoms 𝓤) (W : Given 𝓤 H A) (mem : Memory → SProp 𝓤) (run : Routine → Fun 𝓤)
-    (P : Passed) (d : Sheet) (y : RefT (List ℕ)) (is-d : Is S.the-row d (LL.vals S.the-type S′.the-laws d)) (is-y : Is (ShrSlice (named 0) (P .κ₀) u8) y (slice-vals y))
+    (P : Passed) (d : Sheet) (y : RefT (List ℕ)) (is-d : Is S.the-row d (LL.vals S.the-type S′.the-laws d))
+    (is-y : Is (ShrSlice (named 0) (P .κ₀) u8) y (slice-vals y))
     (room : Room d (n₁ P) (n₂ P) (n₃ P)) where
   abbrev Arg : Type 0
   Arg = Sheet × (RefT (List ℕ) × (RefT (List VertexEntry) × (RefT (List EdgeEntry) × (RefT (List BundleEntry) × Unit {0}))))
@@ -104,7 +108,9 @@ module _ {M : Type 1} (𝓤 : URA M) (H : Heap 𝓤) (A : Atoms 𝓤) (W : Given
   vals = (v ∷ [], (slice-vals y, (slice-vals (P .x₁), (slice-vals (P .x₂), (slice-vals (P .x₃), tt)))))
 
   abbrev passed : Vs
-  passed = v ∷ sliceVal (y .ptr) (length (now y)) ∷ sliceVal (P .x₁ .ptr) (n₁ P) ∷ sliceVal (P .x₂ .ptr) (n₂ P) ∷ sliceVal (P .x₃ .ptr) (n₃ P) ∷ []
+  passed =
+      v ∷ sliceVal (y .ptr) (length (now y)) ∷ sliceVal (P .x₁ .ptr) (n₁ P) ∷ sliceVal (P .x₂ .ptr) (n₂ P) ∷ sliceVal (P .x₃ .ptr) (n₃ P)
+      ∷ []
 
   abbrev bound : walkOf 𝓤 H A f.ended stayed (f.clauses 𝓤 H A mem run) .Ghost
   bound = ((κs P, qs P, tt, a, vals), tt)
@@ -125,23 +131,32 @@ module _ {M : Type 1} (𝓤 : URA M) (H : Heap 𝓤) (A : Atoms 𝓤) (W : Given
       owned ! S.the-row (Is S.the-row) ((LL.makes S.the-type S′.the-plain) 𝓤 H A) d _ is-d $ fjoin ! $ nothing ! $ join ! $ frame ! $
       done !
 
-  said-summary : (r : ChartCounts) → ent 𝓤 (ensured 𝓤 H A summary.ended (summary.clauses 𝓤 H A mem run) tt (d, (firm, tt)) tt r) (fact 𝓤 (r ≡ summaryOf d firm))
+  said-summary : (r : ChartCounts)
+      → ent 𝓤 (ensured 𝓤 H A summary.ended (summary.clauses 𝓤 H A mem run) tt (d, (firm, tt)) tt r) (fact 𝓤 (r ≡ summaryOf d firm))
   said-summary r = exE 𝓤 _ (λ zs. snd∗ 𝓤 (sem 𝓤 H A (lasts summary.ended tt (d, (firm, tt)) zs)) (fact 𝓤 (r ≡ summaryOf d firm)))
 
   -- ---- the end
   module _ (r : ChartCounts) (w : Val) (zs₁ : List VertexEntry) (zs₂ : List EdgeEntry) (zs₃ : List BundleEntry) where
-    exits : Leaves d (now y) (now (P .x₁)) (now (P .x₂)) (now (P .x₃)) r zs₁ zs₂ zs₃ → ent 𝓤 (⋆ 𝓤 H A (ending P 𝓤 H A W r w zs₁ zs₂ zs₃)) (Post w)
+    exits : Leaves d (now y) (now (P .x₁)) (now (P .x₂)) (now (P .x₃)) r zs₁ zs₂ zs₃
+        → ent 𝓤 (⋆ 𝓤 H A (ending P 𝓤 H A W r w zs₁ zs₂ zs₃)) (Post w)
     exits e =
         qed W (raw (⋆ 𝓤 H A (ending P 𝓤 H A W r w zs₁ zs₂ zs₃)) ∷ []) ∵
-        suffices ! _ (ends-at 𝓤 H A f.ended stayed (f.clauses 𝓤 H A mem run) W bound w r (tt, (tt, (zs₁, (zs₂, (zs₃, tt))))) (tt, (tt, (e .vertices .as-long, (e .edges .as-long, (e .bundles .as-long, tt)))))) $
-        says ! e $ use1 W (tokens P 𝓤 H A W ⊛ ‵ (finals P 𝓤 H A W r w zs₁ zs₂ zs₃) ⊛ ‵ (Ct.the-row .own r (w ∷ []))) (gathered P 𝓤 H A W r w zs₁ zs₂ zs₃) $
+        suffices ! _
+        (ends-at 𝓤 H A f.ended stayed (f.clauses 𝓤 H A mem run) W bound w r (tt, (tt, (zs₁, (zs₂, (zs₃, tt)))))
+        (tt, (tt, (e .vertices .as-long, (e .edges .as-long, (e .bundles .as-long, tt)))))) $
+        says ! e $ use1 W (tokens P 𝓤 H A W ⊛ ‵ (finals P 𝓤 H A W r w zs₁ zs₂ zs₃) ⊛ ‵ (Ct.the-row .own r (w ∷ [])))
+        (gathered P 𝓤 H A W r w zs₁ zs₂ zs₃) $
         split ! $ frame ! $ split ! $ nothing ! $ fjoin ! $ nothing ! $ fjoin ! $ done !
 
-  walk : (𝓣 : Tables 𝓤 H) → Known 𝓤 H A mem run 𝓣 → ent 𝓤 (onEntry 𝓤 H A f.signature (κs P) (qs P) a vals) (WpFn 𝓤 H (𝓣 .C) (𝓣 .Λ) code.function passed Post)
+  walk : (𝓣 : Tables 𝓤 H) → Known 𝓤 H A mem run 𝓣
+      → ent 𝓤 (onEntry 𝓤 H A f.signature (κs P) (qs P) a vals) (WpFn 𝓤 H (𝓣 .C) (𝓣 .Λ) code.function passed Post)
   walk 𝓣 known =
       let owed = LL.owed S.the-type S′.the-laws d _ is-d in
       qed W (tokens P 𝓤 H A W
-      ∷ ‵ (owns (S.the-row ∷ ShrSlice (named 0) (P .κ₀) u8 ∷ MutSlice (named 1) (P .κ₁) Vt.the-row ∷ MutSlice (named 2) (P .κ₂) Et.the-row ∷ MutSlice (named 3) (P .κ₃) Bt.the-row ∷ []) a vals) ∷ []) ∵
+      ∷ ‵
+      (owns
+      (S.the-row ∷ ShrSlice (named 0) (P .κ₀) u8 ∷ MutSlice (named 1) (P .κ₁) Vt.the-row ∷ MutSlice (named 2) (P .κ₂) Et.the-row
+      ∷ MutSlice (named 3) (P .κ₃) Bt.the-row ∷ []) a vals) ∷ []) ∵
       enter ! (𝓣 .C) (𝓣 .Λ) code.function passed _ $
       alloc1 ! (λ l₀. alloc1 ! (λ l₁. alloc1 ! (λ l₂. alloc1 ! (λ l₃. alloc1 ! (λ l₄. alloc1 ! (λ l₅. alloc1 ! (λ l₆.
       alloc1 ! (λ l₇. alloc1 ! (λ l₈. alloc1 ! (λ l₉. alloc1 ! (λ l₁₀. alloc1 ! (λ l₁₁. alloc1 ! (λ l₁₂. alloc1 ! (λ l₁₃. alloc0 ! $
@@ -157,28 +172,55 @@ module _ {M : Type 1} (𝓤 : URA M) (H : Heap 𝓤) (A : Atoms 𝓤) (W : Given
       move ! (32 ∷ []) $ split ! $ move ! (1 ∷ []) $ split ! $ move ! (1 ∷ []) $ split ! $ move ! (1 ∷ []) $ split ! $ move ! (1 ∷ []) $
       drop ! $
       -- [t₃; t₂; t₁; t₀; x₃; x₂; x₁; the part; _13; …]
-      assigns ! (addr ! (from ! (fld ! refl (hop ! (look-in ! 28 (sub ! 0 refl (whole !))) (stop !))))) (from ! (stop !)) (init ! 18 refl (tt, tt)) $
-      assigns ! (agg ! (and-then ! (load ! (from ! (stop !)) (look ! 18 refl)) (and-then ! (load ! (from ! (fld ! refl (stop !))) (look-in ! 28 (sub ! 1 refl (whole !)))) (no-more !)))) (from ! (stop !)) (init ! 16 refl (tt, (tt, (record { fits = P .fits₁ .0 }, tt)))) $
-      move ! (2 ∷ 6 ∷ []) $ fills sheet Vt.the-type vertexAt 128 𝓤 H A W (P .κ₁) (P .q₁) (P .x₁) d (d .vertices) is-d (owed .1 .0 .1) (room .vertices) (room .bounded .vertices) 𝓣 #vertices (known .of-vertices)
-      (and-then ! (load ! (from ! (stop !)) (look ! 15 refl)) (and-then ! (load ! (from ! (stop !)) (look ! 31 refl)) (and-then ! (load ! (from ! (fld ! refl (stop !))) (look-in ! 31 (sub ! 1 refl (whole !)))) (no-more !)))) (λ zs₁ e₁ len₁ u₁ ty₁.
+      assigns ! (addr ! (from ! (fld ! refl (hop ! (look-in ! 28 (sub ! 0 refl (whole !))) (stop !))))) (from ! (stop !))
+      (init ! 18 refl (tt, tt)) $
+      assigns ! (agg ! (and-then ! (load ! (from ! (stop !)) (look ! 18 refl))
+      (and-then ! (load ! (from ! (fld ! refl (stop !))) (look-in ! 28 (sub ! 1 refl (whole !)))) (no-more !)))) (from ! (stop !))
+      (init ! 16 refl (tt, (tt, (record { fits = P .fits₁ .0 }, tt)))) $
+      move ! (2 ∷ 6 ∷ []) $
+      fills sheet Vt.the-type vertexAt 128 𝓤 H A W (P .κ₁) (P .q₁) (P .x₁) d (d .vertices) is-d (owed .1 .0 .1) (room .vertices)
+      (room .bounded .vertices) 𝓣 #vertices (known .of-vertices)
+      (and-then ! (load ! (from ! (stop !)) (look ! 15 refl))
+      (and-then ! (load ! (from ! (stop !)) (look ! 31 refl))
+      (and-then ! (load ! (from ! (fld ! refl (stop !))) (look-in ! 31 (sub ! 1 refl (whole !)))) (no-more !)))) (λ zs₁ e₁ len₁ u₁ ty₁.
       land ! (from ! (stop !)) (init ! 20 refl ty₁) $
       -- [t₁; the vertices' last list; t₃; t₂; t₀; x₃; x₂; the part; _13; …]
-      assigns ! (addr ! (from ! (fld ! refl (hop ! (look-in ! 26 (sub ! 0 refl (whole !))) (stop !))))) (from ! (stop !)) (init ! 14 refl (tt, tt)) $
-      assigns ! (agg ! (and-then ! (load ! (from ! (stop !)) (look ! 14 refl)) (and-then ! (load ! (from ! (fld ! refl (stop !))) (look-in ! 26 (sub ! 1 refl (whole !)))) (no-more !)))) (from ! (stop !)) (init ! 12 refl (tt, (tt, (record { fits = P .fits₂ .0 }, tt)))) $
+      assigns ! (addr ! (from ! (fld ! refl (hop ! (look-in ! 26 (sub ! 0 refl (whole !))) (stop !))))) (from ! (stop !))
+      (init ! 14 refl (tt, tt)) $
+      assigns ! (agg ! (and-then ! (load ! (from ! (stop !)) (look ! 14 refl))
+      (and-then ! (load ! (from ! (fld ! refl (stop !))) (look-in ! 26 (sub ! 1 refl (whole !)))) (no-more !)))) (from ! (stop !))
+      (init ! 12 refl (tt, (tt, (record { fits = P .fits₂ .0 }, tt)))) $
       move ! (3 ∷ 6 ∷ 4 ∷ 7 ∷ []) $
-      tallies sheet Et.the-type edgeAt reduced? 4096 𝓤 H A W (P .κ₂) (P .κ₀) (P .q₂) (P .q₀) (P .x₂) y d (d .edges) is-d (owed .1 .1 .0 .1) (room .edges) (room .bounded .edges) 𝓣 #edges (known .of-edges)
-      (and-then ! (load ! (from ! (stop !)) (look ! 9 refl)) (and-then ! (load ! (from ! (stop !)) (look ! 27 refl)) (and-then ! (load ! (from ! (stop !)) (look ! 29 refl)) (and-then ! (load ! (from ! (fld ! refl (stop !))) (look-in ! 29 (sub ! 2 refl (whole !)))) (no-more !))))) (λ zs₂ e₂ len₂ fits.
+      tallies sheet Et.the-type edgeAt reduced? 4096 𝓤 H A W (P .κ₂) (P .κ₀) (P .q₂) (P .q₀) (P .x₂) y d (d .edges) is-d (owed .1 .1 .0 .1)
+      (room .edges) (room .bounded .edges) 𝓣 #edges (known .of-edges)
+      (and-then ! (load ! (from ! (stop !)) (look ! 9 refl))
+      (and-then ! (load ! (from ! (stop !)) (look ! 27 refl))
+      (and-then ! (load ! (from ! (stop !)) (look ! 29 refl))
+      (and-then ! (load ! (from ! (fld ! refl (stop !))) (look-in ! 29 (sub ! 2 refl (whole !)))) (no-more !))))) (λ zs₂ e₂ len₂ fits.
       land ! (from ! (stop !)) (init ! 21 refl (tt, record { fits = fits })) $
       -- [t₂; the edges' last list; t₀; t₁; the vertices'; t₃; x₃; _13; …]
-      assigns ! (addr ! (from ! (fld ! refl (hop ! (look-in ! 23 (sub ! 0 refl (whole !))) (stop !))))) (from ! (stop !)) (init ! 9 refl (tt, tt)) $
-      assigns ! (agg ! (and-then ! (load ! (from ! (stop !)) (look ! 9 refl)) (and-then ! (load ! (from ! (fld ! refl (stop !))) (look-in ! 23 (sub ! 1 refl (whole !)))) (no-more !)))) (from ! (stop !)) (init ! 7 refl (tt, (tt, (record { fits = P .fits₃ .0 }, tt)))) $
-      move ! (5 ∷ 6 ∷ []) $ fills sheet Bt.the-type bundleAt 256 𝓤 H A W (P .κ₃) (P .q₃) (P .x₃) d (d .bundles) is-d (owed .1 .1 .1 .0 .1) (room .bundles) (room .bounded .bundles) 𝓣 #bundles (known .of-bundles)
-      (and-then ! (load ! (from ! (stop !)) (look ! 6 refl)) (and-then ! (load ! (from ! (stop !)) (look ! 30 refl)) (and-then ! (load ! (from ! (fld ! refl (stop !))) (look-in ! 30 (sub ! 3 refl (whole !)))) (no-more !)))) (λ zs₃ e₃ len₃ u₃ ty₃.
+      assigns ! (addr ! (from ! (fld ! refl (hop ! (look-in ! 23 (sub ! 0 refl (whole !))) (stop !))))) (from ! (stop !))
+      (init ! 9 refl (tt, tt)) $
+      assigns ! (agg ! (and-then ! (load ! (from ! (stop !)) (look ! 9 refl))
+      (and-then ! (load ! (from ! (fld ! refl (stop !))) (look-in ! 23 (sub ! 1 refl (whole !)))) (no-more !)))) (from ! (stop !))
+      (init ! 7 refl (tt, (tt, (record { fits = P .fits₃ .0 }, tt)))) $
+      move ! (5 ∷ 6 ∷ []) $
+      fills sheet Bt.the-type bundleAt 256 𝓤 H A W (P .κ₃) (P .q₃) (P .x₃) d (d .bundles) is-d (owed .1 .1 .1 .0 .1) (room .bundles)
+      (room .bounded .bundles) 𝓣 #bundles (known .of-bundles)
+      (and-then ! (load ! (from ! (stop !)) (look ! 6 refl))
+      (and-then ! (load ! (from ! (stop !)) (look ! 30 refl))
+      (and-then ! (load ! (from ! (fld ! refl (stop !))) (look-in ! 30 (sub ! 3 refl (whole !)))) (no-more !)))) (λ zs₃ e₃ len₃ u₃ ty₃.
       land ! (from ! (stop !)) (store ! 19 refl ty₃) $ move ! (0 ∷ 1 ∷ 2 ∷ 3 ∷ 5 ∷ 6 ∷ []) $
       -- [t₃; the bundles' last list; t₂; the edges'; t₁; the vertices'; t₀; _13; …]
       use0 W (raw (SummaryC 𝓤 H A mem run .pre to-summary)) (goes-summary fits) $
-      calls-at ! (fmOf 𝓤 H (W .laws) 𝓣) (SummaryC 𝓤 H A mem run) (known .of-summary) to-summary (and-then ! (load ! (from ! (stop !)) (look ! 32 refl)) (and-then ! (load ! (from ! (stop !)) (look ! 22 refl)) (no-more !))) (λ w.
-      use1 W (later (some (λ (r : ChartCounts). (‵ ftrue ⊛ ‵ (Ct.the-row .own r (w ∷ []))) ⊛ raw (ensured 𝓤 H A summary.ended (summary.clauses 𝓤 H A mem run) tt (d, (firm, tt)) tt r)))) (id⊢ 𝓤 _) $ await ! tt $ pick ! (λ r.
+      calls-at ! (fmOf 𝓤 H (W .laws) 𝓣) (SummaryC 𝓤 H A mem run) (known .of-summary) to-summary
+      (and-then ! (load ! (from ! (stop !)) (look ! 32 refl)) (and-then ! (load ! (from ! (stop !)) (look ! 22 refl)) (no-more !)))
+      (λ w.
+      use1 W
+      (later
+      (some (λ (r : ChartCounts). (‵ ftrue ⊛ ‵ (Ct.the-row .own r (w ∷ [])))
+      ⊛ raw (ensured 𝓤 H A summary.ended (summary.clauses 𝓤 H A mem run) tt (d, (firm, tt)) tt r)))) (id⊢ 𝓤 _) $ await ! tt $
+      pick ! (λ r.
       split ! $ move ! (1 ∷ []) $ use1 W (raw (fact 𝓤 (r ≡ summaryOf d firm))) (said-summary r) $
       heard ! (r ≡ summaryOf d firm) (λ e. split ! $ drop ! $
       peeks ! Ct.the-row (Is Ct.the-row) (shows 𝓤 H A Ct.the-row) r (w ∷ []) (λ is-r.
@@ -194,17 +236,22 @@ module _ {M : Type 1} (𝓤 : URA M) (H : Heap 𝓤) (A : Atoms 𝓤) (W : Given
       by ! (exits r w zs₁ zs₂ zs₃ (record { answer = e; vertices = e₁; edges = e₂; bundles = e₃ })))))))))))))))))))))))
 
 module _ {M : Type 1} (𝓤 : URA M) (H : Heap 𝓤) (A : Atoms 𝓤) (W : Given 𝓤 H A) (mem : Memory → SProp 𝓤) (run : Routine → Fun 𝓤) where
-  hand-walks : (𝓣 : Tables 𝓤 H) → Known 𝓤 H A mem run 𝓣 → Walks 𝓤 H A f.ended stayed (WpFn 𝓤 H (𝓣 .C) (𝓣 .Λ) code.function) (f.clauses 𝓤 H A mem run)
+  hand-walks : (𝓣 : Tables 𝓤 H) → Known 𝓤 H A mem run 𝓣
+      → Walks 𝓤 H A f.ended stayed (WpFn 𝓤 H (𝓣 .C) (𝓣 .Λ) code.function) (f.clauses 𝓤 H A mem run)
   hand-walks 𝓣 known = walked 𝓤 H A f.ended stayed (f.clauses 𝓤 H A mem run) (WpFn 𝓤 H (𝓣 .C) (𝓣 .Λ) code.function)
       (λ κs. (LL.vals S.the-type S′.the-laws, (slice-vals, spelled κs)))
       (λ κs. (LL.tells S.the-type S′.the-laws, (shr-slice-tells (named 0) (κs .0) u8, told κs)))
-      (λ κs qs bounds a g are. needs 𝓤 _ _ (λ room. walk 𝓤 H A W mem run (lend κs qs (a .1 .1) (are .1 .1)) (a .0) (a .1 .0) (are .0) (are .1 .0) room 𝓣 known))
+      (λ κs qs bounds a g are. needs 𝓤 _ _
+      (λ room. walk 𝓤 H A W mem run (lend κs qs (a .1 .1) (are .1 .1)) (a .0) (a .1 .0) (are .0) (are .1 .0) room 𝓣 known))
 
   goes : AllGo 𝓤 H A W 4 (f.signature .params) (f.ended .kept) stayed
   goes = (unsaid 𝓤 H A W (plain (λ _. S.the-row)) (λ κs x f. refl), (unsaid 𝓤 H A W partSlot (λ κs x f. refl), gone 𝓤 H A W))
 
-  hand-meets : (𝓣 : Tables 𝓤 H) → Known 𝓤 H A mem run 𝓣 → Meets 𝓤 H A f.signature (WpFn 𝓤 H (𝓣 .C) (𝓣 .Λ) code.function) (f.spec 𝓤 H A mem run)
-  hand-meets 𝓣 known = walk-meets 𝓤 H A f.ended stayed W goes (f.clauses 𝓤 H A mem run) (WpFn 𝓤 H (𝓣 .C) (𝓣 .Λ) code.function) (WpFn-mono 𝓤 H (W .laws) 𝓣 code.function) (hand-walks 𝓣 known)
+  hand-meets : (𝓣 : Tables 𝓤 H) → Known 𝓤 H A mem run 𝓣
+      → Meets 𝓤 H A f.signature (WpFn 𝓤 H (𝓣 .C) (𝓣 .Λ) code.function) (f.spec 𝓤 H A mem run)
+  hand-meets 𝓣 known =
+      walk-meets 𝓤 H A f.ended stayed W goes (f.clauses 𝓤 H A mem run) (WpFn 𝓤 H (𝓣 .C) (𝓣 .Λ) code.function)
+      (WpFn-mono 𝓤 H (W .laws) 𝓣 code.function) (hand-walks 𝓣 known)
 
 pub hand-over-spec : {M : Type 1} → stated.statement M
 unfolding code.routine tablesOf
@@ -212,8 +259,16 @@ hand-over-spec 𝓤 H 𝓜 𝓖 𝓡 =
     entered 𝓤 H (tripleOf 𝓤 H (𝓖 .A) f.signature (f.spec 𝓤 H (𝓖 .A) (𝓜 .mem) (𝓡 .run)))
     (tables 𝓤 H 𝓜 𝓡 code.env .C) (tables 𝓤 H 𝓜 𝓡 code.env .Λ) #hand code.function (code.unfolded 𝓤 H 𝓜 𝓡)
     (hand-meets 𝓤 H (𝓖 .A) (givenOf 𝓤 H 𝓜 𝓖) (𝓜 .mem) (𝓡 .run) (tablesOf 𝓤 H 𝓜 (tables 𝓤 H 𝓜 𝓡 code.env)) (record {
-      of-vertices = cited 𝓤 H (Fill sheet Vt.the-type vertexAt 128 𝓤 H (𝓖 .A)) 𝓜 𝓡 code.env #vertices vertices-def.routine code.calls-chart-entries·fill-vertices (vertices-thm.met 𝓤 H 𝓜 𝓖 𝓡);
-      of-edges = cited 𝓤 H (Tally sheet Et.the-type edgeAt reduced? 4096 𝓤 H (𝓖 .A)) 𝓜 𝓡 code.env #edges edges-def.routine code.calls-chart-entries·fill-edges (edges-thm.met 𝓤 H 𝓜 𝓖 𝓡);
-      of-bundles = cited 𝓤 H (Fill sheet Bt.the-type bundleAt 256 𝓤 H (𝓖 .A)) 𝓜 𝓡 code.env #bundles bundles-def.routine code.calls-chart-entries·fill-bundles (bundles-thm.met 𝓤 H 𝓜 𝓖 𝓡);
-      of-summary = cited 𝓤 H (SummaryC 𝓤 H (𝓖 .A) (𝓜 .mem) (𝓡 .run)) 𝓜 𝓡 code.env #summary summary-def.routine code.calls-chart-entries·summary (summary-thm.met 𝓤 H 𝓜 𝓖 𝓡);
+      of-vertices =
+          cited 𝓤 H (Fill sheet Vt.the-type vertexAt 128 𝓤 H (𝓖 .A)) 𝓜 𝓡 code.env #vertices vertices-def.routine
+          code.calls-chart-entries·fill-vertices (vertices-thm.met 𝓤 H 𝓜 𝓖 𝓡);
+      of-edges =
+          cited 𝓤 H (Tally sheet Et.the-type edgeAt reduced? 4096 𝓤 H (𝓖 .A)) 𝓜 𝓡 code.env #edges edges-def.routine
+          code.calls-chart-entries·fill-edges (edges-thm.met 𝓤 H 𝓜 𝓖 𝓡);
+      of-bundles =
+          cited 𝓤 H (Fill sheet Bt.the-type bundleAt 256 𝓤 H (𝓖 .A)) 𝓜 𝓡 code.env #bundles bundles-def.routine
+          code.calls-chart-entries·fill-bundles (bundles-thm.met 𝓤 H 𝓜 𝓖 𝓡);
+      of-summary =
+          cited 𝓤 H (SummaryC 𝓤 H (𝓖 .A) (𝓜 .mem) (𝓡 .run)) 𝓜 𝓡 code.env #summary summary-def.routine code.calls-chart-entries·summary
+          (summary-thm.met 𝓤 H 𝓜 𝓖 𝓡);
     }))

@@ -9,11 +9,15 @@ use Rattle.chart_entries.proofs.Sheets.{refused-sheet, record-sheet}
 use Rattle.chart_entries.proofs.sheet_of_record.Statement.{statement}
 use Rattle.chart_entries.proofs.sheet_of_record.Tie as tie
 
+-- the places that facts are read from
+abbrev start-of : tie.After-layout → tie.Start
+start-of c = c .before .before .before .before
+
 -- the fields that were found stand as they must
-good : (c : tie.After-layout) → layoutOf (c .before .before .before .before .args .bytes .now) ≡ Good (c .layout .given .0 .0)
+good : (c : tie.After-layout) → layoutOf (start-of c .args .bytes .now) ≡ Good (c .layout .given .0 .0)
 good c = case-layout _ _ _ (c .before .before .layout-of .ensures) (c .layout .given .1)
 
-laid : (c : tie.After-layout) → LaidOut (c .before .before .before .before .args .bytes .now) (c .layout .given .0 .0)
+laid : (c : tie.After-layout) → LaidOut (start-of c .args .bytes .now) (c .layout .given .0 .0)
 laid c = layout-good _ _ (good c)
 
 enum-told : tie.Need-enum-told
@@ -21,25 +25,29 @@ enum-told c = search needs
 
 returns : tie.Need-returns
 returns c =
-    let bad = case-layout _ _ _ (c .before .before .before .layout-of .ensures) (c .before .enum-told .given .1) in
+    let enum-told = c .before in
+    let bad = case-layout _ _ _ (enum-told .before .before .layout-of .ensures) (enum-told .enum-told .given .1) in
     refused-sheet _ _ _ _ _ _ _ (record-bad _ bad) (c .blank .ensures)
 
 mul-to : tie.Need-mul-to
 mul-to c =
-    let k = laid (c .before .before) in
-    let known = c .before .before .before .before .before .before .good .0 in
+    let layout = c .before .before in
+    let k = laid layout in
+    let known = start-of layout .good .0 in
     record { fits = omega arith }
 
 add-to : tie.Need-add-to
 add-to c =
-    let k = laid (c .before .before) in
-    let known = c .before .before .before .before .before .before .good .0 in
+    let layout = c .before .before in
+    let k = laid layout in
+    let known = start-of layout .good .0 in
     record { fits = omega arith }
 
 add-end : tie.Need-add-end
 add-end c =
-    let k = laid (c .before .before .before) in
-    let known = c .before .before .before .before .before .before .before .good .0 in
+    let layout = c .before .before .before in
+    let k = laid layout in
+    let known = start-of layout .good .0 in
     record { fits = omega arith }
 
 part-sheet-of-graph-end : tie.Need-part-sheet-of-graph-end
@@ -49,7 +57,9 @@ part-sheet-of-graph-end-2 : tie.Need-part-sheet-of-graph-end-2
 part-sheet-of-graph-end-2 c = let k = laid (c .before .before .before .before) in omega arith
 
 returns-2 : tie.Need-returns-2
-returns-2 c = record-sheet _ _ (good (c .before .before .before .before .before .before)) _ _ _ _ (c .sheet-of-graph .ensures)
+returns-2 c =
+    let layout = c .before .before .before .before .before .before in
+    record-sheet _ _ (good layout) _ _ _ _ (c .sheet-of-graph .ensures)
 
 pub sheet-of-record-spec : {M : Type 1} → statement M
 sheet-of-record-spec =

@@ -7,7 +7,8 @@ use Rattle.chart_numbers.proofs.drawn.Tie as tie
 abbrev made : tie.After-hand-over-arg11 → tie.After-planned
 made c =
     let lent = c .before .before .before .before .before .before .before .before .before .before .before .before in
-    lent .before .before .before .before .before .before .before .before .before .before .before .before .before .before .before .before .before
+    lent .before .before .before .before .before .before .before .before .before .before .before .before .before .before .before .before
+    .before
 
 abbrev start : tie.After-planned → tie.Start
 start c =

@@ -62,7 +62,8 @@ module _ (g : Given) where
 
   unfoldable pub kindAt : ℕ → Kind
   kindAt e =
-      kindAmong (quad 0 (g .places) (tailAt e)) (quad 0 (g .places) (headAt e)) (quad 1 (g .places) (tailAt e)) (quad 1 (g .places) (headAt e))
+      kindAmong (quad 0 (g .places) (tailAt e)) (quad 0 (g .places) (headAt e)) (quad 1 (g .places) (tailAt e))
+      (quad 1 (g .places) (headAt e))
       (getD (g .number) (2 * headAt e) 0) (getD (g .number) (2 * tailAt e + 1) 0) (g .columns) (g .places) (g .below) (g .left) (tailAt e)
       (headAt e)
 

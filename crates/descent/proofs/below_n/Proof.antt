@@ -23,7 +23,8 @@ returns : tie.Need-returns
 returns c =
     let n = c .before .args .n in
     let l = c .if1 .taken in
-    below-law n n 0 _ _ (made n l) refl (made-fits n l) (omega arith) (λ v h. ((λ q. q), λ q. q)) (λ v h. ((λ q. absurd (omega arith)), λ q. absurd (omega arith)))
+    below-law n n 0 _ _ (made n l) refl (made-fits n l) (omega arith) (λ v h. ((λ q. q), λ q. q))
+    (λ v h. ((λ q. absurd (omega arith)), λ q. absurd (omega arith)))
 
 sub-t10 : tie.Need-sub-t10
 sub-t10 c = made-some (c .before .before .args .n - 64) (omega arith)
@@ -32,12 +33,15 @@ returns-2 : tie.Need-returns-2
 returns-2 c =
     let n = c .before .before .args .n in
     let l : n - 64 < 64 = omega arith in
-    below-law n 64 (n - 64) _ _ refl (made (n - 64) l) (omega arith) (made-fits (n - 64) l) (λ v h. ((λ q. omega arith), λ q. h)) (λ v h. ((λ q. omega arith), λ q. omega arith))
+    below-law n 64 (n - 64) _ _ refl (made (n - 64) l) (omega arith) (made-fits (n - 64) l) (λ v h. ((λ q. omega arith), λ q. h))
+    (λ v h. ((λ q. omega arith), λ q. omega arith))
 
 returns-3 : tie.Need-returns-3
 returns-3 c =
-    let n = c .before .before .args .n in
-    below-law n 64 64 _ _ refl refl (omega arith) (omega arith) (λ v h. ((λ q. omega arith), λ q. h)) (λ v h. ((λ q. omega (arith, c .before .before .pre)), λ q. h))
+    let start = c .before .before in
+    let n = start .args .n in
+    below-law n 64 64 _ _ refl refl (omega arith) (omega arith) (λ v h. ((λ q. omega arith), λ q. h))
+    (λ v h. ((λ q. omega (arith, start .pre)), λ q. h))
 
 pub below-n-spec : {M : Type 1} → statement M
 below-n-spec = tie.close (tie.spec (λ c. search needs) sub-t5 returns (λ c. search needs) sub-t10 returns-2 returns-3)

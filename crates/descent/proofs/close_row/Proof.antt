@@ -13,22 +13,34 @@ Inv-loop mask base edges table₀ longer₀ places₀ x₀ table longer places x
 abbrev μ-loop : tie.MeasureT-loop
 μ-loop mask base edges table₀ longer₀ places₀ x₀ table longer places x = x
 
+-- the places that facts are read from
+abbrev start-of : tie.After-slice-known3 Inv-loop μ-loop → tie.Start Inv-loop μ-loop
+start-of c = c .before .before .before .before
+
+abbrev close-vertex-of : tie.After-slice-known6 Inv-loop μ-loop → tie.After-close-vertex Inv-loop μ-loop
+close-vertex-of c = c .before .before .before .before .before .before
+
+abbrev turn-of : tie.After-close-vertex Inv-loop μ-loop → tie.In-loop Inv-loop μ-loop
+turn-of c = c .before .before .before .before
+
 loop-holds : tie.Need-loop-holds Inv-loop μ-loop
 loop-holds c =
-    let st = c .before .before .before .before in
+    let st = start-of c in
     let a = st .args in
     let none = closing-none (a .edges .now) (a .mask) (a .base) (a .table .now) (a .longer .now) (a .places .now) (st .fits .mask .fits) in
     (refl, refl, refl, none)
 
 -- the number of the member is below 64
 small : (c : tie.In-loop Inv-loop μ-loop) → trailingZeros 64 (c .before .loop .x) < 64
-small c = lowest-lt _ (c .before .loop .x) _ (c .before .loop .inv .3 .members) (c .loop-test .taken)
+small c =
+    let head = c .before in
+    lowest-lt _ (head .loop .x) _ (head .loop .inv .3 .members) (c .loop-test .taken)
 
 cast-u : tie.Need-cast-u Inv-loop μ-loop
-cast-u c = omega (arith, small c, c .before .before .before .before .before .before .pre .0)
+cast-u c = omega (arith, small c, start-of (c .before .before) .pre .0)
 
 add-u : tie.Need-add-u Inv-loop μ-loop
-add-u c = omega (arith, small c, c .before .before .before .before .before .before .pre .0)
+add-u c = omega (arith, small c, start-of (c .before .before) .pre .0)
 
 close-vertex-requires : tie.Need-close-vertex-requires Inv-loop μ-loop
 close-vertex-requires c κs =
@@ -55,25 +67,31 @@ close-vertex-requires c κs =
     )
 
 loop-less : tie.Need-loop-less Inv-loop μ-loop
-loop-less c = let l = c .before .before .before .before .before .before .before .before .before .before .before .loop in visited-less _ (l .x) _ (l .inv .3 .members) (c .before .before .before .before .before .before .before .before .before .before .loop-test .taken)
+loop-less c =
+    let close-vertex = close-vertex-of c in let test = turn-of close-vertex in
+    let l = test .before .loop in visited-less _ (l .x) _ (l .inv .3 .members) (test .loop-test .taken)
 
 loop-again : tie.Need-loop-again Inv-loop μ-loop
 loop-again c =
-    let a = c .before .before .before .before .before .before .before .before .before .before .before .before .before .before .before .before .args in
-    let l = c .before .before .before .before .before .before .before .before .before .before .before .loop in
-    let call = c .before .before .before .before .before .before .close-vertex in (
+    let close-vertex = close-vertex-of c in let test = turn-of close-vertex in let head = test .before in
+    let a = start-of (head .before) .args in
+    let l = head .loop in
+    let call = close-vertex .close-vertex in (
       call .kept .1 .1 .0 ∙ l .inv .0,
       call .kept .1 .1 .1 .0 ∙ l .inv .1,
       call .kept .1 .1 .1 .1 .0 ∙ l .inv .2,
-      closing-more (a .edges .now) (a .mask) (a .base) (a .table .now) (a .longer .now) (a .places .now) (l .table) (l .longer) (l .places) (l .x) _ _ _ _ (l .inv .3)
-          (c .before .before .before .before .before .before .before .before .before .before .loop-test .taken) refl (call .ensures),
+      closing-more (a .edges .now) (a .mask) (a .base) (a .table .now) (a .longer .now) (a .places .now) (l .table) (l .longer) (l .places)
+          (l .x) _ _ _ _ (l .inv .3)
+          (test .loop-test .taken) refl (call .ensures),
     )
 
 returns : tie.Need-returns Inv-loop μ-loop
 returns c =
-    let a = c .before .before .before .before .before .before .args in
-    let l = c .before .loop in
-    closing-all (a .edges .now) (a .mask) (a .base) (a .table .now) (a .longer .now) (a .places .now) (l .table) (l .longer) (l .places) (l .x) (l .inv .3) (c .loop-test .left)
+    let head = c .before in
+    let a = start-of (head .before) .args in
+    let l = head .loop in
+    closing-all (a .edges .now) (a .mask) (a .base) (a .table .now) (a .longer .now) (a .places .now) (l .table) (l .longer) (l .places)
+    (l .x) (l .inv .3) (c .loop-test .left)
 
 pub close-row-spec : {M : Type 1} → statement M
 close-row-spec =

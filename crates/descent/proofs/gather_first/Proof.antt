@@ -18,7 +18,9 @@ loop-holds c = let a = c .args in (c .pre, (0, gathering-none (a .table .now) (a
 
 -- the number of the member is below 64
 small : (c : tie.In-loop Inv-loop μ-loop) → trailingZeros 64 (c .before .loop .x) < 64
-small c = lowest-lt _ (c .before .loop .x) _ (c .before .loop .inv .1 .1 .members) (c .loop-test .taken)
+small c =
+    let head = c .before in
+    lowest-lt _ (head .loop .x) _ (head .loop .inv .1 .1 .members) (c .loop-test .taken)
 
 -- the table has its masks
 room : (c : tie.In-loop Inv-loop μ-loop) → let a = c .before .before .args in
@@ -38,22 +40,26 @@ shared-slice-read-a : tie.Need-shared-slice-read-a Inv-loop μ-loop
 shared-slice-read-a c = omega (arith, room (c .before))
 
 loop-less : tie.Need-loop-less Inv-loop μ-loop
-loop-less c = let l = c .before .before .loop in visited-less _ (l .x) _ (l .inv .1 .1 .members) (c .before .loop-test .taken)
+loop-less c =
+    let test = c .before in
+    let l = test .before .loop in visited-less _ (l .x) _ (l .inv .1 .1 .members) (test .loop-test .taken)
 
 loop-again : tie.Need-loop-again Inv-loop μ-loop
 loop-again c =
-    let t = c .before .before .before .args .table .now in
-    let mask = c .before .before .before .args .mask in
-    let l = c .before .before .loop in
+    let test = c .before in let head = test .before in let start = head .before in
+    let t = start .args .table .now in
+    let mask = start .args .mask in
+    let l = head .loop in
     let w = trailingZeros 64 (l .x) in
     let at : w ≡ 0 + w = omega arith in
-    (l .inv .0, (_, gathering-more t mask 0 0 0 (l .a) (l .inv .1 .0) (l .x) w _ _ (l .inv .1 .1) (c .before .loop-test .taken) at refl refl))
+    (l .inv .0, (_, gathering-more t mask 0 0 0 (l .a) (l .inv .1 .0) (l .x) w _ _ (l .inv .1 .1) (test .loop-test .taken) at refl refl))
 
 returns : tie.Need-returns Inv-loop μ-loop
 returns c =
-    let t = c .before .before .args .table .now in
-    let mask = c .before .before .args .mask in
-    let l = c .before .loop in
+    let head = c .before in let start = head .before in
+    let t = start .args .table .now in
+    let mask = start .args .mask in
+    let l = head .loop in
     record { second = l .inv .1 .0; gathered = gathering-all t mask 0 0 0 (l .a) (l .inv .1 .0) (l .x) (l .inv .1 .1) (c .loop-test .left) }
 
 pub gather-first-spec : {M : Type 1} → statement M

@@ -24,15 +24,16 @@ roomy c = let k = c .if2 .left in omega arith
 returns-3 : tie.Need-returns-3
 unfolding fits?
 returns-3 c =
-    let same = c .before .before .before .room .ensures in
-    simp (sym same, le-leb _ _ (c .before .before .if1 .left), le-leb _ _ (roomy (c .before)), lt-leb _ _ (c .if3 .taken))
+    let if2 = c .before in let if1 = if2 .before in
+    let same = if1 .before .room .ensures in
+    simp (sym same, le-leb _ _ (if1 .if1 .left), le-leb _ _ (roomy if2), lt-leb _ _ (c .if3 .taken))
 
 returns-4 : tie.Need-returns-4
 unfolding fits?
 returns-4 c =
-    let k = c .before in
-    let same = k .before .before .before .room .ensures in
-    simp (sym same, le-leb _ _ (k .before .before .if1 .left), le-leb _ _ (roomy (k .before)), le-leb _ _ (k .if3 .left), lt-leb _ _ (c .if4 .taken))
+    let k = c .before in let if2 = k .before in let if1 = if2 .before in
+    let same = if1 .before .room .ensures in
+    simp (sym same, le-leb _ _ (if1 .if1 .left), le-leb _ _ (roomy if2), le-leb _ _ (k .if3 .left), lt-leb _ _ (c .if4 .taken))
 
 mul-result : tie.Need-mul-result
 mul-result c = omega (arith, c .before .before .before .before .room .ensures)
@@ -46,8 +47,8 @@ last n k e b t l p q he hb ht hl =
 
 returns-5 : tie.Need-returns-5
 returns-5 c =
-    let k = c .before in
-    last _ _ _ _ _ _ _ (k .before .before .before .room .ensures) (k .before .before .if1 .left) (roomy (k .before)) (k .if3 .left) (c .if4 .left)
+    let k = c .before in let if2 = k .before in let if1 = if2 .before in
+    last _ _ _ _ _ _ _ (if1 .before .room .ensures) (if1 .if1 .left) (roomy if2) (k .if3 .left) (c .if4 .left)
 
 pub is-fit-spec : {M : Type 1} → statement M
 is-fit-spec = tie.close (tie.spec (λ c κs. search needs) returns add-if2 returns-2 returns-3 returns-4 mul-result returns-5)

@@ -15,10 +15,14 @@ returns : tie.Need-returns
 returns c = without-second _ _ (c .if1 .taken)
 
 add-result : tie.Need-add-result
-add-result c = omega (arith, ones-le 64 _ (c .before .fits .low .fits), ones-le 64 _ (c .before .fits .high .fits))
+add-result c =
+    let start = c .before in
+    omega (arith, ones-le 64 _ (start .fits .low .fits), ones-le 64 _ (start .fits .high .fits))
 
 cast-result-2 : tie.Need-cast-result-2
-cast-result-2 c = omega (arith, ones-le 64 _ (c .before .fits .low .fits), ones-le 64 _ (c .before .fits .high .fits))
+cast-result-2 c =
+    let start = c .before in
+    omega (arith, ones-le 64 _ (start .fits .low .fits), ones-le 64 _ (start .fits .high .fits))
 
 pub members-spec : {M : Type 1} → statement M
 members-spec = tie.close (tie.spec cast-result returns add-result cast-result-2 (λ c. search needs))

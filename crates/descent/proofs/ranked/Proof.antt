@@ -3,6 +3,13 @@ use Rattle.descent.proofs.Answering.{ranked-cyclic, ranked-made}
 use Rattle.descent.proofs.ranked.Statement.{statement}
 use Rattle.descent.proofs.ranked.Tie as tie
 
+-- the places that facts are read from
+abbrev grown-of : tie.Else1 → tie.After-grown
+grown-of c = c .before .before .before .before .before
+
+abbrev else1-of : tie.After-close-arg4 → tie.Else1
+else1-of c = c .before .before .before .before
+
 -- where the second list was cleared, and the first, and where it began
 abbrev second : tie.After-grown → tie.After-clear2
 second c = c .before .before .before .before .before
@@ -15,14 +22,13 @@ start c = first c .before .before .before .before .before .before .before
 
 returns : tie.Need-returns
 returns c =
-    let g = c .before .before .before .before .before .before in
-    ranked-cyclic _ (start g .args .n) (g .grown .result) _ _ _ _ (g .grown .ensures) (c .before .if1 .taken) _ _ _ (c .no-descent .ensures)
+    let if1 = c .before in let g = if1 .before .before .before .before .before in
+    ranked-cyclic _ (start g .args .n) (g .grown .result) _ _ _ _ (g .grown .ensures) (if1 .if1 .taken) _ _ _ (c .no-descent .ensures)
     (first g .clear .ensures) (second g .clear2 .ensures)
 
 close-requires : tie.Need-close-requires
 close-requires c κs =
-    let e = c .before .before .before .before in
-    let g = e .before .before .before .before .before in
+    let e = else1-of c in let g = grown-of e in
     let p = start g .pre in (
       p .1,
       (let h = p .2 in let q = g .grown .kept .1 .1 .1 .0 in omega arith),
@@ -35,17 +41,14 @@ close-requires c κs =
 
 cast-t26 : tie.Need-cast-t26
 cast-t26 c =
-    let e = c .before .before .before .before .before .before .before .before .before .before .before in
-    let g = e .before .before .before .before .before in
+    let close-arg4 = c .before .before .before .before .before .before .before in let e = else1-of close-arg4 in let g = grown-of e in
     let small = start g .pre .6 .small in
     let few = g .grown .ensures .prefixes (e .if1 .left) .few in
     omega arith
 
 returns-2 : tie.Need-returns-2
 returns-2 c =
-    let k = c .before .before .before .before .before .before in
-    let e = k .before .before .before .before .before in
-    let g = e .before .before .before .before .before in
+    let k = c .before .before .before .before .before .before in let e = else1-of (k .before) in let g = grown-of e in
     ranked-made _ (start g .args .n) (g .grown .result) _ _ _ _ (g .grown .ensures) (e .if1 .left) _ _ _ _ _
     (first g .clear .ensures) (second g .clear2 .ensures) (k .close .ensures)
 

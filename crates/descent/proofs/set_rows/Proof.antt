@@ -14,14 +14,18 @@ abbrev μ-loop : tie.MeasureT-loop
 μ-loop mask base r places₀ x₀ places x = x
 
 loop-holds : tie.Need-loop-holds Inv-loop μ-loop
-loop-holds c = (c .pre .0, refl, c .pre .1, writing-none (c .args .mask) (c .args .base) (c .args .r) (c .args .places .now) (c .fits .mask .fits))
+loop-holds c =
+    (c .pre .0, refl, c .pre .1, writing-none (c .args .mask) (c .args .base) (c .args .r) (c .args .places .now) (c .fits .mask .fits))
 
 -- the number of the member is below 64
 small : (c : tie.In-loop Inv-loop μ-loop) → trailingZeros 64 (c .before .loop .x) < 64
-small c = lowest-lt _ (c .before .loop .x) _ (c .before .loop .inv .3 .members) (c .loop-test .taken)
+small c =
+    let head = c .before in
+    lowest-lt _ (head .loop .x) _ (head .loop .inv .3 .members) (c .loop-test .taken)
 
 -- the places have its row
-room : (c : tie.In-loop Inv-loop μ-loop) → 4 * (c .before .before .args .base + trailingZeros 64 (c .before .loop .x)) + 2 < length (c .before .loop .places)
+room : (c : tie.In-loop Inv-loop μ-loop)
+    → 4 * (c .before .before .args .base + trailingZeros 64 (c .before .loop .x)) + 2 < length (c .before .loop .places)
 room c =
     let l = c .before .loop in
     let k = l .inv .2 .room _ (small c) (lowest-in _ (l .x) _ (l .inv .3 .members) (c .loop-test .taken)) in
@@ -44,12 +48,15 @@ slice-write-places : tie.Need-slice-write-places Inv-loop μ-loop
 slice-write-places c = omega (arith, room c)
 
 loop-less : tie.Need-loop-less Inv-loop μ-loop
-loop-less c = visited-less _ (c .before .loop .x) _ (c .before .loop .inv .3 .members) (c .loop-test .taken)
+loop-less c =
+    let head = c .before in
+    visited-less _ (head .loop .x) _ (head .loop .inv .3 .members) (c .loop-test .taken)
 
 loop-again : tie.Need-loop-again Inv-loop μ-loop
 loop-again c =
-    let a = c .before .before .args in
-    let l = c .before .loop in (
+    let head = c .before in
+    let a = head .before .args in
+    let l = head .loop in (
       l .inv .0,
       length-set (l .places) _ (a .r) ∙ l .inv .1,
       l .inv .2,
@@ -58,8 +65,9 @@ loop-again c =
 
 returns : tie.Need-returns Inv-loop μ-loop
 returns c =
-    let a = c .before .before .args in
-    let l = c .before .loop in
+    let head = c .before in
+    let a = head .before .args in
+    let l = head .loop in
     writing-all (a .mask) (a .base) (a .r) (a .places .now) (l .places) (l .x) (l .inv .3) (c .loop-test .left)
 
 pub set-rows-spec : {M : Type 1} → statement M

@@ -13,14 +13,23 @@ Inv-loop table mask low high a₀ b₀ x₀ a b x = Long 2 table mask 64 × Seco
 abbrev μ-loop : tie.MeasureT-loop
 μ-loop table mask low high a₀ b₀ x₀ a b x = x
 
+-- the places that facts are read from
+abbrev turn-of : tie.After-shared-slice-known2 Inv-loop μ-loop → tie.In-loop Inv-loop μ-loop
+turn-of c = c .before .before
+
 loop-holds : tie.Need-loop-holds Inv-loop μ-loop
 loop-holds c =
-    let a = c .args in
-    (c .pre .0, second-none (a .table .now) (a .mask) (c .pre .1) (a .low) (a .high) (c .fits .high .fits) (c .fits .mask .fits) (c .pre .2))
+    let a = c .args in (
+      c .pre .0,
+      second-none (a .table .now) (a .mask) (c .pre .1) (a .low) (a .high) (c .fits .high .fits) (c .fits .mask .fits)
+          (c .pre .2),
+    )
 
 -- the number of the member is below 64
 small : (c : tie.In-loop Inv-loop μ-loop) → trailingZeros 64 (c .before .loop .x) < 64
-small c = lowest-lt _ (c .before .loop .x) _ (c .before .loop .inv .1 .so-far .members) (c .loop-test .taken)
+small c =
+    let head = c .before in
+    lowest-lt _ (head .loop .x) _ (head .loop .inv .1 .so-far .members) (c .loop-test .taken)
 
 -- the table has its masks
 room : (c : tie.In-loop Inv-loop μ-loop)
@@ -52,22 +61,28 @@ mul-b-2 : tie.Need-mul-b-2 Inv-loop μ-loop
 mul-b-2 c = omega (arith, small (c .before))
 
 shared-slice-read-b : tie.Need-shared-slice-read-b Inv-loop μ-loop
-shared-slice-read-b c = omega (arith, room (c .before .before))
+shared-slice-read-b c = omega (arith, room (turn-of c))
 
 loop-less : tie.Need-loop-less Inv-loop μ-loop
-loop-less c = let l = c .before .before .before .loop in skip-less _ (l .x) _ (l .inv .1 .so-far .members) (c .before .before .loop-test .taken) _
+loop-less c =
+    let test = turn-of c in
+    let l = test .before .loop in skip-less _ (l .x) _ (l .inv .1 .so-far .members) (test .loop-test .taken) _
 
 loop-again : tie.Need-loop-again Inv-loop μ-loop
 loop-again c =
-    let st = c .before .before .before .before in
+    let test = turn-of c in let head = test .before in let st = head .before in
     let a = st .args in
-    let l = c .before .before .before .loop in
-    (l .inv .0, second-more (a .table .now) (a .mask) (st .pre .1) (λ i. c .shared-slice-known2 .given i .fits) (a .low) (a .high) (l .a) (l .b) (l .x) (l .inv .1) (c .before .before .loop-test .taken))
+    let l = head .loop in (
+      l .inv .0,
+      second-more (a .table .now) (a .mask) (st .pre .1) (λ i. c .shared-slice-known2 .given i .fits) (a .low) (a .high) (l .a)
+          (l .b) (l .x) (l .inv .1) (test .loop-test .taken),
+    )
 
 returns : tie.Need-returns Inv-loop μ-loop
 returns c =
-    let a = c .before .before .args in
-    let l = c .before .loop in
+    let head = c .before in
+    let a = head .before .args in
+    let l = head .loop in
     gathering-all (a .table .now) (a .mask) 64 (a .low) (a .high) (l .a) (l .b) (l .x) (l .inv .1 .so-far) (c .loop-test .left)
 
 pub with-second-spec : {M : Type 1} → statement M

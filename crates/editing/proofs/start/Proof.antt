@@ -6,18 +6,21 @@ use Rattle.editing.proofs.start.Tie as tie
 
 returns : tie.Need-returns
 returns c =
-    let n = c .before .before .args .n in
-    let e = start-fails n (inl (c .before .if1 .taken)) in started n 2 0 _ (e .0) (e .1) (omega arith) (c .blank-session .ensures)
+    let if1 = c .before in
+    let n = if1 .before .args .n in
+    let e = start-fails n (inl (if1 .if1 .taken)) in started n 2 0 _ (e .0) (e .1) (omega arith) (c .blank-session .ensures)
 
 returns-2 : tie.Need-returns-2
 returns-2 c =
-    let n = c .before .before .before .args .n in
-    let e = start-fails n (inr (c .before .if2 .taken)) in started n 2 0 _ (e .0) (e .1) (omega arith) (c .blank-session2 .ensures)
+    let if2 = c .before in
+    let n = if2 .before .before .args .n in
+    let e = start-fails n (inr (if2 .if2 .taken)) in started n 2 0 _ (e .0) (e .1) (omega arith) (c .blank-session2 .ensures)
 
 returns-3 : tie.Need-returns-3
 returns-3 c =
-    let n = c .before .before .before .args .n in
-    let e = start-passes n (c .before .before .if1 .left) (c .before .if2 .left) in started n 0 n _ (e .0) (e .1) (c .before .if2 .left) (c .blank-session3 .ensures)
+    let if2 = c .before in let if1 = if2 .before in
+    let n = if1 .before .args .n in
+    let e = start-passes n (if1 .if1 .left) (if2 .if2 .left) in started n 0 n _ (e .0) (e .1) (if2 .if2 .left) (c .blank-session3 .ensures)
 
 pub start-spec : {M : Type 1} → statement M
 start-spec =

@@ -6,12 +6,20 @@ use Rattle.specification.proofs.Placing.{Inside, found-inside}
 use Rattle.fields.proofs.with_edges.Statement.{statement}
 use Rattle.fields.proofs.with_edges.Tie as tie
 
+-- the places that facts are read from
+abbrev start-of : tie.After-field → tie.Start
+start-of c = c .before .before .before .before
+
 -- the field that was found, and where it lies
-found : (c : tie.After-known-told) → fieldAt 2 (c .before .before .before .before .before .args .b .now) (c .before .before .before .before .before .args .at) ≡ Found (c .before .field .given .0 .0) (c .before .field .given .0 .1 .0)
-found c = sym (c .before .before .before .field-at .ensures) ∙ c .before .field .given .1
+found : (c : tie.After-known-told)
+    → fieldAt 2 (start-of (c .before) .args .b .now) (start-of (c .before) .args .at)
+    ≡ Found (c .before .field .given .0 .0) (c .before .field .given .0 .1 .0)
+found c =
+    let field = c .before in
+    sym (field .before .before .field-at .ensures) ∙ field .field .given .1
 
 inside : (c : tie.After-known-told)
-    → Inside 2 (c .before .before .before .before .before .args .b .now) (c .before .before .before .before .before .args .at)
+    → Inside 2 (start-of (c .before) .args .b .now) (start-of (c .before) .args .at)
     (c .before .field .given .0 .0) (c .before .field .given .0 .1 .0)
 inside c = found-inside 2 _ _ _ _ (found c)
 
@@ -21,29 +29,34 @@ enum-told c = search needs
 returns : tie.Need-returns
 unfolding withEdges
 returns c =
-    let a = c .before .before .before .before .args in
-    ap (withEdges (a .b .now) (a .n)) (sym (sym (c .before .before .field-at .ensures) ∙ c .enum-told .given .1))
+    let field-at = c .before .before in
+    let a = field-at .before .before .args in
+    ap (withEdges (a .b .now) (a .n)) (sym (sym (field-at .field-at .ensures) ∙ c .enum-told .given .1))
 
 returns-2 : tie.Need-returns-2
 unfolding withEdges
 returns-2 c =
-    let a = c .before .before .before .before .before .before .args in
-    let f = c .before .before .field .given in
+    let known-told = c .before in let field = known-told .before in
+    let a = start-of field .args in
+    let f = field .field .given in
     let bad : Bad ≡ withEdges (a .b .now) (a .n) (Found (f .0 .0) (f .0 .1 .0)) = simp (ne-eqb (f .0 .1 .0 % 2) 0 (c .if1 .taken)) in
-    bad ∙ ap (withEdges (a .b .now) (a .n)) (sym (found (c .before)))
+    bad ∙ ap (withEdges (a .b .now) (a .n)) (sym (found known-told))
 
 add-after-edges : tie.Need-add-after-edges
 add-after-edges c = omega (arith, inside (c .before) .ends)
 
 after-edges-requires : tie.Need-after-edges-requires
-after-edges-requires c κs = omega (arith, inside (c .before) .ends, c .before .before .before .before .before .before .pre .1)
+after-edges-requires c κs =
+    let known-told = c .before in
+    omega (arith, inside known-told .ends, start-of (known-told .before) .pre .1)
 
 returns-3 : tie.Need-returns-3
 unfolding withEdges
 returns-3 c =
     let a = c .before .before .before .before .before .before .before .args in
     let f = c .before .before .before .field .given in
-    let good : c .after-edges .result ≡ withEdges (a .b .now) (a .n) (Found (f .0 .0) (f .0 .1 .0)) = simp (eq-eqb _ _ (c .before .if1 .left)) (c .after-edges .ensures) in
+    let good : c .after-edges .result ≡ withEdges (a .b .now) (a .n) (Found (f .0 .0) (f .0 .1 .0)) =
+    simp (eq-eqb _ _ (c .before .if1 .left)) (c .after-edges .ensures) in
     good ∙ ap (withEdges (a .b .now) (a .n)) (sym (found (c .before .before)))
 
 pub with-edges-spec : {M : Type 1} → statement M

@@ -24,9 +24,10 @@ mul-right c = fits _ _ _ _ _ _ (c .before .minus3 .ensures) (c .minus4 .ensures)
 
 returns : tie.Need-returns
 returns c =
-    bits-equal w32 _ _ _ _ _ _ (mul-left (c .before .before)) (mul-right c)
-    (diff _ _ _ _ _ _ (c .before .before .before .minus .ensures) (c .before .before .minus2 .ensures) (omega arith) (omega arith) (omega arith) (omega arith))
-    (diff _ _ _ _ _ _ (c .before .minus3 .ensures) (c .minus4 .ensures) (omega arith) (omega arith) (omega arith) (omega arith))
+    let minus3 = c .before in let minus2 = minus3 .before in
+    bits-equal w32 _ _ _ _ _ _ (mul-left minus2) (mul-right c)
+    (diff _ _ _ _ _ _ (minus2 .before .minus .ensures) (minus2 .minus2 .ensures) (omega arith) (omega arith) (omega arith) (omega arith))
+    (diff _ _ _ _ _ _ (minus3 .minus3 .ensures) (c .minus4 .ensures) (omega arith) (omega arith) (omega arith) (omega arith))
 
 pub aligned-spec : {M : Type 1} → statement M
 aligned-spec =

@@ -13,6 +13,10 @@ Inv-loop mask base columns places n tail head ax ay bx by x₀ x = Visited mask 
 abbrev μ-loop : tie.MeasureT-loop
 μ-loop mask base columns places n tail head ax ay bx by x₀ x = x
 
+-- the places that facts are read from
+abbrev turn-of : tie.After-inside Inv-loop μ-loop → tie.In-loop Inv-loop μ-loop
+turn-of c = c .before .before .before .before
+
 loop-holds : tie.Need-loop-holds Inv-loop μ-loop
 loop-holds c = visited-none _ _ (search needs)
 
@@ -24,8 +28,8 @@ add-w c = omega (arith, trailing-le 64 (c .before .loop .x))
 
 returns : tie.Need-returns Inv-loop μ-loop
 returns c =
-    let i = c .before .before .before .before .before in
-    struck-here _ _ _ _ _ _ _ (i .before .loop .inv) (i .loop-test .taken) (search needs) (c .before .inside .ensures .holds (c .if2 .taken))
+    let inside = c .before in let i = turn-of inside in
+    struck-here _ _ _ _ _ _ _ (i .before .loop .inv) (i .loop-test .taken) (search needs) (inside .inside .ensures .holds (c .if2 .taken))
 
 loop-less : tie.Need-loop-less Inv-loop μ-loop
 loop-less c =
@@ -34,14 +38,18 @@ loop-less c =
 
 loop-again : tie.Need-loop-again Inv-loop μ-loop
 loop-again c =
-    let i = c .before .before .before .before .before in
-    visited-more _ _ _ (i .before .loop .inv) (i .loop-test .taken) _ (λ j p. p) (λ _. c .before .inside .ensures .fails (c .if2 .left))
+    let inside = c .before in let i = turn-of inside in
+    visited-more _ _ _ (i .before .loop .inv) (i .loop-test .taken) _ (λ j p. p) (λ _. inside .inside .ensures .fails (c .if2 .left))
 
 loop-less-2 : tie.Need-loop-less-2 Inv-loop μ-loop
-loop-less-2 c = visited-less _ _ _ (c .before .before .loop .inv) (c .before .loop-test .taken)
+loop-less-2 c =
+    let test = c .before in
+    visited-less _ _ _ (test .before .loop .inv) (test .loop-test .taken)
 
 loop-again-2 : tie.Need-loop-again-2 Inv-loop μ-loop
-loop-again-2 c = visited-more _ _ _ (c .before .before .loop .inv) (c .before .loop-test .taken) _ (λ j p. p) (λ l. absurd (omega arith))
+loop-again-2 c =
+    let test = c .before in
+    visited-more _ _ _ (test .before .loop .inv) (test .loop-test .taken) _ (λ j p. p) (λ l. absurd (omega arith))
 
 returns-2 : tie.Need-returns-2 Inv-loop μ-loop
 returns-2 c = struck-none _ _ _ _ _ _ _ (c .before .loop .inv) (c .loop-test .left)

@@ -9,9 +9,10 @@ returns c = let a = c .before .before .before .args in sym (next-adjacent (a .p)
 
 returns-2 : tie.Need-returns-2
 returns-2 c =
-    let a = c .before .before .before .before .before .args in
-    ap₂ (λ (x y : ℕ). eqb (x + 1) y) (c .before .wide3 .ensures .0) (c .wide4 .ensures .0)
-    ∙ sym (else-adjacent (a .p) (a .q) (λ e. c .before .before .if1 .left (omega (arith, e))))
+    let wide3 = c .before in let if1 = wide3 .before in
+    let a = if1 .before .before .before .args in
+    ap₂ (λ (x y : ℕ). eqb (x + 1) y) (wide3 .wide3 .ensures .0) (c .wide4 .ensures .0)
+    ∙ sym (else-adjacent (a .p) (a .q) (λ e. if1 .if1 .left (omega (arith, e))))
 
 pub adjacent-spec : {M : Type 1} → statement M
 adjacent-spec =

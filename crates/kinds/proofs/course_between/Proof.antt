@@ -21,23 +21,24 @@ returns c =
 
 returns-2 : tie.Need-returns-2
 returns-2 c =
-    let ends = c .before in
-    let sets = ends .before .before in
-    let w = sets .before .before .before .before in
-    let r = w .before .before .before .before .before .before in
-    let s = r .before .before .before .before in
-    let a = s .before .before .args in
+    let ends = c .before in let wide5 = ends .before in let sets = wide5 .before in let inner = sets .before in let least = inner .before in
+    let largest = least .before in let w = largest .before in let wide3 = w .before in let wide2 = wide3 .before in
+    let wide = wide2 .before in let r = wide .before .before .before in let row-at = r .before in let s = row-at .before .before .before in
+    let shared = s .before in
+    let a = shared .before .args in
     same-course _ _ (c .course-among .ensures) ∙ course-masked (a .below .now) (a .left .now)
-    (λ x. s .before .shared-slice-known .given x .fits) (λ x. s .shared-slice-known2 .given x .fits)
+    (λ x. shared .shared-slice-known .given x .fits) (λ x. s .shared-slice-known2 .given x .fits)
     _ _ _ _ _ _ _ _ _ _
-    (w .before .before .wide2 .ensures .0 ∙ r .before .row-at .ensures)
-    (w .before .before .before .wide .ensures .0 ∙ r .row-at2 .ensures)
-    (sets .before .before .least .ensures ∙ ap₂ min (w .before .wide3 .ensures .0) (w .wide4 .ensures .0))
-    (sets .before .before .before .largest .ensures ∙ ap₂ max (w .before .wide3 .ensures .0) (w .wide4 .ensures .0))
-    (sets .before .inner .ensures) (sets .inner2 .ensures) _ _ _ _
-    ∙ ap₂ (courseAmong (candidate? (a .below .now) (a .left .now) (quad 2 (a .places .now) (a .u)) (quad 2 (a .places .now) (a .v)) (a .c) (a .d))
+    (wide2 .wide2 .ensures .0 ∙ row-at .row-at .ensures)
+    (wide .wide .ensures .0 ∙ r .row-at2 .ensures)
+    (least .least .ensures ∙ ap₂ min (wide3 .wide3 .ensures .0) (w .wide4 .ensures .0))
+    (largest .largest .ensures ∙ ap₂ max (wide3 .wide3 .ensures .0) (w .wide4 .ensures .0))
+    (inner .inner .ensures) (sets .inner2 .ensures) _ _ _ _
+    ∙ ap₂
+    (courseAmong
+    (candidate? (a .below .now) (a .left .now) (quad 2 (a .places .now) (a .u)) (quad 2 (a .places .now) (a .v)) (a .c) (a .d))
     (pointOf (a .columns .now) (a .places .now)) (vertexCount (a .columns .now) (a .places .now)))
-    (ends .before .wide5 .ensures .0) (ends .wide6 .ensures .0)
+    (wide5 .wide5 .ensures .0) (ends .wide6 .ensures .0)
 
 pub course-between-spec : {M : Type 1} → statement M
 course-between-spec =

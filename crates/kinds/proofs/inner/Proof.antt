@@ -5,8 +5,8 @@ use Rattle.kinds.proofs.inner.Tie as tie
 
 returns : tie.Need-returns
 returns c =
-    let b = c .before .before in
-    rw (b .before .mask-at .ensures, b .mask-at2 .ensures, c .before .mask-at3 .ensures, c .mask-at4 .ensures) refl
+    let mask-at3 = c .before in let b = mask-at3 .before in
+    rw (b .before .mask-at .ensures, b .mask-at2 .ensures, mask-at3 .mask-at3 .ensures, c .mask-at4 .ensures) refl
 
 pub inner-spec : {M : Type 1} → statement M
 inner-spec =

@@ -5,16 +5,21 @@ use Rattle.kinds.proofs.kind_of.Statement.{statement}
 use Rattle.kinds.proofs.kind_of.Tie as tie
 
 returns : tie.Need-returns
-returns c = code-path _ _ _ _ _ _ _ _ _ _ _ _ (c .before .before .if1 .taken) (sym (c .before .adjacent .ensures) ∙ c .if2 .taken)
+returns c =
+    let adjacent = c .before in
+    code-path _ _ _ _ _ _ _ _ _ _ _ _ (adjacent .before .if1 .taken) (sym (adjacent .adjacent .ensures) ∙ c .if2 .taken)
 
 returns-2 : tie.Need-returns-2
 returns-2 c =
+    let if2 = c .before in let adjacent = if2 .before in
     code-bundle _ _ _ _ _ _ _ _ _ _ _ _ _ (c .lesser .ensures)
-    (c .before .before .before .if1 .taken) (sym (c .before .before .adjacent .ensures) ∙ c .before .if2 .left)
+    (adjacent .before .if1 .taken) (sym (adjacent .adjacent .ensures) ∙ if2 .if2 .left)
 
 returns-3 : tie.Need-returns-3
 returns-3 c =
-    code-across _ _ _ _ _ _ _ _ _ _ _ _ _ _ (c .crossed .ensures) (c .before .course-between .ensures) (c .before .before .if1 .left)
+    let course-between = c .before in
+    code-across _ _ _ _ _ _ _ _ _ _ _ _ _ _ (c .crossed .ensures) (course-between .course-between .ensures)
+    (course-between .before .if1 .left)
 
 pub kind-of-spec : {M : Type 1} → statement M
 kind-of-spec =

@@ -26,8 +26,11 @@ returns-3 : tie.Need-returns-3
 unfolding inserted
 returns-3 c =
     let a = c .before .before .before .args in
-    let i : ℕ = a .first + a .v / 64 in
-    (sym (lt-ltb i (length (a .masks .now)) (omega arith)), ap (λ (x : ℕ). set (a .masks .now) i (bitOr (getD (a .masks .now) i 0) x)) (one-shl (a .v % 64) (omega arith)))
+    let i : ℕ = a .first + a .v / 64 in (
+      sym (lt-ltb i (length (a .masks .now)) (omega arith)),
+      ap (λ (x : ℕ). set (a .masks .now) i (bitOr (getD (a .masks .now) i 0) x))
+          (one-shl (a .v % 64) (omega arith)),
+    )
 
 pub insert-spec : {M : Type 1} → statement M
 insert-spec =

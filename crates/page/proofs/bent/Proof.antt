@@ -14,13 +14,16 @@ tested : (c : tie.After-off-page3)
     → test (cells (c .before .before .before))
     ≡ (c .before .before .off-page .result || c .before .off-page2 .result || c .off-page3 .result)
 tested c =
+    let off-page2 = c .before in
     sym
-    (ap₂ _||_ (ap₂ _||_ (c .before .before .off-page .ensures)
-    (c .before .off-page2 .ensures))
+    (ap₂ _||_ (ap₂ _||_ (off-page2 .before .off-page .ensures)
+    (off-page2 .off-page2 .ensures))
     (c .off-page3 .ensures))
 
 on : (c : tie.Else1) → AllOn (cells (c .before .before .before .before))
-on c = clear (cells (c .before .before .before .before)) (tested (c .before) ∙ c .if1 .left)
+on c =
+    let off-page3 = c .before in
+    clear (cells (off-page3 .before .before .before)) (tested off-page3 ∙ c .if1 .left)
 
 returns : tie.Need-returns
 returns c = refuse _ (tested (c .before) ∙ c .if1 .taken)
@@ -36,11 +39,11 @@ point-at-requires-3 c κs = let o = on (c .before .before) in search needs
 
 returns-2 : tie.Need-returns-2
 returns-2 c =
-    let w = c .before .before .before in
+    let point-at2 = c .before in let point-at = point-at2 .before in let w = point-at .before in
     draw _ (tested (w .before) ∙ w .if1 .left)
     (ap accepted
-    (ap₂ _∷_ (c .before .before .point-at .ensures)
-    (ap₂ _∷_ (c .before .point-at2 .ensures)
+    (ap₂ _∷_ (point-at .point-at .ensures)
+    (ap₂ _∷_ (point-at2 .point-at2 .ensures)
     (ap₂ _∷_ (c .point-at3 .ensures) refl))))
 
 pub bent-spec : {M : Type 1} → statement M

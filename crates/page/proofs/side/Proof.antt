@@ -12,16 +12,20 @@ cells s = s .args .a ∷ s .args .b ∷ s .args .c ∷ s .args .d ∷ []
 -- the code's test is that of the cells
 tested : (c : tie.After-off-page4)
     → test (cells (c .before .before .before .before))
-    ≡ (c .before .before .before .off-page .result || c .before .before .off-page2 .result || c .before .off-page3 .result || c .off-page4 .result)
+    ≡ (c .before .before .before .off-page .result || c .before .before .off-page2 .result || c .before .off-page3 .result
+    || c .off-page4 .result)
 tested c =
+    let off-page3 = c .before in let off-page2 = off-page3 .before in
     sym
-    (ap₂ _||_ (ap₂ _||_ (ap₂ _||_ (c .before .before .before .off-page .ensures)
-    (c .before .before .off-page2 .ensures))
-    (c .before .off-page3 .ensures))
+    (ap₂ _||_ (ap₂ _||_ (ap₂ _||_ (off-page2 .before .off-page .ensures)
+    (off-page2 .off-page2 .ensures))
+    (off-page3 .off-page3 .ensures))
     (c .off-page4 .ensures))
 
 on : (c : tie.Else1) → AllOn (cells (c .before .before .before .before .before))
-on c = clear (cells (c .before .before .before .before .before)) (tested (c .before) ∙ c .if1 .left)
+on c =
+    let off-page4 = c .before in
+    clear (cells (off-page4 .before .before .before .before)) (tested off-page4 ∙ c .if1 .left)
 
 returns : tie.Need-returns
 returns c = refuse _ (tested (c .before) ∙ c .if1 .taken)
@@ -40,12 +44,12 @@ point-at-requires-4 c κs = let o = on (c .before .before .before) in search nee
 
 returns-2 : tie.Need-returns-2
 returns-2 c =
-    let w = c .before .before .before .before in
+    let point-at3 = c .before in let point-at2 = point-at3 .before in let point-at = point-at2 .before in let w = point-at .before in
     draw _ (tested (w .before) ∙ w .if1 .left)
     (ap accepted
-    (ap₂ _∷_ (c .before .before .before .point-at .ensures)
-    (ap₂ _∷_ (c .before .before .point-at2 .ensures)
-    (ap₂ _∷_ (c .before .point-at3 .ensures)
+    (ap₂ _∷_ (point-at .point-at .ensures)
+    (ap₂ _∷_ (point-at2 .point-at2 .ensures)
+    (ap₂ _∷_ (point-at3 .point-at3 .ensures)
     (ap₂ _∷_ (c .point-at4 .ensures) refl)))))
 
 pub side-spec : {M : Type 1} → statement M

@@ -1,4 +1,5 @@
--- `page::straight` meets its contract: the test fails where every cell is on the page, and then `point_at` gives its points. Assumes nothing.
+-- `page::straight` meets its contract: the test fails where every cell is on the
+-- page, and then `point_at` gives its points. Assumes nothing.
 use Rattle.counting.proofs.Prelude.{_≡_, refl, sym, ap, ap₂, _∙_, _||_, List, [], _∷_, needs}
 use Rattle.specification.specs.declared.Cell.{Cell}
 use Rattle.specification.specs.Page.{accepted}
@@ -19,7 +20,9 @@ tested c =
     (c .off-page2 .ensures))
 
 on : (c : tie.Else1) → AllOn (cells (c .before .before .before))
-on c = clear (cells (c .before .before .before)) (tested (c .before) ∙ c .if1 .left)
+on c =
+    let off-page2 = c .before in
+    clear (cells (off-page2 .before .before)) (tested off-page2 ∙ c .if1 .left)
 
 returns : tie.Need-returns
 returns c = refuse _ (tested (c .before) ∙ c .if1 .taken)
@@ -32,10 +35,10 @@ point-at-requires-2 c κs = let o = on (c .before) in search needs
 
 returns-2 : tie.Need-returns-2
 returns-2 c =
-    let w = c .before .before in
+    let point-at = c .before in let w = point-at .before in
     draw _ (tested (w .before) ∙ w .if1 .left)
     (ap accepted
-    (ap₂ _∷_ (c .before .point-at .ensures)
+    (ap₂ _∷_ (point-at .point-at .ensures)
     (ap₂ _∷_ (c .point-at2 .ensures) refl)))
 
 pub straight-spec : {M : Type 1} → statement M

@@ -14,7 +14,8 @@ use Rattle.page_test.proofs.main.Tie as tie
 numbers : {cs : List Cell} {r : Polyline} → Answers cs r → answerOf r .number ≡ answerFor cs .number
 numbers w = ap (λ (a : Answer). a .number) (w .answer)
 
-begins : {cs : List Cell} {r : Polyline} (x y : Float) → Answers cs r → beginsAt (answerOf r .points) x y ≡ beginsAt (answerFor cs .points) x y
+begins : {cs : List Cell} {r : Polyline} (x y : Float) → Answers cs r
+    → beginsAt (answerOf r .points) x y ≡ beginsAt (answerFor cs .points) x y
 begins x y w = ap (λ (a : Answer). beginsAt (a .points) x y) (w .answer)
 
 expect-requires : tie.Need-expect-requires

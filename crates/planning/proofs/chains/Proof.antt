@@ -12,55 +12,69 @@ Inv-loop predecessor n places₀ successor count₀ v₀ places count v = Laid n
 abbrev μ-loop : tie.MeasureT-loop
 μ-loop predecessor n places₀ successor count₀ v₀ places count v = n - v
 
+-- the places that facts are read from
+abbrev start-of : tie.After-successors Inv-loop μ-loop → tie.Start Inv-loop μ-loop
+start-of c = c .before .before .before
+
+abbrev successors-of : tie.In-loop Inv-loop μ-loop → tie.After-successors Inv-loop μ-loop
+successors-of c = c .before .before
+
+abbrev turn-of : tie.After-successor Inv-loop μ-loop → tie.In-loop Inv-loop μ-loop
+turn-of c = c .before .before .before .before
+
 loop-holds : tie.Need-loop-holds Inv-loop μ-loop
-loop-holds c = (laid-none _ _ _ (c .before .before .before .pre .3), kept-same _ _)
+loop-holds c = (laid-none _ _ _ (start-of c .pre .3), kept-same _ _)
 
 slice-aggregate-with-chain : tie.Need-slice-aggregate-with-chain Inv-loop μ-loop
-slice-aggregate-with-chain c = sym (c .before .before .before .before .before .before .successors .ensures .size)
+slice-aggregate-with-chain c =
+    let test = turn-of c in
+    sym (successors-of test .successors .ensures .size)
 
 with-chain-requires : tie.Need-with-chain-requires Inv-loop μ-loop
 with-chain-requires c κs =
-    let o = c .before .before .before .before .before in
-    let e = o .before .successors .ensures in
-    let a = o .before .before .before .before in
-    let l = c .before .before .before .before .loop-test .taken in (
+    let test = turn-of c in let o = test .before in let successors = o .before in let a = start-of successors in
+    let e = successors .successors .ensures in
+    let l = test .loop-test .taken in (
       a .pre .0,
       e .size,
       l,
-      laid-ready _ _ (a .pre .0) _ e _ _ _ (o .loop .inv .0) l (c .before .before .if1 .taken) (omega (arith, a .pre .2, o .loop .inv .1 .long)),
+      laid-ready _ _ (a .pre .0) _ e _ _ _ (o .loop .inv .0) l (c .before .before .if1 .taken)
+          (omega (arith, a .pre .2, o .loop .inv .1 .long)),
     )
 
 add-count : tie.Need-add-count Inv-loop μ-loop
 add-count c =
     let o = c .before .before .before .before .before .before .before .before in
-    let small = o .before .before .before .before .pre .0 in
+    let small = start-of (o .before) .pre .0 in
     omega (arith, laid-few _ _ small _ _ _ (o .loop .inv .0))
 
 loop-less : tie.Need-loop-less Inv-loop μ-loop
-loop-less c = let l = c .before .before .before .before .before .before .before .loop-test .taken in omega arith
+loop-less c =
+    let successor = c .before .before .before in
+    let l = turn-of successor .loop-test .taken in omega arith
 
 loop-again : tie.Need-loop-again Inv-loop μ-loop
 loop-again c =
-    let w = c .before .before .with-chain .ensures in
-    let i = c .before .before .before .before .before in
-    let o = i .before .before .before in (
-      laid-chain _ _ (o .before .before .before .before .pre .0) _ (o .before .successors .ensures) _ _ _ (o .loop .inv .0)
-          (i .before .before .loop-test .taken) (i .if1 .taken) _ w,
+    let with-chain = c .before .before in let successor = with-chain .before in let i = successor .before .before in
+    let test = turn-of successor in let o = test .before in let successors = o .before in
+    let w = with-chain .with-chain .ensures in (
+      laid-chain _ _ (start-of successors .pre .0) _ (successors .successors .ensures) _ _ _ (o .loop .inv .0)
+          (test .loop-test .taken) (i .if1 .taken) _ w,
       kept-on _ _ _ (o .loop .inv .1) _ (w .kept),
     )
 
 loop-again-2 : tie.Need-loop-again-2 Inv-loop μ-loop
 loop-again-2 c =
-    let o = c .before .before .before in (
-      laid-pass _ _ (o .before .before .before .before .pre .0) _ (o .before .successors .ensures) _ _ _ (o .loop .inv .0)
-          (c .before .before .loop-test .taken) (c .if1 .left),
+    let test = c .before .before in let o = test .before in let successors = o .before in (
+      laid-pass _ _ (start-of successors .pre .0) _ (successors .successors .ensures) _ _ _ (o .loop .inv .0)
+          (test .loop-test .taken) (c .if1 .left),
       o .loop .inv .1,
     )
 
 cast-t18 : tie.Need-cast-t18 Inv-loop μ-loop
 cast-t18 c =
     let o = c .before in
-    let small = o .before .before .before .before .pre .0 in
+    let small = start-of (o .before) .pre .0 in
     omega (arith, laid-few _ _ small _ _ _ (o .loop .inv .0))
 
 same-length : tie.Need-same-length Inv-loop μ-loop
@@ -69,7 +83,7 @@ same-length c = c .before .loop .inv .1 .long
 returns : tie.Need-returns Inv-loop μ-loop
 returns c =
     let o = c .before in
-    (refl, laid-all _ _ (o .before .before .before .before .pre .0) _ _ _ (o .loop .inv .0) (c .loop-test .left), o .loop .inv .1)
+    (refl, laid-all _ _ (start-of (o .before) .pre .0) _ _ _ (o .loop .inv .0) (c .loop-test .left), o .loop .inv .1)
 
 pub chains-spec : {M : Type 1} → statement M
 chains-spec =

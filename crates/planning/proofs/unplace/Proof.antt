@@ -12,16 +12,22 @@ abbrev μ-loop : tie.MeasureT-loop
 μ-loop n places₀ room v₀ places v = n - v
 
 loop-holds : tie.Need-loop-holds Inv-loop μ-loop
-loop-holds c = (record { counted = refl; channel = λ u l. absurd (omega arith); position = λ u l. absurd (omega arith) }, kept-same _ _, omega arith, omega arith)
+loop-holds c = (
+  record { counted = refl; channel = λ u l. absurd (omega arith); position = λ u l. absurd (omega arith) },
+  kept-same _ _,
+  omega arith,
+  omega arith,
+)
 
 same-length : tie.Need-same-length Inv-loop μ-loop
 same-length c = c .before .before .loop .inv .1 .long
 
 returns : tie.Need-returns Inv-loop μ-loop
 returns c =
-    let l = c .before .loop-test .taken in
+    let test = c .before in
+    let l = test .loop-test .taken in
     let r = c .if1 .taken in
-    let i = c .before .before .loop .inv in
+    let i = test .before .loop .inv in
     (omega (arith, i .3), i .0, i .1)
 
 slice-write-places : tie.Need-slice-write-places Inv-loop μ-loop
@@ -32,8 +38,9 @@ slice-write-places-2 c = simp length-set (omega (arith, c .if1 .left, c .before 
 
 loop-again : tie.Need-loop-again Inv-loop μ-loop
 loop-again c =
-    let i = c .before .before .loop .inv in
-    let l = c .before .loop-test .taken in
+    let test = c .before in
+    let i = test .before .loop .inv in
+    let l = test .loop-test .taken in
     let r = c .if1 .left in (
       none-more _ _ (omega (arith, r, i .1 .long)) (i .0),
       kept-placed _ _ _ (kept-wider _ _ _ (i .1) _ (omega arith)) _ 0 0 (omega arith),

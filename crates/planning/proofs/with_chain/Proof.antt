@@ -10,11 +10,15 @@ Inv-loop places₀ successor n count v p₀ w₀ places p w = Follows n successo
 abbrev μ-loop : tie.MeasureT-loop
 μ-loop places₀ successor n count v p₀ w₀ places p w = suc n - p
 
+-- the places that facts are read from
+abbrev start-of : tie.At-loop Inv-loop μ-loop → tie.Start Inv-loop μ-loop
+start-of c = c .before .before .before
+
 -- the next vertex has its entry, and its position is a byte
 entry : (c : tie.In-loop Inv-loop μ-loop) → (c .before .loop .p < 128) × (4 * c .before .loop .w + 4 ≤ length (c .before .loop .places))
 entry c =
-    let l = c .before .loop in
-    let a = c .before .before .before .before in
+    let head = c .before in let a = start-of head in
+    let l = head .loop in
     let x = a .pre .3 in
     let w = c .loop-test .taken in (
       following-byte _ _ _ (a .pre .0) (a .pre .2) _ (x .fits) _ _ _ _ (l .inv .each (x .ls) (x .arranged) (x .fits)) w,
@@ -26,7 +30,7 @@ loop-holds c = follows-none _ _ _ _ _
 
 cast-places : tie.Need-cast-places Inv-loop μ-loop
 cast-places c =
-    let a = c .before .before .before .before in
+    let a = start-of (c .before) in
     omega (arith, ready-few _ _ _ (a .pre .0) (a .pre .2) _ _ (a .pre .3))
 
 slice-write-places : tie.Need-slice-write-places Inv-loop μ-loop
@@ -43,25 +47,23 @@ add-p c = omega (arith, entry c .0)
 
 loop-less : tie.Need-loop-less Inv-loop μ-loop
 loop-less c =
-    let o = c .before .before .before in
-    let a = o .before .before .before in
+    let o = c .before .before .before in let a = start-of o in
     let x = a .pre .3 in
     let f = o .loop .inv .each (x .ls) (x .arranged) (x .fits) in
     omega (arith, within _ _ _ (a .pre .0) (a .pre .2) _ (x .fits) _ _ _ _ f)
 
 loop-again : tie.Need-loop-again Inv-loop μ-loop
 loop-again c =
-    let t = c .before .before in
-    let a = t .before .before .before .before in
-    follows-more _ _ _ (a .pre .0) (a .pre .2) _ _ _ _ _ (t .before .loop .inv) (a .pre .3 .room) (t .loop-test .taken) _ (c .wide .ensures .0)
+    let t = c .before .before in let head = t .before in let a = start-of head in
+    follows-more _ _ _ (a .pre .0) (a .pre .2) _ _ _ _ _ (head .loop .inv) (a .pre .3 .room) (t .loop-test .taken) _ (c .wide .ensures .0)
 
 same-length : tie.Need-same-length Inv-loop μ-loop
 same-length c = c .before .loop .inv .kept .long
 
 returns : tie.Need-returns Inv-loop μ-loop
 returns c =
-    let a = c .before .before .before .before in
-    follows-all _ _ _ (a .pre .0) (a .pre .2) _ _ _ _ _ (c .before .loop .inv) (c .loop-test .left)
+    let head = c .before in let a = start-of head in
+    follows-all _ _ _ (a .pre .0) (a .pre .2) _ _ _ _ _ (head .loop .inv) (c .loop-test .left)
 
 pub with-chain-spec : {M : Type 1} → statement M
 with-chain-spec =

@@ -23,7 +23,8 @@ slice-write-sets-2 c = simp length-set (omega arith)
 
 loop-again : tie.Need-loop-again Inv-loop μ-loop
 loop-again c =
-    let l = c .before .before .before .before .before .loop in (
+    let head = c .before .before .before .before .before in
+    let l = head .loop in (
       omega arith,
       twice-length (l .sets) (2 * l .k + 2) (2 * l .k + 3) (getD (l .sets) (2 * l .k) 0) (getD (l .sets) (2 * l .k + 1) 0) ∙ l .inv .1,
       λ n key g. stage-pair _ _ _ _ _ _ (omega arith) refl (l .inv .2 n key g),
@@ -31,8 +32,9 @@ loop-again c =
 
 returns : tie.Need-returns Inv-loop μ-loop
 returns c =
-    let l = c .before .loop in
-    let a = c .before .before .args in
+    let head = c .before in
+    let l = head .loop in
+    let a = head .before .args in
     let e : l .k ≡ a .top = omega arith in
     λ n key g. stage-all 2 key (a .top) n (l .sets) (subst (λ (k : ℕ). Stage 2 n key (a .top) k (l .sets)) e (l .inv .2 n key g))
 

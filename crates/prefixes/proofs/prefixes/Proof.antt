@@ -13,36 +13,52 @@ Inv-loop places n top sets₀ m last v₀ sets v =
 abbrev μ-loop : tie.MeasureT-loop
 μ-loop places n top sets₀ m last v₀ sets v = m - v
 
+-- the places that facts are read from
+abbrev start-of : tie.After-last-set Inv-loop μ-loop → tie.Start Inv-loop μ-loop
+start-of c = c .before .before .before .before .before
+
+abbrev clear-of : tie.At-loop Inv-loop μ-loop → tie.After-clear Inv-loop μ-loop
+clear-of c = c .before .before .before
+
+abbrev last-set-of : tie.After-clear Inv-loop μ-loop → tie.After-last-set Inv-loop μ-loop
+last-set-of c = c .before .before
+
+abbrev head-of : tie.After-join Inv-loop μ-loop → tie.At-loop Inv-loop μ-loop
+head-of c = c .before .before .before
+
 loop-holds : tie.Need-loop-holds Inv-loop μ-loop
 loop-holds c =
-    let m = length (c .before .before .before .before .before .before .before .before .before .args .sets .now) in
-    let e = c .before .before .before .before .last-set .ensures in
-    (zero-le, refl, stage-start _ _ m _ (c .before .before .clear .ensures) (omega arith))
+    let clear = c .before .before in let last-set = last-set-of clear in
+    let m = length (start-of last-set .args .sets .now) in
+    let e = last-set .last-set .ensures in
+    (zero-le, refl, stage-start _ _ m _ (clear .clear .ensures) (omega arith))
 
 loop-again : tie.Need-loop-again Inv-loop μ-loop
 loop-again c =
-    let call = c .before .before .insert in
-    let l = c .before .before .before .before .before .before .before .loop in
-    let put = put-step _ _ _ _ _ _ (omega arith) (c .before .before .before .wide .ensures .0) (call .ensures .1) (l .inv .2) in
+    let insert = c .before .before in let wide = insert .before in
+    let call = insert .insert in
+    let l = wide .before .before .before .before .loop in
+    let put = put-step _ _ _ _ _ _ (omega arith) (wide .wide .ensures .0) (call .ensures .1) (l .inv .2) in
     (omega arith, call .kept .0 ∙ l .inv .1, put)
 
 join-requires : tie.Need-join-requires Inv-loop μ-loop
 join-requires c κs =
-    let e = c .before .before .before .before .before .before .before .last-set .ensures in
-    omega (arith, c .before .before .loop .inv .1, c .before .before .before .before .before .clear .kept .0)
+    let head = c .before .before in let clear = clear-of head in
+    let e = last-set-of clear .last-set .ensures in
+    omega (arith, head .loop .inv .1, clear .clear .kept .0)
 
 same-length : tie.Need-same-length Inv-loop μ-loop
 same-length c =
-    let l = c .before .before .before .before .before in
-    c .before .before .join .kept .0 ∙ l .loop .inv .1 ∙ l .before .before .before .clear .kept .0
+    let join = c .before .before in let l = head-of join in
+    join .join .kept .0 ∙ l .loop .inv .1 ∙ clear-of l .clear .kept .0
 
 returns : tie.Need-returns Inv-loop μ-loop
 returns c =
-    let i = c .before .before .before .before .before in
+    let join = c .before .before in let i = head-of join in let clear = clear-of i in let last-set = last-set-of clear in
     let l = i .loop in
-    let a = i .before .before .before .before .before .before .before .before .before .before .args in
+    let a = start-of last-set .args in
     let full : l .v ≡ min (min (a .n) 128) (length (a .places .now) / 4) = omega arith in
-    (i .before .before .before .before .before .last-set .ensures, stage-joined _ _ _ _ _ _ full (l .inv .2) (c .before .before .join .ensures), same-length c)
+    (last-set .last-set .ensures, stage-joined _ _ _ _ _ _ full (l .inv .2) (join .join .ensures), same-length c)
 
 pub prefixes-spec : {M : Type 1} → statement M
 prefixes-spec =

@@ -9,6 +9,13 @@ Inv-loop ends n edges₀ m double₀ i₀ edges double i = (i ≤ m) × (length 
 abbrev μ-loop : tie.MeasureT-loop
 μ-loop ends n edges₀ m double₀ i₀ edges double i = m - i
 
+-- the places that facts are read from
+abbrev start-of : tie.At-loop Inv-loop μ-loop → tie.Start Inv-loop μ-loop
+start-of c = c .before .before .before
+
+abbrev turn-of : tie.After-wide Inv-loop μ-loop → tie.In-loop Inv-loop μ-loop
+turn-of c = c .before .before
+
 loop-holds : tie.Need-loop-holds Inv-loop μ-loop
 loop-holds c =
     let st = c .before .before in
@@ -16,31 +23,26 @@ loop-holds c =
 
 returns : tie.Need-returns Inv-loop μ-loop
 returns c =
-    let u = c .before .before .before in
-    let l = u .before .before .before .loop in
-    let a = u .before .before .before .before .before .before .args in
+    let u = c .before .before .before in let test = turn-of u in let head = test .before in
+    let l = head .loop in
+    let a = start-of head .args in
     let bad : a .n ≤ getD (a .ends .now) (2 * l .i) 0 = subst (λ (x : ℕ). a .n ≤ x) (u .wide .ensures .0) (c .if1 .taken) in
-    scanned-strange (a .n) (a .ends .now) (l .i) (l .edges) (l .double) (l .inv .2) (u .before .before .loop-test .taken) (inl bad)
+    scanned-strange (a .n) (a .ends .now) (l .i) (l .edges) (l .double) (l .inv .2) (test .loop-test .taken) (inl bad)
 
 returns-2 : tie.Need-returns-2 Inv-loop μ-loop
 returns-2 c =
-    let v = c .before .before in
-    let t = v .before .before .before .before in
-    let l = t .before .loop in
-    let a = t .before .before .before .before .args in
+    let v = c .before .before in let t = turn-of (v .before .before) in let head = t .before in
+    let l = head .loop in
+    let a = start-of head .args in
     let bad : a .n ≤ getD (a .ends .now) (2 * l .i + 1) 0 = subst (λ (x : ℕ). a .n ≤ x) (v .wide2 .ensures .0) (c .if2 .taken) in
     scanned-strange (a .n) (a .ends .now) (l .i) (l .edges) (l .double) (l .inv .2) (t .loop-test .taken) (inr bad)
 
 loop-again : tie.Need-loop-again Inv-loop μ-loop
 loop-again c =
-    let m = c .before .before in
-    let second = m .before .before in
-    let first = second .before in
-    let v = first .before in
-    let u = v .before .before in
-    let l = u .before .before .before .loop in
-    let st = u .before .before .before .before .before .before in
-    let here = u .before .before .loop-test .taken in (
+    let m = c .before .before in let second = m .before .before in let first = second .before in let v = first .before in
+    let u = v .before .before in let test = turn-of u in let head = test .before in let st = start-of head in
+    let l = head .loop in
+    let here = test .loop-test .taken in (
       omega arith,
       m .mark .kept .0 ∙ l .inv .1,
       scanning-more (st .args .n) (st .args .ends .now) (l .i) (l .edges) (l .double) (st .pre .0)
@@ -50,8 +52,8 @@ loop-again c =
 
 returns-3 : tie.Need-returns-3 Inv-loop μ-loop
 returns-3 c =
-    let st = c .before .before .before .before in
-    let l = c .before .loop in
+    let head = c .before in let st = start-of head in
+    let l = head .loop in
     scanned-all (st .args .n) (st .args .ends .now) (l .i) (l .edges) (l .double) (st .pre .0) (omega arith) (l .inv .2)
 
 pub scan-spec : {M : Type 1} → statement M

@@ -16,8 +16,9 @@ returns-2 c = simp (le-leb _ _ (c .before .if1 .left), lt-leb _ _ (c .if2 .taken
 returns-3 : tie.Need-returns-3
 unfolding appended digit?
 returns-3 c =
-    simp (le-leb _ _ (c .before .before .before .if1 .left), le-leb _ _ (c .before .before .if2 .left))
-    (ap Numeral.Value (c .capped2 .ensures ∙ ap (λ (v : ℕ). min (v * 10 + (c .before .before .before .before .args .byte - 48)) 129) (c .before .capped .ensures)))
+    let capped = c .before in let if2 = capped .before in let if1 = if2 .before in
+    simp (le-leb _ _ (if1 .if1 .left), le-leb _ _ (if2 .if2 .left))
+    (ap Numeral.Value (c .capped2 .ensures ∙ ap (λ (v : ℕ). min (v * 10 + (if1 .before .args .byte - 48)) 129) (capped .capped .ensures)))
 
 pub append-spec : {M : Type 1} → statement M
 append-spec =

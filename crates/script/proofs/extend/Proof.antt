@@ -8,10 +8,14 @@ enum-told : tie.Need-enum-told
 enum-told c = search needs
 
 returns : tie.Need-returns
-returns c = c .append .ensures ∙ sym (ap (λ (n : Numeral). extended n (c .before .before .before .args .byte)) (c .before .enum-told .given .1))
+returns c =
+    let enum-told = c .before in
+    c .append .ensures ∙ sym (ap (λ (n : Numeral). extended n (enum-told .before .before .args .byte)) (enum-told .enum-told .given .1))
 
 returns-2 : tie.Need-returns-2
-returns-2 c = c .append2 .ensures ∙ sym (ap (λ (n : Numeral). extended n (c .before .before .before .before .args .byte)) (c .before .before .n .given .1))
+returns-2 c =
+    let at-n = c .before .before in
+    c .append2 .ensures ∙ sym (ap (λ (n : Numeral). extended n (at-n .before .before .args .byte)) (at-n .n .given .1))
 
 pub extend-spec : {M : Type 1} → statement M
 extend-spec =

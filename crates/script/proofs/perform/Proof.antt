@@ -11,23 +11,28 @@ enum-told c = search needs
 returns : tie.Need-returns
 unfolding Effect
 returns c =
-    let a = c .before .before .before .before .before .before .args in
-    let call = c .before .before .start in
-    performs (a .s) (a .command) (Command.Words _) _ (c .before .before .before .before .command .given .1) (call .result, call .ensures, refl, c .changed .ensures)
+    let start = c .before .before in let command = start .before .before in
+    let a = command .before .before .args in
+    let call = start .start in
+    performs (a .s) (a .command) (Command.Words _) _ (command .command .given .1) (call .result, call .ensures, refl, c .changed .ensures)
 
 returns-2 : tie.Need-returns-2
 unfolding Effect
 returns-2 c =
-    let a = c .before .before .before .before .before .before .args in
-    let call = c .before .before .add in
-    performs (a .s) (a .command) (Command.Add _ _) _ (c .before .before .before .before .command2 .given .1) (call .result, call .ensures, refl, c .changed2 .ensures)
+    let add = c .before .before in let command2 = add .before .before in
+    let a = command2 .before .before .args in
+    let call = add .add in
+    performs (a .s) (a .command) (Command.Add _ _) _ (command2 .command2 .given .1)
+    (call .result, call .ensures, refl, c .changed2 .ensures)
 
 returns-3 : tie.Need-returns-3
 unfolding Effect
 returns-3 c =
-    let a = c .before .before .before .before .before .args in
-    let call = c .before .leads in
-    performs (a .s) (a .command) (Command.Leads _ _) _ (c .before .before .before .command3 .given .1) (call .result, call .ensures, refl, c .replied .ensures)
+    let leads = c .before in let command3 = leads .before .before in
+    let a = command3 .before .before .args in
+    let call = leads .leads in
+    performs (a .s) (a .command) (Command.Leads _ _) _ (command3 .command3 .given .1)
+    (call .result, call .ensures, refl, c .replied .ensures)
 
 returns-4 : tie.Need-returns-4
 unfolding Effect saidOf

@@ -7,23 +7,31 @@ use Rattle.search.proofs.matched.Tie as tie
 use Rattle.specification.specs.Sets.{has?}
 
 abbrev Inv-loop : tie.InvT-loop
-Inv-loop table n most predecessor₀ h₀ predecessor h = (h ≤ most) × (length predecessor ≡ 128) × (matching (has? 2 table) most ≡ asks (has? 2 table) most (most - h) h predecessor)
+Inv-loop table n most predecessor₀ h₀ predecessor h =
+    (h ≤ most) × (length predecessor ≡ 128) × (matching (has? 2 table) most ≡ asks (has? 2 table) most (most - h) h predecessor)
 
 abbrev μ-loop : tie.MeasureT-loop
 μ-loop table n most predecessor₀ h₀ predecessor h = most - h
+
+-- the places that facts are read from
+abbrev head-of : tie.After-predecessor Inv-loop μ-loop → tie.At-loop Inv-loop μ-loop
+head-of c = c .before .before .before
 
 loop-holds : tie.Need-loop-holds Inv-loop μ-loop
 loop-holds c =
     (omega arith, refl, ask-none _ _)
 
 ask-requires : tie.Need-ask-requires Inv-loop μ-loop
-ask-requires c κs = (omega arith, c .before .before .before .loop .inv .1)
+ask-requires c κs = (omega arith, head-of c .loop .inv .1)
 
 loop-again : tie.Need-loop-again Inv-loop μ-loop
 loop-again c =
-    let a = c .before in
-    let o = a .before .before .before .before in
-    (omega arith, a .ask .kept .1 .1 .1 .0 ∙ o .loop .inv .1, o .loop .inv .2 ∙ ask-more _ _ _ _ _ _ _ (omega arith) (a .ask .ensures .augments))
+    let a = c .before in let o = head-of (a .before) in (
+      omega arith,
+      a .ask .kept .1 .1 .1 .0 ∙ o .loop .inv .1,
+      o .loop .inv .2
+          ∙ ask-more _ _ _ _ _ _ _ (omega arith) (a .ask .ensures .augments),
+    )
 
 returns : tie.Need-returns Inv-loop μ-loop
 returns c =

@@ -8,7 +8,7 @@ returns : tie.Need-returns
 returns c = put-low _ _ (c .before .if1 .taken)
 
 returns-2 : tie.Need-returns-2
-returns-2 c = put-high _ _ (c .before .if1 .left) (c .before .before .pre .1)
+returns-2 c = let if1 = c .before in put-high _ _ (if1 .if1 .left) (if1 .before .pre .1)
 
 pub visit-spec : {M : Type 1} → statement M
 visit-spec =

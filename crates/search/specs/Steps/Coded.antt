@@ -11,8 +11,7 @@ use Rattle.specification.specs.Sets.{member?, inserted}
 abbrev pub nobody : ℕ
 nobody = 255
 
--- each vertex's predecessor or `nobody`; the vertices visited in this search, a set of masks; and whether the last search found a
--- successor
+-- each vertex's predecessor or `nobody`; the vertices visited in this search, a set of masks; and whether the last search found a successor
 pub record State : Type 0 where
   pub predecessor : List ℕ
   pub visited : List ℕ

@@ -6,7 +6,8 @@ use Rattle.session.proofs.main.Statement.{statement}
 use Rattle.session.proofs.main.Tie as tie
 
 abbrev Inv-loop : tie.InvT-loop
-Inv-loop input₀ output₀ state₀ turn₀ t9 input output state turn = (65536 ≡ length input) × (65536 ≡ length output) × (turn ≤ 18446744073709551615)
+Inv-loop input₀ output₀ state₀ turn₀ t9 input output state turn =
+    (65536 ≡ length input) × (65536 ≡ length output) × (turn ≤ 18446744073709551615)
 
 abbrev μ-loop : tie.MeasureT-loop
 μ-loop input₀ output₀ state₀ turn₀ t9 input output state turn = 18446744073709551615 - turn

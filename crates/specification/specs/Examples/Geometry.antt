@@ -6,7 +6,8 @@ use native.Mathlib.Omega.{arith}
 use lib.ListN.{getD}
 use Rattle.specification.specs.Count.{sum, some}
 use Rattle.specification.specs.declared.Course.the-variants.{Straight, Bent}
-use Rattle.specification.specs.Geometry.{Point, point, isHit, isBlocked, Widths, gapWidth, evenGaps, trackAt, blockWidth, blockStart, ownColumn, bendBeside, courseOf}
+use Rattle.specification.specs.Geometry.{Point, point, isHit, isBlocked, Widths, gapWidth, evenGaps, trackAt, blockWidth, blockStart}
+use Rattle.specification.specs.Geometry.{ownColumn, bendBeside, courseOf}
 
 -- no tracks
 abbrev bare : Widths

@@ -15,7 +15,8 @@ heads = 1 ∷ 2 ∷ 3 ∷ 3 ∷ 4 ∷ 3 ∷ []
 
 pub record Worked : Type 0 where
   -- 0 reaches the four others, and nothing else
-  pub p1 : (reachable? 5 tails heads 0 1 ≡ true) × (reachable? 5 tails heads 0 2 ≡ true) × (reachable? 5 tails heads 0 3 ≡ true) × (reachable? 5 tails heads 0 4 ≡ true)
+  pub p1 : (reachable? 5 tails heads 0 1 ≡ true) × (reachable? 5 tails heads 0 2 ≡ true) × (reachable? 5 tails heads 0 3 ≡ true)
+      × (reachable? 5 tails heads 0 4 ≡ true)
   pub four : count 128 (reachable? 5 tails heads 0) ≡ 4
   pub back : reachable? 5 tails heads 4 0 ≡ false
   pub acyclic : some 128 (λ u. reachable? 5 tails heads u u) ≡ false

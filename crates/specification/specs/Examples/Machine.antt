@@ -4,7 +4,8 @@ use mathlib.Core.Bool.{true, false}
 use mathlib.Core.List.{List, [], _∷_}
 use Prim.Native.Nat.{ℕ, zero, suc}
 use Rattle.specification.specs.Graph.{reaches?, sizeRefusal, unsized?}
-use Rattle.specification.specs.Machine.{Edge, Graph, contains, unknown?, reached?, cyclic?, full?, verdict, refusal, insert, change, reply, step, run, answers, startVertices, fresh}
+use Rattle.specification.specs.Machine.{Edge, Graph, contains, unknown?, reached?, cyclic?, full?, verdict, refusal, insert, change}
+use Rattle.specification.specs.Machine.{reply, step, run, answers, startVertices, fresh}
 use Rattle.specification.specs.Machine.Edge.{edge}
 use Rattle.specification.specs.Machine.Call.{add, leads}
 use Rattle.specification.specs.Machine.Answer.{refused, added, told}
@@ -37,7 +38,8 @@ pub record Worked : Type 0 where
   pub full : refusal crowded 2 3 ≡ 9
 
 pub worked : Worked
-unfolding answers run step change reply insert refusal verdict unknown? reached? cyclic? full? contains reaches? fresh machine.empty sizeRefusal unsized? startVertices crowded copies
+unfolding answers run step change reply insert refusal verdict unknown? reached? cyclic? full? contains reaches? fresh machine.empty
+    sizeRefusal unsized? startVertices crowded copies
 worked = record {
   p9 = refl;
   p10 = refl;

@@ -33,7 +33,8 @@ route = reaches? arrow 4
 
 pub record Worked : Type 0 where
   -- of P1's arrows, 5 alone is implied
-  pub firm : (transitive? leads 5 0 1 ≡ false) × (transitive? leads 5 0 2 ≡ false) × (transitive? leads 5 1 3 ≡ false) × (transitive? leads 5 2 3 ≡ false) × (transitive? leads 5 3 4 ≡ false)
+  pub firm : (transitive? leads 5 0 1 ≡ false) × (transitive? leads 5 0 2 ≡ false) × (transitive? leads 5 1 3 ≡ false)
+      × (transitive? leads 5 2 3 ≡ false) × (transitive? leads 5 3 4 ≡ false)
   pub implied : transitive? leads 5 0 3 ≡ true
   pub counted : reducedCount leads 5 6 tails heads ≡ 5
   pub links : linkCount 5 (reducedLink leads 5 tails heads) ≡ 5

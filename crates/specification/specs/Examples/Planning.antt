@@ -6,7 +6,8 @@ use mathlib.Core.Option.{some}
 use Prim.Native.Nat.{ℕ}
 use lib.Dec.{ltb}
 use lib.ListN.{getD}
-use Rattle.specification.specs.Planning.{predecessorOf, none?, is?, candidate, marked, taken, answered, freed, scan, augment, asks, matchingTo, matching, successorFrom, successor, chain, begins, begun, plannedTo, planned}
+use Rattle.specification.specs.Planning.{predecessorOf, none?, is?, candidate, marked, taken, answered, freed, scan, augment, asks}
+use Rattle.specification.specs.Planning.{matchingTo, matching, successorFrom, successor, chain, begins, begun, plannedTo, planned}
 use Rattle.specification.specs.Channels.{has, placeFrom, channelFrom, channelOf, positionOf}
 
 -- the relation in which u leads to the vertices of the list at u
@@ -62,7 +63,8 @@ once = related ([] ∷ (0 ∷ 2 ∷ 3 ∷ 4 ∷ []) ∷ [] ∷ (0 ∷ 2 ∷ 4 �
 
 pub record Worked : Type 0 where
   pub tried-once :
-      (predecessorOf (matching round 3) 0 ≡ some 2) × (predecessorOf (matching round 3) 1 ≡ some 0) × (predecessorOf (matching round 3) 2 ≡ some 1)
+      (predecessorOf (matching round 3) 0 ≡ some 2) × (predecessorOf (matching round 3) 1 ≡ some 0)
+      × (predecessorOf (matching round 3) 2 ≡ some 1)
   pub proof-table : planned p2 5 ≡ (0 ∷ 1 ∷ 4 ∷ []) ∷ (2 ∷ 3 ∷ []) ∷ []
   pub moved : planned keep 4 ≡ (0 ∷ 3 ∷ []) ∷ (1 ∷ 2 ∷ []) ∷ []
   pub by-routes : planned routes 5 ≡ (0 ∷ 2 ∷ 3 ∷ []) ∷ (1 ∷ 4 ∷ []) ∷ []
@@ -74,7 +76,9 @@ pub record Worked : Type 0 where
   pub places : (channelOf (planned p2 5) 3 ≡ 1) × (positionOf (planned p2 5) 4 ≡ 2)
 
 pub worked : Worked
-unfolding planned plannedTo begun begins chain successor successorFrom matching matchingTo asks augment scan freed candidate marked taken answered predecessorOf none? is? has channelFrom channelOf positionOf placeFrom p2 keep arrows routes lower all ring round once related among
+unfolding planned plannedTo begun begins chain successor successorFrom matching matchingTo asks augment scan freed candidate marked taken
+    answered predecessorOf none? is? has channelFrom channelOf positionOf placeFrom p2 keep arrows routes lower all ring round once related
+    among
 worked = record {
   tried-once = (refl, refl, refl);
   proof-table = refl;

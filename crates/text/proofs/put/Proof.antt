@@ -11,6 +11,10 @@ Inv-loop output₀ used text i₀ i-end output i =
 abbrev μ-loop : tie.MeasureT-loop
 μ-loop output₀ used text i₀ i-end output i = i-end - i
 
+-- the places that facts are read from
+abbrev start-of : tie.At-loop Inv-loop μ-loop → tie.Start Inv-loop μ-loop
+start-of c = c .before .before .before
+
 returns : tie.Need-returns Inv-loop μ-loop
 returns c = let a = c .before .args in (omega arith, puts-none (a .output .now) (a .used) (a .text .now) (omega arith))
 
@@ -22,16 +26,18 @@ loop-holds c = let a = c .before .before .args in (zero-le, refl, omega arith, w
 
 loop-again : tie.Need-loop-again Inv-loop μ-loop
 loop-again c =
-    let a = c .before .before .before .before .before .args in
-    let l = c .before .before .loop in
+    let head = c .before .before in
+    let a = start-of head .args in
+    let l = head .loop in
     let w = l .inv .3 in
     let room : a .used + l .i < length (l .output) = omega (arith, w .as-long) in
     (omega arith, refl, omega arith, written-more (a .output .now) (a .used) (a .text .now) (l .i) (l .output) room w)
 
 returns-3 : tie.Need-returns-3 Inv-loop μ-loop
 returns-3 c =
-    let a = c .before .before .before .before .args in
-    let l = c .before .loop in
+    let head = c .before in
+    let a = start-of head .args in
+    let l = head .loop in
     let end : l .i ≡ length (a .text .now) = omega arith in
     let all = subst (λ (i : ℕ). Written (a .output .now) (a .used) (a .text .now) i (l .output)) end (l .inv .3) in
     (omega arith, puts-whole (a .output .now) (a .used) (a .text .now) (l .inv .2) (l .output) all)

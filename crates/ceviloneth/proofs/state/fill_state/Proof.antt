@@ -20,14 +20,18 @@ slice-write-out : tie.Need-slice-write-out Inv-loop μ-loop
 slice-write-out c = omega (arith, c .before .before .before .before .loop .inv .1 .as-long)
 
 loop-again : tie.Need-loop-again Inv-loop μ-loop
-loop-again c = (omega arith, filled-more _ _ _ _ _ (omega arith) (c .state-number .ensures) (c .before .before .before .before .loop .inv .1))
+loop-again c =
+    (omega arith, filled-more _ _ _ _ _ (omega arith) (c .state-number .ensures) (c .before .before .before .before .loop .inv .1))
 
 same-length : tie.Need-same-length Inv-loop μ-loop
 same-length c = c .before .loop .inv .1 .as-long
 
 returns : tie.Need-returns Inv-loop μ-loop
 unfolding sessionBy
-returns c = stored _ _ _ (c .before .before .before .before .before .pre) (search needs) (search needs) (filled-all _ _ _ _ _ (c .before .loop .inv .0) (c .loop-test .left) (c .before .loop .inv .1))
+returns c =
+    let head = c .before in
+    stored _ _ _ (head .before .before .before .before .pre) (search needs) (search needs)
+    (filled-all _ _ _ _ _ (head .loop .inv .0) (c .loop-test .left) (head .loop .inv .1))
 
 pub fill-state-spec : {M : Type 1} → statement M
 fill-state-spec =

@@ -19,7 +19,9 @@ loop-again : tie.Need-loop-again Inv-loop μ-loop
 loop-again c = (omega arith, filled-more _ _ _ _ _ (omega arith) refl (c .before .before .loop .inv .1))
 
 returns : tie.Need-returns Inv-loop μ-loop
-returns c = copied _ _ _ _ (c .before .before .pre) (c .before .loop .inv .0) (c .loop-test .left) (c .before .loop .inv .1)
+returns c =
+    let head = c .before in
+    copied _ _ _ _ (head .before .pre) (head .loop .inv .0) (c .loop-test .left) (head .loop .inv .1)
 
 pub masks-at-spec : {M : Type 1} → statement M
 masks-at-spec =

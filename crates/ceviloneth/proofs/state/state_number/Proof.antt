@@ -14,11 +14,15 @@ returns-2 c = simp (ne-eqb _ _ (c .before .if1 .left), eq-eqb _ _ (c .if2 .taken
 
 returns-3 : tie.Need-returns-3
 unfolding stateNumber sessionBy
-returns-3 c = simp (ne-eqb _ _ (c .before .before .before .if1 .left), ne-eqb _ _ (c .before .before .if2 .left), lt-ltb _ _ (c .before .if3 .taken))
+returns-3 c =
+    let if3 = c .before in let if2 = if3 .before in
+    simp (ne-eqb _ _ (if2 .before .if1 .left), ne-eqb _ _ (if2 .if2 .left), lt-ltb _ _ (if3 .if3 .taken))
 
 returns-4 : tie.Need-returns-4
 unfolding stateNumber sessionBy
-returns-4 c = simp (ne-eqb _ _ (c .before .before .before .if1 .left), ne-eqb _ _ (c .before .before .if2 .left), le-ltb _ _ (c .before .if3 .left))
+returns-4 c =
+    let if3 = c .before in let if2 = if3 .before in
+    simp (ne-eqb _ _ (if2 .before .if1 .left), ne-eqb _ _ (if2 .if2 .left), le-ltb _ _ (if3 .if3 .left))
 
 pub state-number-spec : {M : Type 1} → statement M
 state-number-spec =

@@ -8,10 +8,12 @@ enum-told : tie.Need-enum-told
 enum-told c = search needs
 
 returns : tie.Need-returns
-returns c = let st = c .before .before in straight-case _ _ (st .before .before .nowhere .ensures) _ _ _ (st .p .given .1) (c .joined .ensures)
+returns c =
+    let st = c .before .before in straight-case _ _ (st .before .before .nowhere .ensures) _ _ _ (st .p .given .1) (c .joined .ensures)
 
 returns-2 : tie.Need-returns-2
-returns-2 c = let st = c .before .before in bent-case _ _ (st .before .before .nowhere .ensures) _ _ _ _ (st .p2 .given .1) (c .joined2 .ensures)
+returns-2 c =
+    let st = c .before .before in bent-case _ _ (st .before .before .nowhere .ensures) _ _ _ _ (st .p2 .given .1) (c .joined2 .ensures)
 
 returns-3 : tie.Need-returns-3
 returns-3 c = let st = c .before .before in side-case _ _ _ _ _ _ (st .p3 .given .1) (c .joined3 .ensures)

@@ -1,4 +1,5 @@
--- `chart_numbers::entries::put_arrows` meets its contract. The invariant: the first e entries stand, the reduced ones are counted. Assumes nothing.
+-- `chart_numbers::entries::put_arrows` meets its contract. The invariant: the first e
+-- entries stand, the reduced ones are counted. Assumes nothing.
 use Rattle.counting.proofs.Prelude.{_≡_, not, _-_, _≤_, arith, needs}
 use Rattle.specification.specs.Count.{count}
 use Rattle.chart_numbers.specs.Steps.Numbers.{given, implied?}
@@ -16,20 +17,24 @@ Inv-loop out₀ ends longer places number columns below left m firm₀ e₀ out 
 abbrev μ-loop : tie.MeasureT-loop
 μ-loop out₀ ends longer places number columns below left m firm₀ e₀ out firm e = m - e
 
+-- the places that facts are read from
+abbrev start-of : tie.At-loop Inv-loop μ-loop → tie.Start Inv-loop μ-loop
+start-of c = c .before .before .before .before .before .before .before .before .before
+
 loop-holds : tie.Need-loop-holds Inv-loop μ-loop
 loop-holds c = (omega arith, entered-none _ _ _, firm-none _, omega arith)
 
 put-arrow-requires : tie.Need-put-arrow-requires Inv-loop μ-loop
 put-arrow-requires c κs =
-    let st = c .before .before .before .before .before .before .before .before .before .before .before in
-    (omega (arith, entered-long _ _ _ _ _ (c .before .before .loop .inv .1)), st .pre .2 _ (omega arith))
+    let head = c .before .before in let st = start-of head in
+    (omega (arith, entered-long _ _ _ _ _ (head .loop .inv .1)), st .pre .2 _ (omega arith))
 
 loop-again : tie.Need-loop-again Inv-loop μ-loop
 loop-again c =
-    let st = c .before .before .before .before .before in
-    let a = st .before .before .before .before .before .before .before .before .before .args in
+    let put-arrow = c .before .before in let st = put-arrow .before .before .before in
+    let a = start-of st .args in
     let g = given (a .ends .now) (a .longer .now) (a .places .now) (a .number .now) (a .columns .now) (a .below .now) (a .left .now) in
-    let put = c .before .before .put-arrow .ensures in
+    let put = put-arrow .put-arrow .ensures in
     let inv = st .loop .inv in
     (omega arith, entered-more 5 (arrowAt g) _ _ _ _ (inv .1) (put .0), firm-more g _ _ _ (inv .2) (put .1), omega arith)
 

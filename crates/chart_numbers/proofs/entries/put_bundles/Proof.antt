@@ -14,18 +14,22 @@ Inv-loop out₀ spans count top i₀ out i = (i ≤ top) × Filled out₀ (bundl
 abbrev μ-loop : tie.MeasureT-loop
 μ-loop out₀ spans count top i₀ out i = top - i
 
+-- the places that facts are read from
+abbrev head-of : tie.After-shared-slice-known Inv-loop μ-loop → tie.At-loop Inv-loop μ-loop
+head-of c = c .before .before
+
 loop-holds : tie.Need-loop-holds Inv-loop μ-loop
 loop-holds c = (omega arith, filled-none _ _)
 
 cast-out : tie.Need-cast-out Inv-loop μ-loop
-cast-out c = let fit = c .shared-slice-known .given (c .before .before .loop .i) .fits in record { fits = omega arith }
+cast-out c = let fit = c .shared-slice-known .given (head-of c .loop .i) .fits in record { fits = omega arith }
 
 slice-write-out : tie.Need-slice-write-out Inv-loop μ-loop
-slice-write-out c = omega (arith, c .before .before .loop .inv .1 .as-long)
+slice-write-out c = omega (arith, head-of c .loop .inv .1 .as-long)
 
 loop-again : tie.Need-loop-again Inv-loop μ-loop
 loop-again c =
-    let st = c .before .before .loop in
+    let st = head-of c .loop in
     (omega arith, filled-more _ _ _ _ _ (omega arith) (bundle-at _ _) (st .inv .1))
 
 same-length : tie.Need-same-length Inv-loop μ-loop

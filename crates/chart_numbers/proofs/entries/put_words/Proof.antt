@@ -14,6 +14,10 @@ Inv-loop out₀ places column n v₀ out v =
 abbrev μ-loop : tie.MeasureT-loop
 μ-loop out₀ places column n v₀ out v = n - v
 
+-- the places that facts are read from
+abbrev head-of : tie.After-shared-slice-known6 Inv-loop μ-loop → tie.At-loop Inv-loop μ-loop
+head-of c = c .before .before .before .before .before .before
+
 loop-holds : tie.Need-loop-holds Inv-loop μ-loop
 loop-holds c = (omega arith, entered-none _ _ _)
 
@@ -21,23 +25,24 @@ cast-put-five : tie.Need-cast-put-five Inv-loop μ-loop
 cast-put-five c = let fit = c .shared-slice-known3 .given (4 * c .before .before .before .loop .v) .fits in record { fits = omega arith }
 
 cast-put-five-2 : tie.Need-cast-put-five-2 Inv-loop μ-loop
-cast-put-five-2 c = let fit = c .shared-slice-known4 .given (4 * c .before .before .before .before .loop .v + 1) .fits in record { fits = omega arith }
+cast-put-five-2 c =
+    let fit = c .shared-slice-known4 .given (4 * c .before .before .before .before .loop .v + 1) .fits in record { fits = omega arith }
 
 cast-put-five-3 : tie.Need-cast-put-five-3 Inv-loop μ-loop
-cast-put-five-3 c = let fit = c .shared-slice-known6 .given (4 * c .before .before .before .before .before .before .loop .v + 2) .fits in record { fits = omega arith }
+cast-put-five-3 c = let fit = c .shared-slice-known6 .given (4 * head-of c .loop .v + 2) .fits in record { fits = omega arith }
 
 cast-put-five-4 : tie.Need-cast-put-five-4 Inv-loop μ-loop
-cast-put-five-4 c = let fit = c .shared-slice-known7 .given (4 * c .before .before .before .before .before .before .before .loop .v + 3) .fits in record { fits = omega arith }
+cast-put-five-4 c = let fit = c .shared-slice-known7 .given (4 * head-of (c .before) .loop .v + 3) .fits in record { fits = omega arith }
 
 put-five-requires : tie.Need-put-five-requires Inv-loop μ-loop
-put-five-requires c κs = omega (arith, entered-long _ _ _ _ _ (c .before .before .before .before .before .before .before .loop .inv .1))
+put-five-requires c κs = omega (arith, entered-long _ _ _ _ _ (head-of (c .before) .loop .inv .1))
 
 loop-again : tie.Need-loop-again Inv-loop μ-loop
-loop-again c = (
-  omega arith,
-  entered-more _ _ _ _ _ _ (c .before .before .before .before .before .before .before .before .before
-      .before .loop .inv .1) (c .before .before .put-five .ensures ∙ word-stored _ _ _ _),
-)
+loop-again c =
+    let put-five = c .before .before in (
+      omega arith,
+      entered-more _ _ _ _ _ _ (head-of (put-five .before .before) .loop .inv .1) (put-five .put-five .ensures ∙ word-stored _ _ _ _),
+    )
 
 same-length : tie.Need-same-length Inv-loop μ-loop
 same-length c = entered-long _ _ _ _ _ (c .before .loop .inv .1)

@@ -1,4 +1,5 @@
--- `chart_numbers::hand::hand_over` meets its contract: refused, or the entries are the chart's (`Leaving.antt`, `Charted.antt`). Assumes nothing.
+-- `chart_numbers::hand::hand_over` meets its contract: refused, or the entries are
+-- the chart's (`Leaving.antt`, `Charted.antt`). Assumes nothing.
 use Rattle.counting.proofs.Prelude.{_≡_, refl, sym, ap, subst, _∙_, List, ℕ, _*_, _/_, _≤_, arith, length, replicate}
 use lib.Seq.{length-take-le}
 use Rattle.specification.specs.Drawn.{graphContent}
@@ -8,6 +9,13 @@ use Rattle.chart_numbers.proofs.Charted.{words-fit, bundles-fit, arrows
 use Rattle.chart_numbers.proofs.Leaving.{told-whole, call-refused, call-left}
 use Rattle.chart_numbers.proofs.hand.hand_over.Statement.{statement}
 use Rattle.chart_numbers.proofs.hand.hand_over.Tie as tie
+
+-- the places that facts are read from
+abbrev clear-of : tie.After-refused → tie.After-clear
+clear-of c = c .before .before .before
+
+abbrev else1-of : tie.After-put-arrows-arg2 → tie.Else1
+else1-of c = c .before .before .before .before .before .before .before .before .before .before .before
 
 -- ---- what is accepted
 
@@ -40,13 +48,13 @@ words-ready c = words-fit _ _ _ _ _ _ (laid c)
 
 returns : tie.Need-returns
 returns c =
-    let told = c .before .before .before .before .before .before in
+    let clear = clear-of c in let if1 = clear .before .before in let told = if1 .before in
     let st = told .before .before .before .before .before .before .before .before .before .before .before .before .before in
     let a = st .args in
     λ given field q.
     call-refused (a .n) (a .ends .now) given field (a .p) (planned st (q .edges) (q .table)) (q .answer) (q .laid) (a .words .now)
-    (a .arrows .now) (a .bundles .now) _ (told .refusal-of .ensures) (c .before .before .before .before .before .if1 .taken) _ _
-    (c .refused .ensures) (c .before .before .before .clear .ensures ∙ ap (λ (k : ℕ). replicate k 0) (st .pre .used-long))
+    (a .arrows .now) (a .bundles .now) _ (told .refusal-of .ensures) (if1 .if1 .taken) _ _
+    (c .refused .ensures) (clear .clear .ensures ∙ ap (λ (k : ℕ). replicate k 0) (st .pre .used-long))
 
 put-words-requires : tie.Need-put-words-requires
 put-words-requires c κs =
@@ -56,12 +64,12 @@ put-words-requires c κs =
 
 put-arrows-requires : tie.Need-put-arrows-requires
 put-arrows-requires c κs =
-    let e = c .before .before .before .before .before .before .before .before .before .before .before .before in
+    let e = else1-of (c .before) in
     (omega (arith, whole e .2), arrows-few _ _ _ _ _ _ (laid e), ready _ _ _ _ _ _ (laid e) _)
 
 put-bundles-requires : tie.Need-put-bundles-requires
 put-bundles-requires c κs =
-    let e = c .before .before .before .before .before .before .before .before .before .before .before .before .before .before .before .before in
+    let put-arrows-arg2 = c .before .before .before .before .before in let e = else1-of put-arrows-arg2 in
     let f = bundles-fit _ _ _ _ _ _ (laid e) in
     (f .0, omega (arith, whole e .3), f .1)
 
@@ -98,12 +106,12 @@ hand-over-spec =
     (λ c κs. tt)
     (λ c κs. tt)
     (λ c κs. tt)
-    (λ c. c .before .before .before .clear .kept .0)
+    (λ c. clear-of c .clear .kept .0)
     returns
     (λ c κs. tt)
     (λ c κs. tt)
     put-words-requires
-    (λ c. sym (length-take-le _ _ (words-ready (c .before .before .before .before .before .before .before .before .before .before .before) .2)))
+    (λ c. sym (length-take-le _ _ (words-ready (else1-of c) .2)))
     put-arrows-requires
     put-bundles-requires
     (λ c. vertices c .put-words .ensures .as-long)

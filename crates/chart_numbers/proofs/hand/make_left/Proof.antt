@@ -6,8 +6,9 @@ use Rattle.chart_numbers.proofs.hand.make_left.Tie as tie
 
 returns : tie.Need-returns
 returns c =
-    let a = c .before .before .before .before .before .before .before .args in
-    let made = c .before .before .prefixes in (
+    let prefixes = c .before .before in let start = prefixes .before .before .before .before .before in
+    let a = start .args in
+    let made = prefixes .prefixes in (
       λ h. subst
           (λ (k : ℕ). Prefixes 2 (min (min (a .n) 128) (length (a .places .now) / 4)) (quad 0 (a .places .now)) k
           (made .last .1 .1 .1 .0))

@@ -21,9 +21,10 @@ loop-holds c =
 fits : (c : tie.In-loop Inv-loop μ-loop)
     → c .before .loop .start + getD (c .before .before .args .tracks .now) (c .before .loop .l) 0 + 1 + 1 + 1 ≤ pageColumns
 fits c =
-    let a = c .before .before .args in
-    let l = c .before .loop in
-    omega (arith, block-within (λ k. getD (a .tracks .now) k 0) (l .l) (a .channels) (c .loop-test .taken), l .inv .1 .end, c .before .before .pre .3)
+    let head = c .before in let start = head .before in
+    let a = start .args in
+    let l = head .loop in
+    omega (arith, block-within (λ k. getD (a .tracks .now) k 0) (l .l) (a .channels) (c .loop-test .taken), l .inv .1 .end, start .pre .3)
 
 add-x : tie.Need-add-x Inv-loop μ-loop
 add-x c = record { fits = omega (arith, fits (c .before)) }
@@ -33,8 +34,9 @@ add-x-2 c = record { fits = omega (arith, fits (c .before)) }
 
 slice-write-own : tie.Need-slice-write-own Inv-loop μ-loop
 slice-write-own c =
-    let few = c .before .before .before .pre .0 in
-    omega (arith, c .before .before .loop .inv .1 .columns .long)
+    let head = c .before .before in
+    let few = head .before .pre .0 in
+    omega (arith, head .loop .inv .1 .columns .long)
 
 add-start : tie.Need-add-start Inv-loop μ-loop
 add-start c = record { fits = omega (arith, fits (c .before)) }
@@ -44,15 +46,18 @@ add-start-2 c = record { fits = omega (arith, fits (c .before)) }
 
 loop-again : tie.Need-loop-again Inv-loop μ-loop
 loop-again c =
-    let a = c .before .before .before .args in
-    let l = c .before .before .loop in
-    (omega arith, owns-more (λ k. getD (a .tracks .now) k 0) (l .l) (let g = c .before .before .before .pre in omega arith) (l .inv .1))
+    let head = c .before .before in let start = head .before in
+    let a = start .args in
+    let l = head .loop in
+    (omega arith, owns-more (λ k. getD (a .tracks .now) k 0) (l .l) (let g = start .pre in omega arith) (l .inv .1))
 
 returns : tie.Need-returns Inv-loop μ-loop
 returns c =
-    let a = c .before .before .args in
-    let l = c .before .loop in
-    subst (λ (j : ℕ). Owns (evenGaps (λ k. getD (a .tracks .now) k 0)) j (l .own) (l .start)) (let e : l .l ≡ a .channels = omega arith in e) (l .inv .1)
+    let head = c .before in
+    let a = head .before .args in
+    let l = head .loop in
+    subst (λ (j : ℕ). Owns (evenGaps (λ k. getD (a .tracks .now) k 0)) j (l .own) (l .start))
+    (let e : l .l ≡ a .channels = omega arith in e) (l .inv .1)
 
 pub own-columns-spec : {M : Type 1} → statement M
 own-columns-spec =

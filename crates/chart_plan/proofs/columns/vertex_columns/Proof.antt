@@ -11,28 +11,37 @@ Inv-loop n places own columns₀ v₀ columns v = (v ≤ n) × Tabled columns₀
 abbrev μ-loop : tie.MeasureT-loop
 μ-loop n places own columns₀ v₀ columns v = n - v
 
+-- the places that facts are read from
+abbrev start-of : tie.At-loop Inv-loop μ-loop → tie.Start Inv-loop μ-loop
+start-of c = c .before .before .before .before
+
+abbrev head-of : tie.After-shared-slice-known4 Inv-loop μ-loop → tie.At-loop Inv-loop μ-loop
+head-of c = c .before .before .before .before
+
 loop-holds : tie.Need-loop-holds Inv-loop μ-loop
 loop-holds c = (zero-le, tabled-none _ _)
 
 -- the channel of a vertex has an own column
-known : (c : tie.In-loop Inv-loop μ-loop) → quad 0 (c .before .before .before .before .before .args .places .now) (c .before .loop .v) < 128
-known c = c .before .before .before .before .before .pre .4 (c .before .loop .v) (c .loop-test .taken)
+known : (c : tie.In-loop Inv-loop μ-loop) → quad 0 (start-of (c .before) .args .places .now) (c .before .loop .v) < 128
+known c = let head = c .before in start-of head .pre .4 (head .loop .v) (c .loop-test .taken)
 
 shared-slice-read-columns : tie.Need-shared-slice-read-columns Inv-loop μ-loop
 shared-slice-read-columns c =
-    let g = c .before .before .before .before .before .before .before .before .pre in
-    omega (arith, known (c .before .before .before), c .before .wide .ensures .0)
+    let wide = c .before in let test = wide .before .before in
+    let g = start-of (test .before) .pre in
+    omega (arith, known test, wide .wide .ensures .0)
 
 slice-write-columns : tie.Need-slice-write-columns Inv-loop μ-loop
 slice-write-columns c =
-    let g = c .before .before .before .before .before .before .before .before .pre .1 in
-    omega (arith, c .before .before .before .before .loop .inv .1 .long)
+    let head = head-of c in
+    let g = start-of head .pre .1 in
+    omega (arith, head .loop .inv .1 .long)
 
 loop-again : tie.Need-loop-again Inv-loop μ-loop
 loop-again c =
-    let st = c .before .before .before .before .before .before .before .before in
+    let head = head-of c in let st = start-of head in
     let a = st .args in
-    let l = c .before .before .before .before .loop in
+    let l = head .loop in
     let g = st .pre .1 in
     (omega arith, tabled-more _ (omega arith) (l .inv .1) (ap (λ (x : ℕ). getD (a .own .now) x 0) (c .before .wide .ensures .0)))
 
@@ -41,8 +50,9 @@ same-length c = c .before .loop .inv .1 .long
 
 returns : tie.Need-returns Inv-loop μ-loop
 returns c =
-    let a = c .before .before .before .before .before .args in
-    let l = c .before .loop in
+    let head = c .before in
+    let a = start-of head .args in
+    let l = head .loop in
     subst (λ (j : ℕ). Tabled (a .columns .now) (λ x. getD (a .own .now) (quad 0 (a .places .now) x) 0) j (l .columns))
     (let e : l .v ≡ a .n = omega arith in e) (l .inv .1)
 

@@ -3,10 +3,15 @@ use Rattle.editing.proofs.Sessions.{add-refused, add-accepted}
 use Rattle.editing.proofs.Session.add.Statement.{statement}
 use Rattle.editing.proofs.Session.add.Tie as tie
 
+-- the places that facts are read from
+abbrev else1-of : tie.After-reach2 → tie.Else1
+else1-of c = c .before .before .before .before .before .before
+
 returns : tie.Need-returns
 returns c =
-    let a = c .before .before .args in
-    add-refused (a .self) (a .tail) (a .head) _ (c .if1 .taken) (c .before .refusal-of .ensures .0)
+    let refusal-of = c .before in
+    let a = refusal-of .before .args in
+    add-refused (a .self) (a .tail) (a .head) _ (c .if1 .taken) (refusal-of .refusal-of .ensures .0)
 
 -- not refused: the ends are in the tables, and there is room
 free : (c : tie.Else1) → let a = c .before .before .args in (a .tail < 128) × (a .head < 128) × (a .self .count < 4096)
@@ -23,19 +28,20 @@ slice-aggregate-link c = search needs
 
 link-requires : tie.Need-link-requires
 link-requires c κs =
-    let h = free (c .before .before .before .before .before .before) in
+    let h = free (else1-of c) in
     (sym (slice-aggregate-link c), h .0, h .1)
 
 add-t11 : tie.Need-add-t11
-add-t11 c = omega (arith, free (c .before .before .before .before .before .before .before .before) .2)
+add-t11 c = omega (arith, free (else1-of (c .before .before)) .2)
 
 returns-2 : tie.Need-returns-2
 returns-2 c =
-    let insert = c .before .before .before .before .before in
-    let e = insert .before .before .before in
-    let a = e .before .before .args in
-    add-accepted (a .self) (a .tail) (a .head) _ (sym (slice-aggregate-insert (insert .before))) (sym (e .if1 .left) ∙ e .before .refusal-of .ensures .0)
-    (record { vertices = refl; count = refl; edges = insert .insert .ensures .1; reach = c .before .link .ensures })
+    let link = c .before in let reach2 = link .before in let insert = reach2 .before .before .before in let e = else1-of reach2 in
+    let refusal-of = e .before in
+    let a = refusal-of .before .args in
+    add-accepted (a .self) (a .tail) (a .head) _ (sym (slice-aggregate-insert (insert .before)))
+    (sym (e .if1 .left) ∙ refusal-of .refusal-of .ensures .0)
+    (record { vertices = refl; count = refl; edges = insert .insert .ensures .1; reach = link .link .ensures })
 
 pub add-spec : {M : Type 1} → statement M
 add-spec =

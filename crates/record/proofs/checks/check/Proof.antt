@@ -3,29 +3,32 @@ use Rattle.record.proofs.Checking.{edges-fail, settles}
 use Rattle.record.proofs.checks.check.Statement.{statement}
 use Rattle.record.proofs.checks.check.Tie as tie
 
+-- the places that facts are read from
+abbrev start-of : tie.After-descend → tie.Start
+start-of c = c .before .before .before .before .before .before .before .before .before .before .before .before .before
+
+abbrev descend-of : tie.Else1 → tie.After-descend
+descend-of c = c .before .before .before .before .before .before .before .before .before .before .before .before
+
 returns : tie.Need-returns
 returns c =
-    let d = c .before .before .before .before .before .before .before .before .before .before .before .before .before .before in
-    let a = d .before .before .before .before .before .before .before .before .before .before .before .before .before .args in
-    edges-fail _ _ (a .given) (a .field .now) _ _ _ _ _ _ _ _ _ _ _ (d .descend .ensures) _ _ (c .before .before .if1 .taken) (c .before .first-of .ensures) (c .refused .ensures)
+    let first-of = c .before in let if1 = first-of .before in
+    let d = if1 .before .before .before .before .before .before .before .before .before .before .before .before in
+    let a = start-of d .args in
+    edges-fail _ _ (a .given) (a .field .now) _ _ _ _ _ _ _ _ _ _ _ (d .descend .ensures) _ _ (if1 .if1 .taken)
+    (first-of .first-of .ensures) (c .refused .ensures)
 
 returns-2 : tie.Need-returns-2
 returns-2 c =
-    let laid = c .before .before .before in
-    let test = laid .before .before .before in
-    let past = test .before in
-    let d = past .before .before .before .before .before .before .before .before .before .before .before .before in
-    let a = d .before .before .before .before .before .before .before .before .before .before .before .before .before .args in
+    let laid = c .before .before .before in let test = laid .before .before .before in let past = test .before in let d = descend-of past in
+    let a = start-of d .args in
     settles _ _ (a .given) (a .field .now) _ _ _ _ _ _ _ _ _ _ _ (d .descend .ensures) (past .if1 .left)
     true (test .if2 .taken) _ _ (laid .given .ensures) _ (c .settled .ensures)
 
 returns-3 : tie.Need-returns-3
 returns-3 c =
-    let laid = c .before .before .before in
-    let test = laid .before .before .before in
-    let past = test .before in
-    let d = past .before .before .before .before .before .before .before .before .before .before .before .before in
-    let a = d .before .before .before .before .before .before .before .before .before .before .before .before .before .args in
+    let laid = c .before .before .before in let test = laid .before .before .before in let past = test .before in let d = descend-of past in
+    let a = start-of d .args in
     settles _ _ (a .given) (a .field .now) _ _ _ _ _ _ _ _ _ _ _ (d .descend .ensures) (past .if1 .left)
     false (test .if2 .left) _ _ (laid .plan .ensures) _ (c .settled2 .ensures)
 

@@ -13,7 +13,10 @@ returns c = rw (c .enum-told .given .1)
 
 returns-2 : tie.Need-returns-2
 unfolding orderOf finished
-returns-2 c = c .finish-one .ensures ∙ sym (ap (λ (n : Numeral). withNumber n (finishedOne (c .before .before .before .before .args .self))) (c .before .before .first .given .1))
+returns-2 c =
+    let first = c .before .before in
+    c .finish-one .ensures
+    ∙ sym (ap (λ (n : Numeral). withNumber n (finishedOne (first .before .before .args .self))) (first .first .given .1))
 
 returns-3 : tie.Need-returns-3
 unfolding orderOf finished
