@@ -16,16 +16,21 @@ module _ (P : List ℕ) where
   unfolding heldIn
   more v d = rw (ne-eqb (getD P v 0) 255 d)
 
-  pub held-none : (n v : ℕ) → getD P v 0 ≡ 255 → predecessorOf (heldIn n P) v ≡ none
+  -- no vertex with a predecessor is v
+  held-other : (n v : ℕ) → ((w : ℕ) → w < n → getD P w 0 ≢ 255 → v ≢ w) → predecessorOf (heldIn n P) v ≡ none
   unfolding heldIn predecessorOf
-  held-none zero v e = refl
-  held-none (suc w) v e = go (ℕ-discrete (getD P w 0) 255) (held-none w v e)
+  held-other zero v d = refl
+  held-other (suc w) v d = go (ℕ-discrete (getD P w 0) 255) (held-other w v (λ u l. d u (omega arith)))
     where
       go : Dec (getD P w 0 ≡ 255) → predecessorOf (heldIn w P) v ≡ none → predecessorOf (heldIn (suc w) P) v ≡ none
       go (yes q) ih = ap (λ l. predecessorOf l v) (pass w q) ∙ ih
-      go (no q) ih =
-          ap (λ l. predecessorOf l v) (more w q)
-          ∙ put-other (heldIn w P) w (getD P w 0) v (λ x. q (ap (λ y. getD P y 0) (sym x) ∙ e)) ∙ ih
+      go (no q) ih = ap (λ l. predecessorOf l v) (more w q) ∙ put-other (heldIn w P) w (getD P w 0) v (d w (omega arith) q) ∙ ih
+
+  pub held-none : (n v : ℕ) → getD P v 0 ≡ 255 → predecessorOf (heldIn n P) v ≡ none
+  held-none n v e = held-other n v (λ w l q x. q (ap (λ y. getD P y 0) (sym x) ∙ e))
+
+  pub held-past : (n v : ℕ) → n ≤ v → predecessorOf (heldIn n P) v ≡ none
+  held-past n v h = held-other n v (λ w l q x. omega arith)
 
   pub held-some : (n v : ℕ) → v < n → getD P v 0 ≢ 255 → predecessorOf (heldIn n P) v ≡ some (getD P v 0)
   held-some zero v l d = absurd (omega arith)

@@ -12,10 +12,26 @@ use Rattle.planning.specs.Steps.{placed}
 -- ---- what two stores change
 
 module _ (v c q : ℕ) (p : List ℕ) where
-  placed-other : (k u : ℕ) → k < 4 → (u ≡ v → 2 ≤ k) → quad k (placed v c q p) u ≡ quad k p u
+  pub placed-other : (k u : ℕ) → k < 4 → (u ≡ v → 2 ≤ k) → quad k (placed v c q p) u ≡ quad k p u
   placed-other k u l o =
       quad-other (set p (4 * v) c) u k v 1 q l (omega arith) (λ e f. let h = o e in omega arith)
       ∙ quad-other p u k v 0 c l (omega arith) (λ e f. let h = o e in omega arith)
+
+  pub placed-channel : 4 * v + 1 < length p → quad 0 (placed v c q p) v ≡ c
+  placed-channel h = quad-other (set p (4 * v) c) v 0 v 1 q (omega arith) (omega arith) (λ _ f. omega arith)
+      ∙ quad-same p v 0 c (omega arith)
+
+  pub placed-position : 4 * v + 1 < length p → quad 1 (placed v c q p) v ≡ q
+  placed-position h = quad-same (set p (4 * v) c) v 1 q (omega (arith, length-set p (4 * v) c))
+
+  -- a number of v, or of another vertex
+  pub placed-at : (k u x : ℕ) → k < 4 → (u ≡ v → quad k (placed v c q p) v ≡ x) → (u ≢ v → quad k p u ≡ x)
+      → quad k (placed v c q p) u ≡ x
+  placed-at k u x b z o = go (ℕ-discrete u v)
+    where
+      go : Dec (u ≡ v) → quad k (placed v c q p) u ≡ x
+      go (yes e) = ap (quad k (placed v c q p)) e ∙ z e
+      go (no d) = placed-other k u b (λ e. absurd (d e)) ∙ o d
 
   -- channels that have v so, and the other vertices as they stand
   placed-arranged : (n : ℕ) (ls : List (List ℕ)) (count : ℕ) → (v < n → 4 * v + 1 < length p) → count ≡ length ls
@@ -23,19 +39,11 @@ module _ (v c q : ℕ) (p : List ℕ) where
       → ((u : ℕ) → u < n → u ≢ v → (quad 0 p u ≡ channelOf ls u) × (quad 1 p u ≡ positionOf ls u)) → Arranged n ls count (placed v c q p)
   placed-arranged n ls count h e ec eq o = record {
     counted = e;
-    channel = λ u m. at 0 (channelOf ls) (omega arith)
-        (λ l. quad-other (set p (4 * v) c) v 0 v 1 q (omega arith) (omega arith) (λ _ f. omega arith)
-        ∙ quad-same p v 0 c (let l = h l in omega arith) ∙ ec)
-        (λ w l d. o w l d .0) u m (ℕ-discrete u v);
-    position = λ u m. at 1 (positionOf ls) (omega arith)
-        (λ l. quad-same (set p (4 * v) c) v 1 q (let l = h l in omega (arith, length-set p (4 * v) c)) ∙ eq)
-        (λ w l d. o w l d .1) u m (ℕ-discrete u v);
+    channel = λ u m. placed-at 0 u (channelOf ls u) (omega arith)
+        (λ x. placed-channel (h (omega arith)) ∙ ec ∙ ap (channelOf ls) (sym x)) (λ d. o u m d .0);
+    position = λ u m. placed-at 1 u (positionOf ls u) (omega arith)
+        (λ x. placed-position (h (omega arith)) ∙ eq ∙ ap (positionOf ls) (sym x)) (λ d. o u m d .1);
   }
-    where
-      at : (k : ℕ) (f : ℕ → ℕ) → k < 4 → (v < n → quad k (placed v c q p) v ≡ f v) → ((u : ℕ) → u < n → u ≢ v → quad k p u ≡ f u)
-          → (u : ℕ) → u < n → Dec (u ≡ v) → quad k (placed v c q p) u ≡ f u
-      at k f b z o u m (yes e) = ap (quad k (placed v c q p)) e ∙ z (omega arith) ∙ ap f (sym e)
-      at k f b z o u m (no d) = placed-other k u b (λ e. absurd (d e)) ∙ o u m d
 
 module _ (n : ℕ) where
   pub kept-same : (p : List ℕ) → Kept n p p

@@ -1,3 +1,6 @@
 pub mod Held
 pub mod Laying
+pub mod Adding
+pub mod Clearing
 pub mod Following
+pub mod Answers

@@ -1,11 +1,12 @@
 // Layer 2: channels as data, and planned channels (SPECIFICATION.md, 3.3 and 3.4), laid by the predecessors that the search finds.
 ghost use mathlib.Core.Path.{_≡_};
-ghost use mathlib.Core.List.{[]};
-ghost use Prim.Native.Nat.{suc, _*_, _≤_, _<_, min, _/_};
+ghost use mathlib.Core.List.{[], _∷_};
+ghost use Prim.Native.Nat.{suc, _+_, _*_, _≤_, _<_, min, _/_};
 ghost use lib.ListN.{length};
-ghost use Rattle.planning.specs.Arranged.{Arranged, Kept};
-ghost use Rattle.planning.specs.Steps.{channelsIn, Successors, followed, Ready, Behind};
-ghost use Rattle.planning.specs.Promise.{Chained};
+ghost use Rattle.specification.specs.Sets.{member?, has?};
+ghost use Rattle.planning.specs.Arranged.{Arranged, Kept, Added};
+ghost use Rattle.planning.specs.Steps.{freeIn, Successors, followed, Ready, Apart, Cleared, Found};
+ghost use Rattle.planning.specs.Promise.{Besides, Chained};
 
 // The most vertices, and what stands for no vertex.
 const MOST: usize = 128;
@@ -68,35 +69,43 @@ fn successors(predecessor: &[u8], n: usize) -> [u8; 128]
     r
 }
 
-// Lays the channel that begins with v and goes on by the vertices' successors, while these are below n, behind the `count` that are laid.
-fn with_chain(places: &mut [u8], successor: &[u8], n: usize, count: usize, v: usize)
-    requires { ⌜ (n ≤ 128) × (length (now successor) ≡ 128) × (v < n) × Ready n (followed n (now successor) (suc n) v) count (now places) ⌝ }
-    ensures { λ _. ⌜ Behind n (followed n (now (successor .entry)) (suc n) v) count (now (places .entry)) (now (places .exit)) ⌝ }
+// Lays the channel that begins with v and goes on by the vertices' successors, while these are below n, as channel c.
+fn with_chain(places: &mut [u8], successor: &[u8], n: usize, c: usize, v: usize)
+    requires { ⌜ (n ≤ 128) × (length (now successor) ≡ 128) × (v < n) × Ready n (followed n (now successor) (suc n) v) c (now places) ⌝ }
+    ensures { λ _. ⌜ Added c (followed n (now (successor .entry)) (suc n) v ∷ []) (now (places .entry)) (now (places .exit)) ⌝ }
 {
     let mut p: usize = 0;
     let mut w = v;
     while w < n {
-        places[4 * w] = count as u8;
+        places[4 * w] = c as u8;
         places[4 * w + 1] = p as u8;
         p += 1;
         w = wide(successor[w]);
     }
 }
 
-// The channels that the predecessors make, by first vertex, ascending, where no vertex has one yet.
-fn chains(predecessor: &[u8], n: usize, places: &mut [u8]) -> Channels
-    requires { ⌜ (n ≤ 128) × (length (now predecessor) ≡ 128) × (4 * n ≤ length (now places)) × Arranged n [] 0 (now places) ⌝ }
-    ensures { λ r. ⌜ (r .refusal ≡ 0) × Arranged n (channelsIn n (now (predecessor .entry)) n) (r .count) (now (places .exit)) × Kept n (now (places .entry)) (now (places .exit)) ⌝ }
+// The channels that the predecessors make, by first vertex, ascending, but for the held vertices. They are numbered from `first` on.
+fn chains<'a>(
+    predecessor: &'a [u8],
+    held: &'a [u64],
+    n: usize,
+    first: usize,
+    places: &mut [u8],
+) -> Channels
+    requires { ⌜ (n ≤ 128) × (first < 128) × (length (now predecessor) ≡ 128) × (4 * n ≤ length (now places)) × Apart (member? (now held) 0) n (now predecessor) ⌝ }
+    ensures { λ r. ⌜ (r .refusal ≡ 0) × (r .count ≡ first + length (freeIn (member? (now (held .entry)) 0) n (now (predecessor .entry)))) × Added first (freeIn (member? (now (held .entry)) 0) n (now (predecessor .entry))) (now (places .entry)) (now (places .exit)) ⌝ }
 {
     let successor = successors(predecessor, n);
-    let mut count: usize = 0;
+    let mut count = first;
     let mut v: usize = 0;
     while v < n {
         let p = predecessor[v];
         let next = v + 1;
         if p == NOBODY {
-            with_chain(places, &successor, n, count, v);
-            count += 1;
+            if !masks::contains(held, 0, v) {
+                with_chain(places, &successor, n, count, v);
+                count += 1;
+            }
         }
         v = next;
     }
@@ -116,6 +125,62 @@ fn capped(n: usize) -> usize
     n
 }
 
+// The table without the rows and the columns of held vertices.
+fn cleared<'a>(table: &'a [u64], held: &'a [u64]) -> [u64; 256]
+    ensures { λ r. ⌜ Cleared (member? (now (held .entry)) 0) (now (table .entry)) r ⌝ }
+{
+    let low = masks::mask_at(held, 0, 0);
+    let high = masks::mask_at(held, 0, 1);
+    let mut r = [0u64; 256];
+    let mut u: usize = 0;
+    while u < 128 {
+        let a = masks::mask_at(table, 2 * u, 0);
+        let b = masks::mask_at(table, 2 * u, 1);
+        let next = u + 1;
+        if !masks::contains(held, 0, u) {
+            r[2 * u] = a & !low;
+            r[2 * u + 1] = b & !high;
+        }
+        u = next;
+    }
+    r
+}
+
+// The predecessors of the rule among the vertices that are not held. The table is copied only where one is.
+fn predecessors<'a>(n: usize, table: &'a [u64], held: &'a [u64]) -> [u8; 128]
+    ensures { λ r. ⌜ Found (member? (now (held .entry)) 0) (has? 2 (now (table .entry))) (min n 128) r ⌝ }
+{
+    if masks::mask_at(held, 0, 0) == 0 {
+        if masks::mask_at(held, 0, 1) == 0 {
+            return search::matched(table, n);
+        }
+    }
+    let left = cleared(table, held);
+    search::matched(&left, n)
+}
+
+// Lays the channels of those of n vertices that are not held, by the table, or of 128 where n is over: numbered from `first` on, behind
+// those that stand in the list. Refused with 8 where the list has no room for n vertices, and with 2 where `first` is 128 or more.
+pub fn beside<'a>(
+    n: usize,
+    table: &'a [u64],
+    held: &'a [u64],
+    first: usize,
+    places: &mut [u8],
+) -> Channels
+    ensures { λ r. ⌜ Besides n (now (table .entry)) (now (held .entry)) first (now (places .entry)) r (now (places .exit)) ⌝ }
+{
+    let most = capped(n);
+    if places.len() < 4 * most {
+        return empty(8);
+    }
+    if MOST <= first {
+        return empty(2);
+    }
+    let predecessor = predecessors(n, table, held);
+    chains(&predecessor, held, most, first, places)
+}
+
 // The channels of n vertices by the table, or of 128 where n is over. Refused with 8 where the list has no room for them.
 pub fn chained(n: usize, table: &[u64], places: &mut [u8]) -> Channels
     ensures { λ r. ⌜ Chained n (now (table .entry)) (now (places .entry)) r (now (places .exit)) ⌝ }
@@ -125,6 +190,6 @@ pub fn chained(n: usize, table: &[u64], places: &mut [u8]) -> Channels
         return empty(8);
     }
     unplace(most, places);
-    let predecessor = search::matched(table, n);
-    chains(&predecessor, most, places)
+    let none = [0u64; 2];
+    beside(n, table, &none, 0, places)
 }

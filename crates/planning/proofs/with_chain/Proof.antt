@@ -1,14 +1,14 @@
 -- `planning::with_chain` meets its contract: the first vertices of the channel are laid, and the next one comes. Assumes nothing.
 use Rattle.counting.proofs.Prelude.{suc, _+_, _*_, _-_, _≤_, _<_, arith, length, length-set, needs}
-use Rattle.planning.proofs.Following.{Follows, follows-none, follows-more, follows-all, following-byte, ready-few, within}
+use Rattle.planning.proofs.Following.{Following, following-none, following-more, following-all, following-byte, within}
 use Rattle.planning.proofs.with_chain.Statement.{statement}
 use Rattle.planning.proofs.with_chain.Tie as tie
 
 abbrev Inv-loop : tie.InvT-loop
-Inv-loop places₀ successor n count v p₀ w₀ places p w = Follows n successor v count places₀ places w p
+Inv-loop places₀ successor n c v p₀ w₀ places p w = Following n successor v c places₀ places w p
 
 abbrev μ-loop : tie.MeasureT-loop
-μ-loop places₀ successor n count v p₀ w₀ places p w = suc n - p
+μ-loop places₀ successor n c v p₀ w₀ places p w = suc n - p
 
 -- the places that facts are read from
 abbrev start-of : tie.At-loop Inv-loop μ-loop → tie.Start Inv-loop μ-loop
@@ -18,20 +18,18 @@ start-of c = c .before .before .before
 entry : (c : tie.In-loop Inv-loop μ-loop) → (c .before .loop .p < 128) × (4 * c .before .loop .w + 4 ≤ length (c .before .loop .places))
 entry c =
     let head = c .before in let a = start-of head in
-    let l = head .loop in
-    let x = a .pre .3 in
+    let i = head .loop .inv in
     let w = c .loop-test .taken in (
-      following-byte _ _ _ (a .pre .0) (a .pre .2) _ (x .fits) _ _ _ _ (l .inv .each (x .ls) (x .arranged) (x .fits)) w,
-      omega (arith, x .room, l .inv .kept .long),
+      following-byte _ _ _ _ _ (a .pre .3) _ _ _ i w (a .pre .0),
+      omega (arith, a .pre .3 .room, i .added .long),
     )
 
 loop-holds : tie.Need-loop-holds Inv-loop μ-loop
-loop-holds c = follows-none _ _ _ _ _
+loop-holds c = following-none _ _ _ _ _
 
 cast-places : tie.Need-cast-places Inv-loop μ-loop
 cast-places c =
-    let a = start-of (c .before) in
-    omega (arith, ready-few _ _ _ (a .pre .0) (a .pre .2) _ _ (a .pre .3))
+    omega (arith, start-of (c .before) .pre .3 .byte)
 
 slice-write-places : tie.Need-slice-write-places Inv-loop μ-loop
 slice-write-places c = omega (arith, entry c .1)
@@ -47,23 +45,21 @@ add-p c = omega (arith, entry c .0)
 
 loop-less : tie.Need-loop-less Inv-loop μ-loop
 loop-less c =
-    let o = c .before .before .before in let a = start-of o in
-    let x = a .pre .3 in
-    let f = o .loop .inv .each (x .ls) (x .arranged) (x .fits) in
-    omega (arith, within _ _ _ (a .pre .0) (a .pre .2) _ (x .fits) _ _ _ _ f)
+    let o = c .before .before .before in
+    omega (arith, within _ _ _ _ _ (start-of o .pre .3) _ _ _ (o .loop .inv))
 
 loop-again : tie.Need-loop-again Inv-loop μ-loop
 loop-again c =
-    let t = c .before .before in let head = t .before in let a = start-of head in
-    follows-more _ _ _ (a .pre .0) (a .pre .2) _ _ _ _ _ (head .loop .inv) (a .pre .3 .room) (t .loop-test .taken) _ (c .wide .ensures .0)
+    let t = c .before .before in let head = t .before in
+    following-more _ _ _ _ _ (start-of head .pre .3) _ _ _ (head .loop .inv) (t .loop-test .taken) _ (c .wide .ensures .0)
 
 same-length : tie.Need-same-length Inv-loop μ-loop
-same-length c = c .before .loop .inv .kept .long
+same-length c = c .before .loop .inv .added .long
 
 returns : tie.Need-returns Inv-loop μ-loop
 returns c =
-    let head = c .before in let a = start-of head in
-    follows-all _ _ _ (a .pre .0) (a .pre .2) _ _ _ _ _ (head .loop .inv) (c .loop-test .left)
+    let head = c .before in
+    following-all _ _ _ _ _ (start-of head .pre .3) _ _ _ (head .loop .inv) (c .loop-test .left)
 
 pub with-chain-spec : {M : Type 1} → statement M
 with-chain-spec =
