@@ -14,7 +14,7 @@
  *    3 stranger  a word that is not there is named
  *    4 double    two arrows have the same ends
  *    5 ring      some word leads back to itself
- *    6 cover     a word is in no house line, or more than once in them
+ *    6 cover     a word is in the house lines more than once
  *    7 broken    a word of a house line does not lead to the next
  *    8 short     a lent list is too short
  *    9 full      the session has 4,096 arrows
@@ -34,8 +34,8 @@ extern "C" {
 /* ---- the edge */
 
 /* The version of what this header says. It rises by one with every change that an app could notice: of a call, a struct, a list's numbers,
- * a limit or an answer. */
-#define CEVILONETH_VERSION 1
+ * a limit or an answer. Since 2 house lines may hold some of the words, and an empty field of them is no longer refused with 6. */
+#define CEVILONETH_VERSION 2
 
 /* The version that the archive or the shared library was made by: an app goes on only where it is CEVILONETH_VERSION. */
 uint32_t ceviloneth_version(void);
@@ -63,7 +63,8 @@ typedef struct {
     uint16_t side_columns[128]; /* of each line; 0 past the last */
 } ceviloneth_counts;
 
-/* Draws the record: its bytes are three tagged fields (word count, arrows, house lines).
+/* Draws the record: its bytes are three tagged fields (word count, arrows, house lines), of which the last may be left out or empty. House
+ * lines may hold all words or some: they come first, as given, and lines are planned for the words that are left.
  *   words    word i has the numbers 5i to 5i+4: line, position in the line, column, row, number of descendants
  *   arrows   arrow i has 5i to 5i+4: its number i; its kind, 0 spine, 1 side, 2 straight, 3 bent; the bundle's number if it is a side
  *            arrow or the bend's column if it is bent, else 0; the bend's row if it is bent, else 0; 1 if it is implied, else 0

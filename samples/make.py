@@ -24,6 +24,14 @@ def house():
     return graph(9, spine + side + cross, lines)
 
 
+def editor():
+    """House lines of five of eleven words; a planned line leads through one of them, and an arrow bends around it."""
+    lines = [[1, 4, 7, 9], [6]]
+    along = [(1, 4), (4, 7), (7, 9), (1, 7), (1, 9)]
+    others = [(0, 4), (4, 5), (3, 6), (6, 8), (0, 3), (2, 5), (2, 10), (8, 10), (5, 9), (4, 8)]
+    return graph(11, along + others, lines)
+
+
 def wide():
     """Rows of 31 words, arrows from all of a row to all of the next, then to all of the one after it, as many as a record may have."""
     layers = [range(first, min(first + 31, 128)) for first in range(0, 128, 31)]
@@ -47,7 +55,7 @@ def main():
         if name in PAPER:
             (folder / f'{name.lower()}.record').write_bytes(record)
             (folder / f'{name.lower()}.listing').write_bytes(lines)
-    for rule in [house, wide, deep, ring]:
+    for rule in [house, editor, wide, deep, ring]:
         record = rule()
         (folder / f'{rule.__name__}.record').write_bytes(record)
         (folder / f'{rule.__name__}.listing').write_bytes(listing(record))

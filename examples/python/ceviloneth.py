@@ -15,7 +15,7 @@ import sys
 from pathlib import Path
 
 # What include/ceviloneth.h says: its version, the numbers of lists that hold every chart, the numbers of an entry, the refusals.
-VERSION = 1
+VERSION = 2
 ROOM = [640, 20480, 1024]
 NUMBERS = [5, 5, 4]
 WORDS = ['', 'layout', 'size', 'stranger', 'double', 'ring', 'cover', 'broken', 'short', 'full', 'off page']

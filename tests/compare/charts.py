@@ -14,7 +14,7 @@ import sys
 import time
 
 sys.dont_write_bytecode = True
-from records import EDGES, ROOT, WORST, build, listing, random_records, vectors
+from records import EDGES, ROOT, VECTORS, WORST, build, listing, random_records, vectors
 
 PROGRAM = ROOT / 'target' / 'bin' / 'chart'
 STACK = 160 * 1024
@@ -88,7 +88,7 @@ def main():
         compared += 1
         drawn += lines.startswith(b'chart')
     print(f'{compared} listings compared, {drawn} of charts and {compared - drawn} of refusals: all agree')
-    return 0 if compared >= int(count) + len(EDGES) + len(WORST) + 67 + 3 * 8 else 1
+    return 0 if compared >= int(count) + len(EDGES) + len(WORST) + VECTORS + 3 * 10 else 1
 
 
 sys.exit(main())

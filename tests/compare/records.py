@@ -6,6 +6,9 @@ from pathlib import Path
 ROOT = Path(__file__).resolve().parents[2]
 REFERENCE = ROOT / 'tests' / 'reference'
 
+# how many records are given
+VECTORS = 67 + 34
+
 # a name, a record in hexadecimal, its listing
 BLOCK = re.compile(r'^# (.*)\n([0-9A-Fa-f]*)\n((?:chart|refused) .*\n(?:[wab] .*\n)*)', re.M)
 
@@ -39,12 +42,19 @@ EDGES = [
     ('no words', graph(0, []), 'refused 2'),
     ('arrows of length 0', graph(1, []), 'accepted'),
     ('arrows missing', field(1, [1]), 'refused 1'),
-    ('house lines of length 0', graph(1, [], []), 'refused 6'),
+    ('house lines of length 0', graph(1, [], []), 'accepted'),
+    ('house lines of length 0 and a ring', graph(1, [(0, 0)], []), 'refused 5'),
     ('0 to 0 twice', graph(1, [(0, 0), (0, 0)]), 'refused 4'),
     ('0 to 0', graph(1, [(0, 0)]), 'refused 5'),
     ('a repeat and a break', graph(2, [], [[0, 1], [0]]), 'refused 6'),
+    ('a break in a line before a repeat in two others', graph(3, [(0, 1)], [[1, 0], [2], [2]]), 'refused 6'),
+    ('a repeat in a line', graph(2, [(0, 1)], [[0, 0]]), 'refused 6'),
     ('a break', graph(2, [], [[0, 1]]), 'refused 7'),
-    ('a word lacks', graph(2, [], [[0]]), 'refused 6'),
+    ('a break beside a word that lacks', graph(3, [(0, 1)], [[1, 0]]), 'refused 7'),
+    ('a word lacks', graph(2, [], [[0]]), 'accepted'),
+    ('127 words lack', graph(128, dense(4096), [[64]]), 'accepted'),
+    ('one of 128 words lacks', graph(128, [], [[word] for word in range(127)]), 'accepted'),
+    ('a stranger beside a word that lacks', graph(2, [], [[2]]), 'refused 3'),
     ('a stranger in the last house line before a double', graph(2, [(0, 1), (0, 1)], [[0], [2]]), 'refused 3'),
     ('a line of no word before 129 words', graph(129, [], [[]]), 'refused 1'),
     ('a line past its field', graph(1, []) + field(3, [2, 0]), 'refused 1'),
@@ -62,13 +72,24 @@ def line(order):
     return list(zip(order, order[1:]))
 
 
+def deepest(held):
+    """The searches of all words but the last wait for each other; so many words more are a house line that their routes go through."""
+    left = 128 - held
+    house_line = range(left, 128)
+    order = [left - 3, left - 4, *house_line, *range(left - 4), left - 2, left - 1]
+    return graph(128, line(order), [house_line] if held else None)
+
+
 # what takes most of the stack or of the tables: searches that wait for each other (of the first, 127), most arrows, bundles, lines
 WORST = [
-    ('the deepest search', graph(128, line([125, 124, *range(124), 126, 127]))),
+    ('the deepest search', deepest(0)),
+    ('the deepest search beside a house line of one word', deepest(1)),
+    ('the deepest search beside a house line of two words', deepest(2)),
     ('a search through 64 words at every step', graph(128, [(u, v) for u in range(64) for v in range(64, 128 - u)])),
     ('a line from the highest word down', graph(128, line(range(127, -1, -1)))),
     ('a line with arrows up to 32 on', graph(128, [(u, u + step) for step in range(1, 33) for u in range(128 - step)])),
     ('each word of a half to each of the other', graph(128, [(u, v) for u in range(64) for v in range(64, 128)])),
+    ('the same beside 32 house lines', graph(128, [(u, v) for u in range(64) for v in range(64, 128)], [[u, u + 64] for u in range(32)])),
     ('4,096 arrows', graph(128, dense(4096))),
     ('4,096 arrows and a house line', graph(128, line(range(128)) + [(u, v) for v in range(128) for u in range(v - 1)][:3969], [range(128)])),
     ('128 house lines', graph(128, [], [[word] for word in range(128)])),
@@ -93,7 +114,8 @@ def blocks(text):
 
 def vectors():
     """The given records, with their listings."""
-    return blocks((REFERENCE / 'vectors/base.txt').read_text())
+    for name in ['base', 'a']:
+        yield from blocks((REFERENCE / f'vectors/{name}.txt').read_text())
 
 
 def random_records(seed, count):

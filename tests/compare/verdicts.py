@@ -10,7 +10,7 @@ import subprocess
 import sys
 
 sys.dont_write_bytecode = True
-from records import EDGES, ROOT, build, random_records, vectors
+from records import EDGES, ROOT, VECTORS, build, random_records, vectors
 
 PROGRAM = ROOT / 'target' / 'bin' / 'verdict'
 
@@ -35,7 +35,7 @@ def main():
             return 1
     answers = sorted({expected for _, _, expected in cases})
     print(f'all agree; answers seen: {", ".join(answers)}')
-    return 0 if len(cases) >= len(EDGES) + 67 else 1
+    return 0 if len(cases) >= len(EDGES) + VECTORS else 1
 
 
 sys.exit(main())

@@ -20,9 +20,13 @@ static void expect(const char *what, unsigned said, unsigned expected) {
     }
 }
 
-/* One word; two words and an arrow; three words in a line with an arrow over it, which makes a bundle; no record at all. */
+/* One word, also with an empty field of house lines; two words and an arrow, also with a house line of the second, and with two of it;
+ * three words in a line with an arrow over it, which makes a bundle; no record at all. */
 static const uint8_t one[] = {1, 0, 1, 1, 2, 0, 0};
+static const uint8_t empty[] = {1, 0, 1, 1, 2, 0, 0, 3, 0, 0};
 static const uint8_t two[] = {1, 0, 1, 2, 2, 0, 2, 0, 1};
+static const uint8_t some[] = {1, 0, 1, 2, 2, 0, 2, 0, 1, 3, 0, 2, 1, 1};
+static const uint8_t twice[] = {1, 0, 1, 2, 2, 0, 2, 0, 1, 3, 0, 4, 1, 1, 1, 1};
 static const uint8_t three[] = {1, 0, 1, 3, 2, 0, 6, 0, 1, 1, 2, 0, 2};
 static const uint8_t broken[] = {9};
 
@@ -46,7 +50,10 @@ static void try_charts(void) {
         chart("no record", NULL, 0, lent, 1);
         chart("a record that is none", broken, sizeof broken, lent, 1);
         chart("one word", one, sizeof one, lent, lent[0] ? 0 : 8);
+        chart("no house line", empty, sizeof empty, lent, lent[0] ? 0 : 8);
         chart("an arrow", two, sizeof two, lent, lent[0] && lent[1] ? 0 : 8);
+        chart("a house line of some words", some, sizeof some, lent, lent[0] && lent[1] ? 0 : 8);
+        chart("a repeated word", twice, sizeof twice, lent, 6);
         chart("a bundle", three, sizeof three, lent, lent[0] && lent[1] && lent[2] ? 0 : 8);
     }
 }

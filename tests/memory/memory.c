@@ -89,6 +89,7 @@ static void unchanged(struct region r, const uint8_t *place, size_t written) {
 /* ---- charts */
 
 static struct region record_pages, lists[3];
+static unsigned long answers[9]; /* how often each was given, 0 being a chart */
 static const size_t most[3] = {CEVILONETH_WORDS, CEVILONETH_ARROWS, CEVILONETH_BUNDLES};
 static const size_t numbers[3] = {5, 5, 4};
 
@@ -114,6 +115,7 @@ static ceviloneth_counts draw(const uint8_t *record, size_t size, const size_t l
             fail("a refusal with counts, or one that isn't a chart's");
         }
     }
+    answers[c.refusal]++;
     return c;
 }
 
@@ -175,7 +177,28 @@ static size_t put_length(size_t at, unsigned tag, size_t length) {
     return at + 3;
 }
 
-/* A record of so many words, each pair an arrow with a chance in 256; some have a house line a word. */
+/* House lines of the words, each with a chance in 256: alone, or behind the one before, which need not lead to it. Few stand twice. */
+static size_t put_house_lines(size_t end, size_t words, size_t chance) {
+    size_t field = end, line = 0;
+    end += 3;
+    for (size_t w = 0; w < words; w++) {
+        if (below(256) >= chance) {
+            continue;
+        }
+        if (line == 0 || below(3)) {
+            line = end++;
+            record[line] = 0;
+        }
+        for (size_t times = below(60) ? 1 : 2; times > 0; times--) {
+            record[line]++;
+            record[end++] = (uint8_t)w;
+        }
+    }
+    put_length(field, 3, end - field - 3);
+    return end;
+}
+
+/* A record of so many words, each pair an arrow with a chance in 256; some have house lines, of all words, of some or of none. */
 static size_t make(size_t words, size_t chance) {
     size_t end = put_length(0, 1, 1), m = 0;
     record[end++] = (uint8_t)words;
@@ -191,12 +214,8 @@ static size_t make(size_t words, size_t chance) {
         }
     }
     put_length(field, 2, 2 * m);
-    if (below(4) == 0) {
-        end = put_length(end, 3, 2 * words);
-        for (size_t w = 0; w < words; w++) {
-            record[end++] = 1;
-            record[end++] = (uint8_t)w;
-        }
+    if (below(3) == 0) {
+        end = put_house_lines(end, words, below(3) ? below(257) : 256 * below(2));
     }
     return end;
 }
@@ -236,6 +255,16 @@ static void try_records(void) {
         try_record(record, size);
         put_length(put_length(0, 1, 1) + 1, 2, 65528);
         try_record(record, size);
+    }
+}
+
+/* A run that leaves out an answer tests too little. */
+static void all_answers_given(void) {
+    doing = "all records";
+    for (int i = 0; i <= 8; i++) {
+        if (answers[i] == 0) {
+            fail("one of the answers 0 to 8 was never given");
+        }
     }
 }
 
@@ -364,6 +393,7 @@ int main(void) {
         lists[i] = region(2 * most[i] + 2);
     }
     try_records();
+    all_answers_given();
     try_sessions();
     try_questions();
     try_strokes();

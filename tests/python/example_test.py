@@ -13,7 +13,9 @@ from pathlib import Path
 ROOT = Path(__file__).resolve().parents[2]
 EXAMPLE = ROOT / 'examples' / 'python' / 'ceviloneth.py'
 RECORDS = sorted((ROOT / 'samples').glob('*.record'))
-WORDS = {'refused 5': 'refused 5 ring', 'refused 1': 'refused 1 layout'}
+WORDS = {'refused 5': 'refused 5 ring', 'refused 1': 'refused 1 layout', 'refused 6': 'refused 6 cover'}
+# two words with no arrow, word 1 in two house lines
+REPEAT = bytes([1, 0, 1, 2, 2, 0, 0, 3, 0, 4, 1, 1, 1, 1])
 
 wrong = []
 
@@ -65,7 +67,9 @@ def test_checking(folder):
     expect('a sound record alone', run('check', folder), (0, 'p1.record: accepted\n', ''))
     (folder / 'long.record').write_bytes((ROOT / 'samples' / 'p1.record').read_bytes().ljust(100000, b'\0'))
     (folder / 'none.record').write_bytes(b'')
-    expect('files of no layout', run('check', folder), checked(sorted(folder.glob('*.record'))))
+    (folder / 'repeat.record').write_bytes(REPEAT)
+    (folder / 'some.record').write_bytes(REPEAT[:9] + bytes([2, 1, 1]))
+    expect('refused files beside sound ones', run('check', folder), checked(sorted(folder.glob('*.record'))))
 
 
 def of_another_version(folder):
@@ -94,7 +98,7 @@ def main():
     with tempfile.TemporaryDirectory() as folder:
         test_errors(Path(folder))
     print('\n'.join(wrong + [f'{len(RECORDS)} samples, {len(wrong)} faults']))
-    return 1 if wrong or len(RECORDS) < 9 else 0
+    return 1 if wrong or len(RECORDS) < 10 else 0
 
 
 sys.exit(main())

@@ -217,15 +217,34 @@ static void line(const uint8_t *order) {
     }
 }
 
-/* When word 126 asks for a follower, the searches of all words but the last wait for each other. */
-static void deepest_search(void) {
-    uint8_t order[WORDS] = {125, 124};
-    for (uint8_t i = 0; i < 124; i++) {
-        order[2 + i] = i;
+/* Adds a house line of the words from one on up to another, or one a word. */
+static void put_house_lines(size_t from, size_t to, int one) {
+    put_field(3, one ? 1 + to - from : 2 * (to - from));
+    for (size_t w = from; w < to; w++) {
+        if (w == from || !one) {
+            record[size++] = (uint8_t)(one ? to - from : 1);
+        }
+        record[size++] = (uint8_t)w;
     }
-    order[126] = 126;
-    order[127] = 127;
+}
+
+/* When the last word but one asks for a follower, the searches of all words but the last wait for each other. So many words more, the
+ * highest, are in a house line that their routes go through. */
+static void deepest_search(size_t held) {
+    size_t left = WORDS - held, at = 2;
+    uint8_t order[WORDS] = {(uint8_t)(left - 3), (uint8_t)(left - 4)};
+    for (size_t w = left; w < WORDS; w++) {
+        order[at++] = (uint8_t)w;
+    }
+    for (size_t w = 0; w < left - 4; w++) {
+        order[at++] = (uint8_t)w;
+    }
+    order[at++] = (uint8_t)(left - 2);
+    order[at] = (uint8_t)(left - 1);
     line(order);
+    if (held > 0) {
+        put_house_lines(left, WORDS, 1);
+    }
 }
 
 /* The first 4,096 arrows from lower to higher words. */
@@ -258,18 +277,16 @@ static void bipartite(int fewer) {
     }
 }
 
-/* Adds a house line of all words, or one a word. */
-static void put_house_lines(int one) {
-    put_field(3, one ? 1 + WORDS : 2 * WORDS);
-    for (size_t w = 0; w < WORDS; w++) {
-        if (w == 0 || !one) {
-            record[size++] = one ? WORDS : 1;
-        }
-        record[size++] = (uint8_t)w;
+/* Adds a house line of every ninth word of a line in this order. */
+static void put_ninths(const uint8_t *order) {
+    put_field(3, 1 + (WORDS + 8) / 9);
+    record[size++] = (WORDS + 8) / 9;
+    for (size_t i = 0; i < WORDS; i += 9) {
+        record[size++] = order[i];
     }
 }
 
-/* Lines through the words in any order: their searches are deep. */
+/* Lines through the words in any order: their searches are deep. Every second one is planned beside a house line. */
 static void try_random_lines(void) {
     static uint64_t bits = 88172645463325252u;
     uint8_t order[WORDS];
@@ -287,29 +304,45 @@ static void try_random_lines(void) {
             order[j] = kept;
         }
         line(order);
+        if (round % 2 == 1) {
+            put_ninths(order);
+        }
         try_record("a line in any order", 0);
     }
 }
 
 static void try_sound(void) {
-    deepest_search();
+    deepest_search(0);
     try_record("the deepest search", 0);
+    deepest_search(1);
+    try_record("the deepest search beside a house line of one word", 0);
+    deepest_search(2);
+    try_record("the deepest search beside a house line of two words", 0);
+    deepest_search(64);
+    try_record("the deepest search beside a house line of 64 words", 0);
     dense();
     try_record("4,096 arrows", 0);
     chain(32);
     try_record("a line with arrows up to 32 on", 0);
     chain(WORDS);
     try_record("one line and 4,096 arrows", 0);
-    put_house_lines(1);
+    put_house_lines(0, WORDS, 1);
     try_record("one house line and 4,096 arrows", 0);
+    chain(WORDS);
+    put_house_lines(WORDS / 4, WORDS / 2, 1);
+    try_record("a house line of 32 words and 4,096 arrows", 0);
     bipartite(0);
     try_record("each word of a half to each of the other", 0);
-    put_house_lines(0);
+    put_house_lines(0, WORDS, 0);
     try_record("128 house lines and 4,096 arrows", 0);
     bipartite(1);
     try_record("a search through 64 words at every step", 0);
+    put_house_lines(0, 1, 1);
+    try_record("a search through 63 words beside a house line", 0);
     begin();
     try_record("no arrows", 0);
+    put_field(3, 0);
+    try_record("an empty field of house lines", 0);
     try_random_lines();
 }
 
@@ -317,6 +350,15 @@ static void try_refused(void) {
     chain(31);
     put_arrow(WORDS - 1, 0);
     try_record("a ring at the last arrow", 5);
+    chain(31);
+    put_house_lines(0, WORDS, 1);
+    record[size - 1] = 0;
+    try_record("a word twice in a house line, broken there", 6);
+    chain(31);
+    put_house_lines(0, 2, 1);
+    record[size - 2] = 1;
+    record[size - 1] = 0;
+    try_record("a broken house line of two words", 7);
     size = LONGEST - 1;
     memset(record, 0, size);
     try_record("65,535 bytes of no layout", 1);

@@ -150,6 +150,7 @@ fn growing() -> Vec<Input> {
     }
     inputs.extend([8, MAX_VERTICES].map(|words| Input::chart("no arrows", &scattered(words, 0))));
     inputs.extend([8, 64, MAX_VERTICES].map(|words| Input::chart("layered", &layered(words))));
+    inputs.extend([some_house_lines(8, 16), some_house_lines(64, 256)]);
     inputs
 }
 
@@ -167,8 +168,10 @@ fn largest() -> Vec<Input> {
         Input::chart("chain with arrows up to 32 on", &chain(MAX_VERTICES, 32)),
         Input::chart("bipartite by halves", &bipartite(|_| MAX_VERTICES)),
         Input::chart("worst matching", &bipartite(|u| MAX_VERTICES - u)),
-        Input::chart("deepest search", &deepest_search()),
+        Input::chart("deepest search", &deepest_search(0)),
+        Input::chart("deepest search beside a house line", &deepest_search(1)),
         Input::chart("house lines", &house_lines),
+        some_house_lines(MAX_VERTICES, 1200),
     ]
 }
 
@@ -224,12 +227,19 @@ fn reversed_chain(words: usize) -> Record {
     path(&(0..words).rev().collect::<Vec<_>>())
 }
 
-/// One line whose planning goes as deep as any can: when word 126 asks, the searches of all words
-/// but the last wait for each other.
-fn deepest_search() -> Record {
-    let middle = 0..MAX_VERTICES - 4;
-    let order = [125, 124].into_iter().chain(middle).chain([126, 127]);
-    path(&order.collect::<Vec<_>>())
+/// One line whose planning goes as deep as any can: when the last word but one asks, the searches
+/// of all words but the last wait for each other. So many words more, the highest, are a house line
+/// that the others' routes go through.
+fn deepest_search(held: usize) -> Record {
+    let left = MAX_VERTICES - held;
+    let house_line: Vec<usize> = (left..MAX_VERTICES).collect();
+    let first = [left - 3, left - 4];
+    let rest: Vec<usize> = (0..left - 4).chain([left - 2, left - 1]).collect();
+    let graph = path(&[&first[..], &house_line, &rest].concat());
+    match held {
+        0 => graph,
+        _ => graph.with_given(vec![house_line]),
+    }
 }
 
 /// Rows of four words, each word to all of the next row.
@@ -251,4 +261,12 @@ fn bipartite(limit: fn(usize) -> usize) -> Record {
 fn house_lines(mut record: Record) -> Record {
     give_channels(&mut record, &mut Generator::new(3));
     record
+}
+
+/// Every second one of house lines that hold all words; the words of the others are planned.
+fn some_house_lines(words: usize, arrows: usize) -> Input {
+    let all = house_lines(scattered(words, arrows));
+    let kept = all.given().iter().step_by(2).cloned();
+    let record = all.with_given(kept.collect());
+    Input::chart("house lines of some words", &record)
 }

@@ -5,7 +5,7 @@ use bench::inputs::{alone, dictionary, ROOM};
 use bench::memory::peak_stack;
 use bench::plot::svg;
 use bench::sides::Side;
-use reference::random::{give_channels, graph, Generator, SHAPES};
+use reference::random::{give_channels, give_some_channels, graph, Generator, SHAPES};
 use reference::record::{Edge, Record, MAX_VERTICES};
 
 /// What a chart call may take, in bytes.
@@ -41,25 +41,31 @@ fn random_largest_records_take_little_stack() {
     for shape in [SHAPES; 20].into_iter().flatten() {
         let mut record = graph(&mut generator, shape, MAX_VERTICES);
         records.push(record.to_bytes());
-        give_channels(&mut record, &mut generator);
-        records.push(record.to_bytes());
+        for give in [give_channels, give_some_channels] {
+            give(&mut record, &mut generator);
+            records.push(record.to_bytes());
+        }
     }
     assert_small("random largest records", &records, ROOM);
 }
 
-/// Lines through all words in any order: their searches are deep.
+/// Lines through all words in any order: their searches are deep. Half of them are planned beside
+/// house lines of some words.
 #[test]
 fn random_lines_take_little_stack() {
     let mut generator = Generator::new(7);
     let mut order: Vec<usize> = (0..MAX_VERTICES).collect();
-    let line = |_| {
+    let line = |number| {
         generator.shuffle(&mut order);
         let steps = order.windows(2).map(|pair| Edge::new(pair[0], pair[1]));
-        let record = Record {
+        let mut record = Record {
             vertex_count: MAX_VERTICES,
             edges: steps.collect(),
             channels: None,
         };
+        if number % 2 == 1 {
+            give_some_channels(&mut record, &mut generator);
+        }
         record.to_bytes()
     };
     let records: Vec<Vec<u8>> = (0..2000).map(line).collect();

@@ -22,7 +22,7 @@ pub use session::{Session, STATE_NUMBERS};
 pub use stroke::{stroke_bent, stroke_side, stroke_straight, Place, Point};
 
 /// The version of the header that this crate was written by.
-pub const VERSION: u32 = 1;
+pub const VERSION: u32 = 2;
 
 /// The version of the archive that is linked; where it isn't [`VERSION`] an app must not go on.
 pub fn version() -> u32 {

@@ -16,7 +16,7 @@ pub enum Refusal {
     Double,
     /// Some word leads back to itself.
     Ring,
-    /// A word is in no house line, or more than once in them.
+    /// A word is in the house lines more than once.
     Cover,
     /// A word of a house line does not lead to the next.
     Broken,
@@ -50,7 +50,7 @@ const TABLE: [(Refusal, &str, &str); 10] = [
     (
         Refusal::Cover,
         "cover",
-        "a word is in no house line, or more than once in them",
+        "a word is in the house lines more than once",
     ),
     (
         Refusal::Broken,

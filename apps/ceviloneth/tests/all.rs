@@ -57,6 +57,40 @@ fn kinds_carry_their_numbers() {
     );
 }
 
+/// Words 0 to 2 in a row and, with nothing to them, 3; then a field of house lines.
+fn four_words(house_lines: &[u8]) -> Vec<u8> {
+    let head = [1, 0, 1, 4, 2, 0, 4, 0, 1, 1, 2, 3, 0];
+    [&head[..], &[house_lines.len() as u8], house_lines].concat()
+}
+
+#[test]
+fn house_lines_of_some_words_come_first() {
+    let chart = chart(&four_words(&[1, 3, 1, 1])).expect("a chart");
+    let place = |word: &Word| (word.line, word.position);
+    let places: Vec<_> = chart.words.iter().map(place).collect();
+    assert_eq!(chart.counts.lines, 3);
+    assert_eq!(places, [(2, 0), (1, 0), (2, 1), (0, 0)]);
+}
+
+#[test]
+fn an_empty_field_of_house_lines_counts_as_none() {
+    let empty = four_words(&[]);
+    let without = &empty[..empty.len() - 3];
+    assert_eq!(chart(&empty), chart(without));
+    assert!(chart(without).is_ok());
+}
+
+#[test]
+fn a_word_that_house_lines_repeat_is_refused() {
+    for house_lines in [&[1, 3, 1, 3][..], &[2, 3, 3], &[2, 1, 0, 1, 3, 1, 3]] {
+        let refused = chart(&four_words(house_lines));
+        assert_eq!(refused, Err(Refusal::Cover), "{house_lines:?}");
+    }
+    assert_eq!(chart(&four_words(&[2, 1, 0])), Err(Refusal::Broken));
+    let reason = "a word is in the house lines more than once";
+    assert_eq!(Refusal::Cover.reason(), reason);
+}
+
 #[test]
 fn refusals_have_their_numbers_and_words() {
     let words = [

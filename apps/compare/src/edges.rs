@@ -32,7 +32,29 @@ fn cases() -> Vec<Case> {
         ("an arrow to itself", ring(1), 5),
     ];
     cases.extend(layouts());
+    cases.extend(lines());
     cases
+}
+
+/// House lines of some words, of none, with a word twice, and broken.
+fn lines() -> Vec<Case> {
+    let given = |lines: &[&[usize]]| {
+        let channels = lines.iter().map(|line| line.to_vec());
+        rising(4, 6).with_given(channels.collect()).to_bytes()
+    };
+    let all_but_one = rising(91, 4095).with_given(vec![(0..90).collect()]);
+    vec![
+        ("a line of all words but one", all_but_one.to_bytes(), 0),
+        ("no line in the field", given(&[]), 0),
+        ("one line of some words", given(&[&[1, 3]]), 0),
+        ("two lines of some words", given(&[&[2], &[1, 3]]), 0),
+        ("a word in two lines", given(&[&[1, 3], &[3]]), 6),
+        ("a word twice in a line", given(&[&[1, 2, 2]]), 6),
+        ("a break before a repeat", given(&[&[1, 0], &[2], &[2]]), 6),
+        ("a break behind a repeat", given(&[&[2, 2], &[1, 0]]), 6),
+        ("a break", given(&[&[2], &[1, 0]]), 7),
+        ("a stranger before a repeat", given(&[&[4], &[2, 2]]), 3),
+    ]
 }
 
 fn layouts() -> Vec<Case> {
@@ -42,7 +64,7 @@ fn layouts() -> Vec<Case> {
         ("no tag 2", whole[..4].to_vec(), 1),
         ("a byte too many", fields(1, &[], &[0]), 1),
         ("an odd arrow byte", fields(2, &[0], &[]), 1),
-        ("tag 3 of length 0", fields(1, &[], &[3, 0, 0]), 6),
+        ("tag 3 of length 0", fields(1, &[], &[3, 0, 0]), 0),
         ("a line of no word", fields(1, &[], &[3, 0, 1, 0]), 1),
         ("a line past its field", fields(1, &[], &[3, 0, 2, 2, 0]), 1),
         ("65,535 bytes", house_lines(65_525).to_bytes(), 6),

@@ -4,18 +4,23 @@ use crate::answers::Room;
 use crate::tester::{Outcome, Tester};
 use reference::chart::Chart;
 use reference::lawful::{
-    acyclic_graphs, descent, least_links, least_parts, least_rows, least_tracks, LawfulChart,
+    acyclic_graphs, descent, least_links, least_parts, least_rows, least_tracks, sound_channels,
+    LawfulChart,
 };
 use reference::record::Record;
 
-/// Compares all voices, so that one chart speaks for them, and tries all lawful charts.
+/// Compares all voices, so that one chart speaks for them, and tries all lawful charts: of every
+/// graph, alone and with every sound choice of house lines.
 pub fn least(tester: &mut Tester) -> Outcome {
     for size in 1..=4 {
         let links = least_links(size);
         for record in acyclic_graphs(size) {
-            tester.record(&record.to_bytes(), Room::EXACT)?;
             let least = links.get(&descent(&record)).copied();
-            check(&record, least)?;
+            let given = sound_channels(&record).map(|channels| record.with_given(channels));
+            for record in given.chain([record.clone()]) {
+                tester.record(&record.to_bytes(), Room::EXACT)?;
+                check(&record, least)?;
+            }
         }
     }
     Ok(())
@@ -30,6 +35,7 @@ fn check(record: &Record, links: Option<usize>) -> Outcome {
         own == counts.tracks[part] && Some(own) == least_tracks(&ours.bundles_of(part))
     };
     let met = ours.is_lawful(record)
+        && ours.has_given_whole(record)
         && ours.row_count() == counts.rows
         && ours.part_count() == counts.channels
         && ours.links.len() == counts.reduced_edges

@@ -16,10 +16,11 @@ use tester::{Outcome, Tester};
 
 const HELP: &str = "usage: compare [--quick] [--seed NUMBER]
 
-Compares the proved library with the second implementation: all small graphs, the limits,
-damaged and random records, lists of every length, sessions, strokes; and tries by brute force
-whether a small graph has a smaller lawful chart. Every chart is also drawn by the peer
-(tests/peer), which must agree. --quick does less of what chance makes.
+Compares the proved library with the second implementation: all small graphs with all house lines,
+the limits, damaged and random records, lists of every length, sessions, strokes; and tries by
+brute force whether a small graph has a smaller lawful chart that has the house lines whole. Every
+chart is also drawn by the peer (tests/peer), which must agree. --quick does less of what chance
+makes.
 
 Exit status: 0 all agree; 1 a difference, printed with the smallest record found; 2 wrong use.
 ";

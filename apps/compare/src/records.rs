@@ -6,9 +6,13 @@ use reference::damage::{BYTE_FAULTS, FAULTS};
 use reference::lawful::{acyclic_graphs, choices};
 use reference::random::{self, graph, sound_record, Generator, SHAPES};
 use reference::record::{Edge, Record, MAX_VERTICES};
-use reference::vectors;
+use reference::vectors::{self, Vector};
+use std::collections::BTreeSet;
 
-const VECTORS: &str = include_str!("../../../tests/reference/vectors/base.txt");
+const VECTORS: [&str; 2] = [
+    include_str!("../../../tests/reference/vectors/base.txt"),
+    include_str!("../../../tests/reference/vectors/a.txt"),
+];
 
 /// Every set of arrows over up to four words, rings too.
 pub fn all_graphs(tester: &mut Tester) -> Outcome {
@@ -33,43 +37,68 @@ fn all_arrow_sets(size: usize) -> impl Iterator<Item = Record> {
     })
 }
 
-/// Every list of house lines that holds each word once: for every set of arrows over up to three
-/// words, and over four for the sets without a ring.
+/// Every list of house lines, of all words, of some and of none, broken ones too: for every set of
+/// arrows over up to three words, with repeated words; over four words for the sets without a ring,
+/// with no word twice.
 pub fn all_house_lines(tester: &mut Tester) -> Outcome {
-    let small = (1..=3).flat_map(all_arrow_sets);
-    for record in small.chain(acyclic_graphs(4)) {
-        for channels in line_lists(record.vertex_count) {
-            let channels = Some(channels);
-            let record = Record {
-                channels,
-                ..record.clone()
-            };
-            tester.record(&record.to_bytes(), Room::EXACT)?;
+    for size in 1..=3 {
+        let lists: Vec<_> = line_lists(size).collect();
+        for record in all_arrow_sets(size) {
+            with_each(tester, &record, &lists)?;
         }
+    }
+    let lists = line_lists(4).filter(|lines| no_word_twice(lines));
+    let lists: Vec<_> = lists.collect();
+    for record in acyclic_graphs(4) {
+        with_each(tester, &record, &lists)?;
     }
     Ok(())
 }
 
-/// All orders of the words, cut in all ways.
+/// Compares on the graph with each of these lists of house lines.
+fn with_each(tester: &mut Tester, record: &Record, lists: &[Vec<Vec<usize>>]) -> Outcome {
+    for channels in lists {
+        let given = record.with_given(channels.clone());
+        tester.record(&given.to_bytes(), Room::EXACT)?;
+    }
+    Ok(())
+}
+
+fn no_word_twice(lines: &[Vec<usize>]) -> bool {
+    let words: BTreeSet<usize> = lines.iter().flatten().copied().collect();
+    words.len() == lines.iter().map(Vec::len).sum()
+}
+
+/// All lists of so many words or fewer, cut in all ways.
 fn line_lists(size: usize) -> impl Iterator<Item = Vec<Vec<usize>>> {
-    let once = move |order: &Vec<usize>| (0..size).all(|word| order.contains(&word));
-    choices(size, size).filter(once).flat_map(move |order| {
-        choices(size - 1, 2).map(move |cuts| {
-            let mut lines = vec![vec![order[0]]];
-            for (&word, cut) in order[1..].iter().zip(cuts) {
-                match lines.last_mut() {
-                    Some(line) if cut == 0 => line.push(word),
-                    _ => lines.push(vec![word]),
-                }
-            }
-            lines
-        })
+    let lists = (0..=size).flat_map(move |length| choices(length, size));
+    lists.flat_map(|words| {
+        let cuts = choices(words.len().saturating_sub(1), 2);
+        cuts.map(move |cuts| cut(&words, &cuts))
     })
+}
+
+/// The words in lines: a new one begins behind each place whose number is 1.
+fn cut(words: &[usize], cuts: &[usize]) -> Vec<Vec<usize>> {
+    let mut lines: Vec<Vec<usize>> = Vec::new();
+    for (place, &word) in words.iter().enumerate() {
+        match lines.last_mut() {
+            Some(line) if cuts[place - 1] == 0 => line.push(word),
+            _ => lines.push(vec![word]),
+        }
+    }
+    lines
+}
+
+fn given_vectors() -> Result<Vec<Vector>, String> {
+    let files = VECTORS.iter().map(|text| vectors::parse(text));
+    let files: Vec<Vec<Vector>> = files.collect::<Result<_, _>>()?;
+    Ok(files.concat())
 }
 
 /// The given vectors, each whole, each piece of it from the start, and with each byte changed.
 pub fn given(tester: &mut Tester) -> Outcome {
-    for vector in vectors::parse(VECTORS)? {
+    for vector in given_vectors()? {
         let bytes = vector.bytes;
         tester.record(&bytes, Room([7, 6, 9]))?;
         for length in 0..bytes.len().min(200) {
@@ -125,14 +154,16 @@ fn room(generator: &mut Generator) -> Room {
     }))
 }
 
-/// The largest records of every shape, with and without house lines.
+/// The largest records of every shape, without house lines and with those of all words and of some.
 pub fn largest(tester: &mut Tester, generator: &mut Generator, often: usize) -> Outcome {
     for _ in 0..often {
         for shape in SHAPES {
             let mut record = graph(generator, shape, MAX_VERTICES);
             tester.record(&record.to_bytes(), Room([1, 1, 1]))?;
-            random::give_channels(&mut record, generator);
-            tester.record(&record.to_bytes(), Room::EXACT)?;
+            for give in [random::give_channels, random::give_some_channels] {
+                give(&mut record, generator);
+                tester.record(&record.to_bytes(), Room::EXACT)?;
+            }
         }
     }
     Ok(())
@@ -140,14 +171,15 @@ pub fn largest(tester: &mut Tester, generator: &mut Generator, often: usize) -> 
 
 /// Lists of every length from nothing to more than needed, one by one and together.
 pub fn lengths(tester: &mut Tester, generator: &mut Generator, count: usize) -> Outcome {
-    let mut records: Vec<Vec<u8>> = vectors::parse(VECTORS)?
-        .into_iter()
-        .map(|v| v.bytes)
-        .collect();
+    let mut records: Vec<Vec<u8>> = given_vectors()?.into_iter().map(|v| v.bytes).collect();
     records.retain(|bytes| bytes.len() < 60);
     for size in 1..=count {
         let shape = SHAPES[size % (SHAPES.len() - 1)];
-        records.push(graph(generator, shape, 2 + size % 9).to_bytes());
+        let mut record = graph(generator, shape, 2 + size % 9);
+        if generator.percent(30) {
+            random::give_some_channels(&mut record, generator);
+        }
+        records.push(record.to_bytes());
     }
     for bytes in &records {
         for slack in -60..=12 {

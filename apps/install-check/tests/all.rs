@@ -6,6 +6,10 @@ use std::process::{Command, Output, Stdio};
 
 const SOUND: &[u8] = &[1, 0, 1, 2, 2, 0, 2, 0, 1];
 const RING: &[u8] = &[1, 0, 1, 1, 2, 0, 2, 0, 0];
+/// Two words; house lines of one of them, of none, and of one word twice.
+const SOME: &[u8] = &[1, 0, 1, 2, 2, 0, 2, 0, 1, 3, 0, 2, 1, 1];
+const NONE: &[u8] = &[1, 0, 1, 2, 2, 0, 2, 0, 1, 3, 0, 0];
+const TWICE: &[u8] = &[1, 0, 1, 2, 2, 0, 2, 0, 1, 3, 0, 4, 1, 1, 1, 1];
 
 /// A folder of its own for each test, empty at first.
 fn folder(name: &str) -> PathBuf {
@@ -61,6 +65,22 @@ fn refused_records_are_named_with_number_and_word() {
     assert!(said.contains("torn: refused 1 layout"), "{said}");
     assert!(said.contains("long: refused 1 layout"), "{said}");
     assert!(said.ends_with("4 checked: 1 sound, 3 refused; 0 can't be read\n"));
+}
+
+#[test]
+fn house_lines_may_lack_words_and_may_not_repeat_them() {
+    let folder = folder("house");
+    put(&folder, "none", NONE);
+    put(&folder, "some", SOME);
+    let twice = put(&folder, "twice", TWICE);
+    let output = run(&[&folder]);
+    assert_eq!(status(&output), Some(1));
+    let expected = format!(
+        "{}: refused 6 cover (a word is in the house lines more than once)\n\
+         3 checked: 2 sound, 1 refused; 0 can't be read\n",
+        twice.display()
+    );
+    assert_eq!(text(&output.stdout), expected);
 }
 
 /// So many that several threads share the work; what is said follows the files' order all the same.

@@ -60,7 +60,7 @@ fn bends_stand_where_the_listing_says() {
 
 #[test]
 fn the_pictures_in_docs_are_what_it_draws() {
-    for name in ["P1", "P5", "P6", "large"] {
+    for name in ["P1", "P5", "P6", "editor", "large"] {
         let root = concat!(env!("CARGO_MANIFEST_DIR"), "/../..");
         let sample = name.to_lowercase();
         let record = std::fs::read(format!("{root}/samples/{sample}.record"));

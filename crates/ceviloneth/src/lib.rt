@@ -22,7 +22,7 @@ use state::session_of;
 use state::told;
 use strokes::stroke_of;
 
-const VERSION: u32 = 1;
+const VERSION: u32 = 2;
 
 // The version of the interface, so that an app can refuse a library that was made by another header.
 #[no_mangle]

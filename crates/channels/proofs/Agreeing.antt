@@ -2,7 +2,7 @@
 use Rattle.counting.proofs.Prelude.{_≡_, refl, ap, ap₂, Bool, true, false, not, _&&_, _||_, ℕ, _<_, leb, leb-false}
 use mathlib.Core.List.{List, [], _∷_, _++_, flatten}
 use Rattle.specification.specs.Count.{choose}
-use Rattle.specification.specs.Channels.{linked, every, allLinked, linesOf, verticesOf, unknown?, repeats?, lacks?, broken?}
+use Rattle.specification.specs.Channels.{linked, every, allLinked, linesOf, verticesOf, unknown?, repeats?, broken?}
 use Rattle.specification.specs.Graph.{unsized?}
 use Rattle.counting.proofs.Truth.{or-neither}
 use Rattle.channels.specs.Promise.{givenRefusal}
@@ -37,7 +37,7 @@ module _ (n : ℕ) (leads other : ℕ → ℕ → Bool) (same : (u v : ℕ) → 
   unfolding givenRefusal broken?
   given-same field =
       ap (λ (k : ℕ). choose (unsized? n) (λ _. 2) (λ _. k))
-      (go (unknown? n (verticesOf field)) (repeats? (verticesOf field) || lacks? n (verticesOf field)) (all-linked-same (linesOf field)))
+      (go (unknown? n (verticesOf field)) (repeats? (verticesOf field)) (all-linked-same (linesOf field)))
     where
       rest : Bool → Bool → Bool → ℕ
       rest b c linked = choose b (λ _. 3) (λ _. choose c (λ _. 6) (λ _. choose (not linked) (λ _. 7) (λ _. 0)))

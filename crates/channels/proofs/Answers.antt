@@ -1,11 +1,11 @@
 -- The answers of the public calls, case by case. Assumes nothing.
-use Rattle.counting.proofs.Prelude.{_≡_, refl, sym, ap, _∙_, subst, _≢_, Bool, true, false, true≢false, _||_, List, ℕ, _*_, _≤_, min, arith}
+use Rattle.counting.proofs.Prelude.{_≡_, refl, sym, ap, _∙_, subst, _≢_, Bool, true, false, true≢false, List, [], ℕ, _*_, _≤_, min, arith}
 use Rattle.counting.proofs.Prelude.{length}
 use Rattle.planning.proofs.Laying.{kept-same}
 use Rattle.specification.specs.Count.{choose}
 use Rattle.counting.proofs.Sizes.{size-taken}
 use Rattle.specification.specs.Planning.{planned}
-use Rattle.specification.specs.Channels.{linesOf, verticesOf, unknown?, repeats?, lacks?, broken?}
+use Rattle.specification.specs.Channels.{linesOf, verticesOf, unknown?, repeats?, broken?}
 use Rattle.specification.specs.Sets.{has?}
 use Rattle.specification.specs.Graph.{sizeRefusal, unsized?}
 use Rattle.planning.specs.Arranged.{Arranged, Kept}
@@ -17,13 +17,15 @@ use Rattle.planning.specs.declared.Channels.{Channels}
 -- room for the vertices: the refusal, or the channels
 module _ (n refusal : ℕ) (ls : List (List ℕ)) (p : List ℕ) (r : Channels) (p′ : List ℕ) where
   pub answers-made : 4 * n ≤ length p → unsized? n ≡ false → r .refusal ≡ refusal → (r .refusal ≢ 0 → r .count ≡ 0)
-      → (r .refusal ≡ 0 → Arranged n ls (r .count) p′) → Kept n p p′ → Answers n refusal ls p r p′
-  answers-made h size e none a g = record {
+      → (r .refusal ≡ 0 → Arranged n ls (r .count) p′) → (r .refusal ≢ 0 → Arranged n [] 0 p′) → Kept n p p′
+      → Answers n refusal ls p r p′
+  answers-made h size e none a c g = record {
     refused = λ _. e;
     short = λ l. absurd (omega arith);
     none = none;
     unsized = λ z. absurd (true≢false (sym z ∙ size));
     arranged = a;
+    cleared = λ d _ _. c d;
     kept = g;
   }
 
@@ -38,6 +40,7 @@ answers-sized n refusal ls p r k same z d e =
       none = λ _. ap (λ (x : Channels). x .count) e;
       unsized = λ _. refl;
       arranged = λ q. absurd (d (sym k-refused ∙ q));
+      cleared = λ _ h s. absurd (d (z .size h ∙ size-taken n s));
       kept = kept-same n p;
     }
 
@@ -47,7 +50,8 @@ pub plan-answers : (n : ℕ) (table p : List ℕ) (r : Channels) (p′ : List �
 plan-answers n table p r p′ l e h c =
     let q : min n 128 ≡ n = omega arith in
     answers-made n (sizeRefusal n) (planned (has? 2 table) n) p r p′ h e (c .refused (omega arith) ∙ sym (size-taken n e)) (c .none)
-    (λ z. subst (λ x. Arranged x (planned (has? 2 table) x) (r .count) p′) q (c .arranged z)) (subst (λ x. Kept x p p′) q (c .kept))
+    (λ z. subst (λ x. Arranged x (planned (has? 2 table) x) (r .count) p′) q (c .arranged z)) (λ d. absurd (d (c .refused (omega arith))))
+    (subst (λ x. Kept x p p′) q (c .kept))
 
 -- ---- given channels
 
@@ -56,7 +60,7 @@ module _ (leads : ℕ → ℕ → Bool) (n : ℕ) (field : List ℕ) where
   pub given-sized : sizeRefusal n ≢ 0 → givenRefusal leads n field ≡ sizeRefusal n
   unfolding givenRefusal sizeRefusal
   given-sized = go (unsized? n) (choose (unknown? n (verticesOf field)) (λ _. 3) (λ _.
-      choose (repeats? (verticesOf field) || lacks? n (verticesOf field)) (λ _. 6) (λ _.
+      choose (repeats? (verticesOf field)) (λ _. 6) (λ _.
       choose (broken? leads (linesOf field)) (λ _. 7) (λ _. 0))))
     where
       go : (b : Bool) (k : ℕ) → _≢_ {A = ℕ} (choose b (λ _. 2) (λ _. 0)) 0
@@ -75,15 +79,10 @@ module _ (leads : ℕ → ℕ → Bool) (n : ℕ) (field : List ℕ) where
       given-repeats p = rw (e, u, p)
 
       module _ (p : repeats? (verticesOf field) ≡ false) where
-        pub given-lacks : lacks? n (verticesOf field) ≡ true → givenRefusal leads n field ≡ 6
+        pub given-broken : broken? leads (linesOf field) ≡ true → givenRefusal leads n field ≡ 7
         unfolding givenRefusal
-        given-lacks q = rw (e, u, p, q)
+        given-broken b = rw (e, u, p, b)
 
-        module _ (q : lacks? n (verticesOf field) ≡ false) where
-          pub given-broken : broken? leads (linesOf field) ≡ true → givenRefusal leads n field ≡ 7
-          unfolding givenRefusal
-          given-broken b = rw (e, u, p, q, b)
-
-          pub given-taken : broken? leads (linesOf field) ≡ false → givenRefusal leads n field ≡ 0
-          unfolding givenRefusal
-          given-taken b = rw (e, u, p, q, b)
+        pub given-taken : broken? leads (linesOf field) ≡ false → givenRefusal leads n field ≡ 0
+        unfolding givenRefusal
+        given-taken b = rw (e, u, p, b)

@@ -6,13 +6,16 @@ use native.Mathlib.Decide.{ℕ-discrete}
 use Rattle.specification.specs.Count.{indicator, choose}
 use Rattle.specification.specs.Sets.{member?, inserted}
 use Rattle.specification.specs.Channels.{times, has, linked, every, allLinked, front, lines, filled, linesOf, verticesOf, unknown?}
-use Rattle.specification.specs.Channels.{repeats?, lacks?, broken?}
+use Rattle.specification.specs.Channels.{repeats?, broken?}
+use Rattle.specification.specs.Given.{heldIn}
 use Rattle.counting.proofs.Truth.{indicator-le, or-neither}
-use Rattle.counting.proofs.Somes.{some-found, some-none}
 use Rattle.masks.proofs.Members.{length-inserted, inserted-here, inserted-other, member-zeros}
 use Rattle.matching.specs.Lists.{full}
-use Rattle.matching.specs.Division.{Covers}
-use Rattle.matching.proofs.Lists.{Within, times-here, times-other, times-tail, times-none, has-true, has-false, times-hasnt}
+use Rattle.matching.specs.Given.{Given}
+use Rattle.matching.proofs.Lists.{Within, times-here, times-other, times-tail, times-none, has-false, times-has, times-hasnt}
+use Rattle.matching.proofs.Lists.{length-times}
+use Rattle.counting.proofs.Sums.{sum-smaller}
+use Rattle.counting.proofs.Classes.{sum-one}
 use Rattle.channels.proofs.Fields.{left, left-all, left-length, left-vertex, left-end, lines-length, lines-vertex, lines-end}
 
 -- ---- what the checks say
@@ -54,18 +57,6 @@ twice-repeats l v h = go (repeats? l) refl
     go true e = refl
     go false e = absurd (omega (arith, repeats-once l e v))
 
-pub lacks-has : (n : ℕ) (l : List ℕ) → lacks? n l ≡ false → (v : ℕ) → v < n → 0 < times v l
-unfolding lacks?
-lacks-has n l e v h = go (has v l) refl
-  where
-    go : (b : Bool) → has v l ≡ b → 0 < times v l
-    go true p = has-true v l p
-    go false p = absurd (true≢false (sym (some-found n (λ u. not (has u l)) v h (ap not p)) ∙ e))
-
-pub has-lacks : (n : ℕ) (l : List ℕ) → ((v : ℕ) → v < n → has v l ≡ true) → lacks? n l ≡ false
-unfolding lacks?
-has-lacks n l f = some-none n (λ u. not (has u l)) (λ v h. ap not (f v h))
-
 pub broken-linked : (leads : ℕ → ℕ → Bool) (ls : List (List ℕ)) → broken? leads ls ≡ false → allLinked leads ls ≡ true
 unfolding broken?
 broken-linked leads ls e = not-false (allLinked leads ls) e
@@ -76,17 +67,28 @@ filled-full [] = refl
 filled-full ([] ∷ ls) = filled-full ls
 filled-full ((v ∷ l) ∷ ls) = rw (lt-ltb 0 (suc (length l)) (omega arith)) (filled-full ls)
 
--- channels that pass all checks
-pub given-covers : (leads : ℕ → ℕ → Bool) (n : ℕ) (field : List ℕ) → unknown? n (verticesOf field) ≡ false
-    → repeats? (verticesOf field) ≡ false → lacks? n (verticesOf field) ≡ false
-    → broken? leads (linesOf field) ≡ false → Covers leads n (linesOf field)
+-- channels that pass all checks may be given
+pub passed-given : (leads : ℕ → ℕ → Bool) (n : ℕ) (field : List ℕ) → unknown? n (verticesOf field) ≡ false
+    → repeats? (verticesOf field) ≡ false → broken? leads (linesOf field) ≡ false → Given leads n (linesOf field)
 unfolding linesOf
-given-covers leads n field u p q b = record {
-  once = λ v h. omega (arith, repeats-once (verticesOf field) p v, lacks-has n (verticesOf field) q v h);
-  only = unknown-within n (verticesOf field) u;
-  filled = filled-full (lines 0 field);
+passed-given leads n field u p b = record {
+  fits = record {
+    once = repeats-once (verticesOf field) p;
+    only = unknown-within n (verticesOf field) u;
+    filled = filled-full (lines 0 field);
+  };
   next = broken-linked leads (linesOf field) b;
 }
+
+-- all n vertices stand there where there are as many
+pub all-there : (n : ℕ) (l : List ℕ) → Within n l → ((v : ℕ) → times v l ≤ 1) → length l ≡ n → (v : ℕ) → v < n → has v l ≡ true
+all-there n l w once e v h = go (has v l) refl
+  where
+    go : (b : Bool) → has v l ≡ b → b ≡ true
+    go true p = refl
+    go false p =
+        let less = sum-smaller n (λ v. times v l) (λ _. 1) v h (omega (arith, has-false v l p)) (λ j _. once j) in
+        absurd (omega (arith, length-times n l w, less, sum-one n))
 
 -- ---- a vertex of n or more
 
@@ -168,9 +170,21 @@ module _ (field : List ℕ) where
               ))
           go v (no q) = omega (arith, o .often v, ap indicator (inserted-other seen 0 x v q), ap (times v) left-is, times-other x v rest q)
 
-  pub once-all : (i k : ℕ) (seen : List ℕ) → Once i k seen → length field ≤ i → repeats? (verticesOf field) ≡ false
-  once-all i k seen o h = once-repeats (verticesOf field) λ v.
-      omega (arith, o .often v, indicator-le (member? seen 0 v), ap (times v) (left-end field i k h), times-none v)
+  module _ (i k : ℕ) (seen : List ℕ) (o : Once i k seen) (h : length field ≤ i) where
+    at-end : (v : ℕ) → times v (verticesOf field) ≡ indicator (member? seen 0 v)
+    at-end v = omega (arith, o .often v, ap (times v) (left-end field i k h), times-none v)
+
+    pub once-all : repeats? (verticesOf field) ≡ false
+    once-all = once-repeats (verticesOf field) λ v. omega (arith, at-end v, indicator-le (member? seen 0 v))
+
+    -- the set has the vertices of the lines
+    pub once-held : (v : ℕ) → member? seen 0 v ≡ heldIn (linesOf field) v
+    unfolding heldIn
+    once-held v = go (member? seen 0 v) refl
+      where
+        go : (b : Bool) → member? seen 0 v ≡ b → b ≡ has v (verticesOf field)
+        go true e = sym (times-has v (verticesOf field) (omega (arith, at-end v, ap indicator e)))
+        go false e = sym (times-hasnt v (verticesOf field) (omega (arith, at-end v, ap indicator e)))
 
 -- ---- a vertex that is not led to
 

@@ -6,5 +6,6 @@ pub mod Reading
 pub mod Walking
 pub mod Theorems
 pub mod Tabling
+pub mod Completing
 pub mod Acyclic
 pub mod Agreeing

@@ -5,13 +5,13 @@ use Rattle.specification.specs.Channels.{verticesOf, unknown?, repeats?}
 use Rattle.planning.specs.Arranged.{Arranged, Kept}
 use Rattle.channels.specs.Steps.Laid.{Lays}
 use Rattle.channels.specs.Promise.{givenRefusal}
-use Rattle.channels.specs.Steps.Walked.{settled, Walks}
+use Rattle.channels.specs.Steps.Walked.{Walks}
 use Rattle.channels.specs.declared.Walked.{Walked}
 use Rattle.channels.proofs.Fields.{left, left-vertex}
 use Rattle.channels.proofs.Checks.{unknown-wider, unknown-within, repeats-once}
 use Rattle.channels.proofs.Reading.{Reading, reading-none, reading-length, reading-more, reading-all}
 use Rattle.channels.proofs.Theorems.{given-passed}
-use Rattle.channels.proofs.Walking.{settled-all}
+use Rattle.channels.proofs.Walking.{Walking, walked-all, walked-total, walked-held}
 
 module _ (n : ℕ) (field : List ℕ) where
   -- the lines before byte i are laid, if they pass, so many vertices in all; of the present line p vertices are laid, and k are left
@@ -65,17 +65,27 @@ module _ (n : ℕ) (field : List ℕ) where
     pub walks-refused : r .refusal ≡ 3 → givenRefusal leads n field ≡ 3 → Walks leads n field was r is
     walks-refused e w =
         let never : r .refusal ≡ 0 → ⊥ = λ z. omega arith in
-        record { answer = e ∙ sym w; laid = λ z. absurd (never z); few = λ z. absurd (never z); kept = g }
+        record {
+          answer = e ∙ sym w;
+          laid = λ z. absurd (never z);
+          few = λ z. absurd (never z);
+          total = λ z. absurd (never z);
+          held = λ z. absurd (never z);
+          kept = g;
+        }
 
-    pub walks-all : n ≤ 128 → (i k p vertices fault : ℕ) → r .refusal ≡ settled fault vertices n
-        → settled fault vertices n ≡ givenRefusal leads n field → length field ≤ i → Tabling i k p vertices (r .count) is
-        → Walks leads n field was r is
-    walks-all small i k p vertices fault e w h f = record {
-      answer = e ∙ w;
-      laid = λ z.
-          let q = given-passed leads n field (sym (e ∙ w) ∙ z) in
-          reading-all n field i k p (r .count) is
-          (f .laid (q .once) (unknown-wider n 128 (verticesOf field) small (q .known))) h;
-      few = λ z. omega (arith, f .lines, settled-all fault vertices n (sym e ∙ z));
-      kept = g;
-    }
+    pub walks-all : n ≢ 0 → n ≤ 128 → (i k p last : ℕ) → length field ≤ i
+        → Walking leads n field i k last (r .seen) (r .vertices) (r .refusal)
+        → Tabling i k p (r .vertices) (r .count) is → Walks leads n field was r is
+    walks-all some small i k p last h w f =
+        let answer = walked-all leads n field i k last (r .seen) (r .vertices) (r .refusal) w h some small in record {
+          answer = answer;
+          laid = λ z.
+              let q = given-passed leads n field (sym answer ∙ z) in
+              reading-all n field i k p (r .count) is
+              (f .laid (q .once) (unknown-wider n 128 (verticesOf field) small (q .known))) h;
+          few = λ _. f .lines;
+          total = λ _. walked-total leads n field i k last (r .seen) (r .vertices) (r .refusal) w h;
+          held = walked-held leads n field i k last (r .seen) (r .vertices) (r .refusal) w h;
+          kept = g;
+        }

@@ -1,19 +1,23 @@
--- What the channels that the calls hand over are: a division into channels, in which each vertex leads to the next, and planned ones the
--- least of all. Here the theorems stand of what `plan` and `given` hand over. Assumes nothing.
-use Rattle.counting.proofs.Prelude.{_≡_, refl, sym, ap, _∙_, Bool, true, false, _||_, List, ℕ, suc, _*_, _≤_, _<_, min, arith, length}
+-- What the channels that the calls hand over are: a division into channels, in which each vertex leads to the next, and the least of all
+-- that have the given channels whole. Here the theorems stand of what `plan` and `given` hand over. Assumes nothing.
+use Rattle.counting.proofs.Prelude.{_≡_, refl, sym, ap, _∙_, Bool, true, false, List, ℕ, suc, _*_, _≤_, _<_, min, arith, length}
 use native.Mathlib.Decide.{decLt}
 use Rattle.specification.specs.Count.{choose}
-use Rattle.specification.specs.Channels.{channelOf, positionOf, linesOf, verticesOf, unknown?, repeats?, lacks?, broken?}
+use Rattle.specification.specs.Channels.{channelOf, positionOf, linesOf, verticesOf, unknown?, repeats?, broken?}
+use Rattle.specification.specs.Given.{withGiven, Whole}
 use Rattle.specification.specs.Planning.{planned}
 use Rattle.counting.specs.Quads.{quad}
 use Rattle.matching.specs.Division.{Order, Division, Covers, Channelled}
 use Rattle.matching.proofs.Ordered.{channelled}
 use Rattle.matching.proofs.Planned.{planned-least, planned-covers}
+use Rattle.matching.proofs.Beside.{given-covers, given-whole}
+use Rattle.matching.proofs.Fewest.{given-least}
+use Rattle.matching.specs.Given.{Given}
 use Rattle.planning.specs.Arranged.{Arranged}
 use Rattle.channels.specs.Promise.{Answers, Plans, Gives, givenRefusal}
 use Rattle.channels.specs.Sound.{Sound}
 use Rattle.planning.specs.declared.Channels.{Channels}
-use Rattle.channels.proofs.Checks.{given-covers}
+use Rattle.channels.proofs.Checks.{passed-given}
 use Rattle.counting.proofs.Sizes.{sized-back, size-passed}
 use Rattle.specification.specs.Sets.{has?}
 use Rattle.specification.specs.Graph.{sizeRefusal, unsized?}
@@ -33,30 +37,27 @@ pub record Passed (leads : ℕ → ℕ → Bool) (n : ℕ) (field : List ℕ) : 
   pub size : unsized? n ≡ false
   pub known : unknown? n (verticesOf field) ≡ false
   pub once : repeats? (verticesOf field) ≡ false
-  pub none-lacks : lacks? n (verticesOf field) ≡ false
   pub led : broken? leads (linesOf field) ≡ false
 
 pub given-passed : (leads : ℕ → ℕ → Bool) (n : ℕ) (field : List ℕ) → givenRefusal leads n field ≡ 0 → Passed leads n field
 unfolding givenRefusal
 given-passed leads n field e =
-    let p = go (unsized? n) (unknown? n (verticesOf field)) (repeats? (verticesOf field)) (lacks? n (verticesOf field))
-    (broken? leads (linesOf field)) e in record {
-      size = p .0;
-      known = p .1;
-      once = p .2;
-      none-lacks = p .3;
-      led = p .4;
-    }
+    let p = go (unsized? n) (unknown? n (verticesOf field)) (repeats? (verticesOf field)) (broken? leads (linesOf field)) e in
+    record { size = p .0; known = p .1; once = p .2; led = p .3 }
   where
-    go : (a b c d f : Bool)
-        → _≡_ {A = ℕ} (choose a (λ _. 2) (λ _. choose b (λ _. 3) (λ _. choose (c || d) (λ _. 6) (λ _. choose f (λ _. 7) (λ _. 0))))) 0
-        → (a ≡ false) × (b ≡ false) × (c ≡ false) × (d ≡ false) × (f ≡ false)
-    go true b c d f p = absurd (omega arith)
-    go false true c d f p = absurd (omega arith)
-    go false false true d f p = absurd (omega arith)
-    go false false false true f p = absurd (omega arith)
-    go false false false false true p = absurd (omega arith)
-    go false false false false false p = (refl, refl, refl, refl, refl)
+    go : (a b c d : Bool)
+        → _≡_ {A = ℕ} (choose a (λ _. 2) (λ _. choose b (λ _. 3) (λ _. choose c (λ _. 6) (λ _. choose d (λ _. 7) (λ _. 0))))) 0
+        → (a ≡ false) × (b ≡ false) × (c ≡ false) × (d ≡ false)
+    go true b c d p = absurd (omega arith)
+    go false true c d p = absurd (omega arith)
+    go false false true d p = absurd (omega arith)
+    go false false false true p = absurd (omega arith)
+    go false false false false p = (refl, refl, refl, refl)
+
+-- given channels that are taken may be given
+pub taken-given : (leads : ℕ → ℕ → Bool) (n : ℕ) (field : List ℕ) → givenRefusal leads n field ≡ 0 → Given leads n (linesOf field)
+taken-given leads n field e =
+    let q = given-passed leads n field e in passed-given leads n field (q .known) (q .once) (q .led)
 
 -- ---- channels that cover the vertices, handed over
 
@@ -94,11 +95,24 @@ module _ (n : ℕ) (table p : List ℕ) (r : Channels) (p′ : List ℕ) where
       let t = taken n (sizeRefusal n) (planned (has? 2 table) n) p r p′ a e in
       omega (arith, t .1 .counted, planned-least (has? 2 table) n m part d)
 
-  -- given channels that are taken are such a division too
-  pub given-sound : (field : List ℕ) → Gives n table field p r p′ → r .refusal ≡ 0 → Order (has? 2 table) n
-      → Sound (has? 2 table) n (r .count) p′
-  given-sound field a e o =
-      let t = taken n (givenRefusal (has? 2 table) n field) (linesOf field) p r p′ a e in
-      let q : Passed (has? 2 table) n field = given-passed (has? 2 table) n field (t .0) in
-      sound-arranged (has? 2 table) n o (linesOf field) (r .count) p′ (t .1)
-      (given-covers (has? 2 table) n field (q .known) (q .once) (q .none-lacks) (q .led))
+  module _ (field : List ℕ) (a : Gives n table field p r p′) (e : r .refusal ≡ 0) where
+    abbrev ls : List (List ℕ)
+    ls = withGiven (has? 2 table) n (linesOf field)
+
+    got : Given (has? 2 table) n (linesOf field) × Arranged n ls (r .count) p′
+    got =
+        let t = taken n (givenRefusal (has? 2 table) n field) ls p r p′ a e in
+        (taken-given (has? 2 table) n field (t .0), t .1)
+
+    -- given channels that are taken, with those planned beside them, are such a division too
+    pub given-sound : Order (has? 2 table) n → Sound (has? 2 table) n (r .count) p′
+    given-sound o = sound-arranged (has? 2 table) n o ls (r .count) p′ (got .1) (given-covers (has? 2 table) n (linesOf field) (got .0) o)
+
+    -- which has the given ones whole
+    pub given-parts : Order (has? 2 table) n → Whole n (linesOf field) (channelOf ls)
+    given-parts o = given-whole (has? 2 table) n (linesOf field) (got .0) o
+
+    -- and no division that has them whole has fewer parts, whatever the table
+    pub given-fewest : (m : ℕ) (part : ℕ → ℕ) → Division (has? 2 table) n m part → Whole n (linesOf field) part → r .count ≤ m
+    given-fewest m part d w =
+        omega (arith, got .1 .counted, given-least (has? 2 table) n (linesOf field) (got .0 .fits) m part d w)

@@ -1,45 +1,18 @@
 -- The walk over the bytes of given channels, one byte after the other. Assumes nothing.
-use Rattle.counting.proofs.Prelude.{_≡_, refl, sym, ap, _∙_, subst, _≢_, Bool, true, false, not, false≢true, _||_, List, ℕ, _+_, _-_, _≤_}
+use Rattle.counting.proofs.Prelude.{_≡_, refl, sym, ap, _∙_, subst, _≢_, Bool, true, false, _||_, List, ℕ, _+_, _-_, _≤_}
 use Rattle.counting.proofs.Prelude.{_<_, arith, eqb, length, getD, replicate, eq-eqb, ne-eqb}
-use native.Mathlib.Decide.{ℕ-discrete}
-use Rattle.specification.specs.Count.{choose}
 use Rattle.specification.specs.Sets.{member?, inserted}
-use Rattle.specification.specs.Channels.{times, has, linesOf, verticesOf, unknown?, repeats?, lacks?, broken?}
+use Rattle.specification.specs.Channels.{linesOf, verticesOf, unknown?, repeats?, broken?}
+use Rattle.specification.specs.Given.{heldIn}
 use Rattle.specification.specs.Graph.{unsized?}
-use Rattle.counting.proofs.Sums.{sum-bound, sum-smaller, sum-mono}
-use Rattle.counting.proofs.Classes.{sum-one}
-use Rattle.counting.proofs.Somes.{some-which}
 use Rattle.counting.proofs.Sizes.{sized}
-use Rattle.matching.proofs.Lists.{Within, has-false, length-times}
 use Rattle.channels.specs.Promise.{givenRefusal}
-use Rattle.channels.specs.Steps.Walked.{weighed, settled}
+use Rattle.channels.specs.Steps.Walked.{weighed}
 use Rattle.channels.proofs.Fields.{left, left-all, left-length, left-vertex, left-end}
-use Rattle.channels.proofs.Checks.{unknown-within, repeats-once, lacks-has, Known, known-none, known-length, known-found, known-more}
-use Rattle.channels.proofs.Checks.{known-all, Once, once-none, once-length, once-again, once-more, once-all, Linking, linking-none}
-use Rattle.channels.proofs.Checks.{linking-length, linking-broken, linking-more, linking-all}
-use Rattle.channels.proofs.Answers.{given-unknown, given-repeats, given-lacks, given-broken, given-taken}
-
--- ---- as many vertices as there should be
-
--- vertices below n, none of them twice: one is lacking exactly where they are not n
-lacks-counted : (n : ℕ) (l : List ℕ) → Within n l → ((v : ℕ) → times v l ≤ 1) → lacks? n l ≡ not (eqb (length l) n)
-unfolding lacks?
-lacks-counted n l w once = go (lacks? n l) refl
-  where
-    go : (b : Bool) → lacks? n l ≡ b → b ≡ not (eqb (length l) n)
-    go true e =
-        let x = some-which n (λ v. not (has v l)) e in
-        let z : times (x .0) l ≡ 0 = has-false (x .0) l (hasnt (has (x .0) l) (x .2)) in
-        let less = sum-smaller n (λ v. times v l) (λ _. 1) (x .0) (x .1) (omega arith) (λ j _. once j) in
-        sym (ap not (ne-eqb (length l) n (λ q. omega (arith, length-times n l w, less, sum-one n))))
-      where
-        hasnt : (b : Bool) → not b ≡ true → b ≡ false
-        hasnt true e = absurd (false≢true e)
-        hasnt false e = refl
-    go false e =
-        let more = sum-mono n (λ _. 1) (λ v. times v l) (λ j h. lacks-has n l e j h) in
-        let most = sum-bound n (λ v. times v l) (λ j _. once j) in
-        sym (ap not (eq-eqb (length l) n (omega (arith, length-times n l w, more, most, sum-one n))))
+use Rattle.channels.proofs.Checks.{Known, known-none, known-length, known-found, known-more}
+use Rattle.channels.proofs.Checks.{known-all, Once, once-none, once-length, once-again, once-more, once-all, once-held, Linking}
+use Rattle.channels.proofs.Checks.{linking-none, linking-length, linking-broken, linking-more, linking-all}
+use Rattle.channels.proofs.Answers.{given-unknown, given-repeats, given-broken, given-taken}
 
 -- ---- byte by byte
 
@@ -119,44 +92,35 @@ module _ (leads : ℕ → ℕ → Bool) (n : ℕ) (field : List ℕ) where
         }
 
   -- the end of the bytes
-  pub walked-all : n ≢ 0 → n ≤ 128 → (i k last : ℕ) (seen : List ℕ) (vertices fault : ℕ) → Walking i k last seen vertices fault
-      → length field ≤ i
-      → settled fault vertices n ≡ givenRefusal leads n field
-  unfolding settled
-  walked-all z m i k last seen vertices fault f h = go fault (f .found)
-    where
-      size : unsized? n ≡ false
-      size = sized n z m
+  module _ (i k last : ℕ) (seen : List ℕ) (vertices fault : ℕ) (f : Walking i k last seen vertices fault) (h : length field ≤ i) where
+    pub walked-all : n ≢ 0 → n ≤ 128 → fault ≡ givenRefusal leads n field
+    walked-all z m = go fault (f .found)
+      where
+        size : unsized? n ≡ false
+        size = sized n z m
 
-      known : unknown? n (verticesOf field) ≡ false
-      known = known-all n field i k (f .known) h
+        known : unknown? n (verticesOf field) ≡ false
+        known = known-all n field i k (f .known) h
 
-      total : length (verticesOf field) ≡ vertices
-      total = let e = f .counted in let q = ap length (left-end field i k h) in omega arith
+        go : (y : ℕ) → Found i k last seen y → y ≡ givenRefusal leads n field
+        go _ (clear o l) =
+            sym (given-taken leads n field size known (once-all field i k seen o h) (linking-all leads field i k last l h))
+        go _ (again r) = sym (given-repeats leads n field size known r)
+        go _ (cut o e) = sym (given-broken leads n field size known (once-all field i k seen o h) e)
 
-      -- as many as there should be, or not
-      counted : (y : ℕ) → repeats? (verticesOf field) ≡ false → (lacks? n (verticesOf field) ≡ false → givenRefusal leads n field ≡ y)
-          → (b : Bool) → eqb vertices n ≡ b
-          → choose b (λ _. y) (λ _. 6) ≡ givenRefusal leads n field
-      counted y r g b e =
-          let q = lacks-counted n (verticesOf field) (unknown-within n (verticesOf field) known) (repeats-once (verticesOf field) r) in
-          at b e (q ∙ ap (λ (x : ℕ). not (eqb x n)) total)
-        where
-          at : (b : Bool) → eqb vertices n ≡ b → lacks? n (verticesOf field) ≡ not (eqb vertices n)
-              → choose b (λ _. y) (λ _. 6) ≡ givenRefusal leads n field
-          at true e q = sym (g (q ∙ ap not e))
-          at false e q = sym (given-lacks leads n field size known r (q ∙ ap not e))
+    pub walked-total : vertices ≡ length (verticesOf field)
+    walked-total = let e = f .counted in let q = ap length (left-end field i k h) in omega arith
 
-      go : (y : ℕ) → Found i k last seen y → settled y vertices n ≡ givenRefusal leads n field
-      go _ (clear o l) =
-          let r = once-all field i k seen o h in
-          counted 0 r (λ q. given-taken leads n field size known r q (linking-all leads field i k last l h)) (eqb vertices n) refl
-      go _ (again r) = sym (given-repeats leads n field size known r)
-      go _ (cut o e) =
-          let r = once-all field i k seen o h in
-          counted 7 r (λ q. given-broken leads n field size known r q e) (eqb vertices n) refl
+    -- nothing found: the set has the vertices of the lines
+    pub walked-held : fault ≡ 0 → (v : ℕ) → member? seen 0 v ≡ heldIn (linesOf field) v
+    walked-held = go fault (f .found)
+      where
+        go : (y : ℕ) → Found i k last seen y → y ≡ 0 → (v : ℕ) → member? seen 0 v ≡ heldIn (linesOf field) v
+        go _ (clear o l) z = once-held field i k seen o h
+        go _ (again r) z = absurd (omega arith)
+        go _ (cut o e) z = absurd (omega arith)
 
--- ---- the two small functions, return by return
+-- ---- `weigh`, return by return
 
 module _ (p g : Bool) (y : ℕ) where
   pub weighed-again : p ≡ true → 6 ≡ weighed p g y
@@ -174,25 +138,3 @@ module _ (p g : Bool) (y : ℕ) where
   pub weighed-cut : p ≡ false → y ≡ 0 → g ≡ false → 7 ≡ weighed p g y
   unfolding weighed
   weighed-cut e d q = rw (e, eq-eqb y 0 d, q) refl
-
-module _ (y vertices n : ℕ) where
-  pub settled-again : y ≡ 6 → 6 ≡ settled y vertices n
-  unfolding settled
-  settled-again e = rw (eq-eqb y 6 e) refl
-
-  pub settled-short : y ≢ 6 → vertices ≢ n → 6 ≡ settled y vertices n
-  unfolding settled
-  settled-short e d = rw (ne-eqb y 6 e, ne-eqb vertices n d) refl
-
-  pub settled-rest : y ≢ 6 → vertices ≡ n → y ≡ settled y vertices n
-  unfolding settled
-  settled-rest e d = rw (ne-eqb y 6 e, eq-eqb vertices n d) refl
-
-  -- nothing found: as many as there should be
-  pub settled-all : settled y vertices n ≡ 0 → vertices ≡ n
-  settled-all e = go (ℕ-discrete y 6) (ℕ-discrete vertices n)
-    where
-      go : Dec (y ≡ 6) → Dec (vertices ≡ n) → vertices ≡ n
-      go a (yes b) = b
-      go (yes a) (no b) = absurd (let z = settled-again a in omega arith)
-      go (no a) (no b) = absurd (let z = settled-short a b in omega arith)

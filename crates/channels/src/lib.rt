@@ -11,7 +11,7 @@ ghost use Rattle.specification.specs.Sets.{member?, inserted, has?};
 ghost use Rattle.planning.specs.Arranged.{Arranged};
 ghost use Rattle.specification.specs.Channels.{verticesOf, unknown?};
 ghost use Rattle.channels.specs.Steps.Laid.{openedAt, Lays};
-ghost use Rattle.channels.specs.Steps.Walked.{weighed, settled, Walks};
+ghost use Rattle.channels.specs.Steps.Walked.{weighed, Walks};
 ghost use Rattle.channels.specs.Promise.{Plans, Gives};
 ghost use Rattle.channels.specs.Steps.Sized.{Sized};
 use planning::Channels;
@@ -141,27 +141,16 @@ fn weigh(table: &[u64], seen: &mut [u64], last: usize, v: usize, fault: u8) -> u
     7
 }
 
-// What was found, and 6 too where the vertices are not as many as they should be.
-fn settle(fault: u8, vertices: usize, n: usize) -> u8
-    ensures { λ r. ⌜ r ≡ settled fault vertices n ⌝ }
-{
-    if fault == 6 {
-        return 6;
-    }
-    if vertices != n {
-        return 6;
-    }
-    fault
-}
-
-// Why given channels are refused, or 0, and how many are laid.
+// Why given channels are refused, or 0, how many are laid, how many vertices they have, and the set of these.
 struct Walked {
     refusal: u8,
     count: usize,
+    vertices: usize,
+    seen: [u64; 4],
 }
 
 // The checks of the field and the channels, laid where no vertex has one yet, in one walk over its bytes. Where it answers 0 the channels
-// are those of the field; else what is laid is not said.
+// are those of the field; else what is laid is not said, and the caller clears it.
 fn walk<'a, 'p>(n: usize, table: &'a [u64], field: &'a [u8], places: &'p mut [u8]) -> Walked
     requires { ⌜ (n ≢ 0) × (n ≤ 128) × (4 * n ≤ length (now places)) × Arranged n [] 0 (now places) ⌝ }
     ensures { λ r. ⌜ Walks (has? 2 (now (table .entry))) n (now (field .entry)) (now (places .entry)) r (now (places .exit)) ⌝ }
@@ -187,6 +176,8 @@ fn walk<'a, 'p>(n: usize, table: &'a [u64], field: &'a [u8], places: &'p mut [u8
                 return Walked {
                     refusal: 3,
                     count: 0,
+                    vertices: 0,
+                    seen,
                 };
             }
             fault = weigh(table, &mut seen, last, v, fault);
@@ -198,13 +189,17 @@ fn walk<'a, 'p>(n: usize, table: &'a [u64], field: &'a [u8], places: &'p mut [u8
         }
         i = next;
     }
-    let refusal = settle(fault, vertices, n);
-    Walked { refusal, count }
+    Walked {
+        refusal: fault,
+        count,
+        vertices,
+        seen,
+    }
 }
 
-// The channels of the field, in its order, for n vertices and a table. Refused with 8 (a list without room), 2 (no vertex, or more than
-// 128), 3 (a vertex of n or more), 6 (a vertex repeated or lacking) or 7 (a vertex that the one before does not reach), the first that
-// applies; then there is none.
+// The channels of the field, in its order, for n vertices and a table, and behind them those planned for the vertices that it lacks.
+// Refused with 8 (a list without room), 2 (no vertex, or more than 128), 3 (a vertex of n or more), 6 (a vertex repeated) or 7 (a vertex
+// that the one before does not reach), the first that applies; then there is none, and nothing that was laid stays.
 pub fn given<'a>(n: usize, table: &'a [u64], field: &'a [u8], places: &mut [u8]) -> Channels
     ensures { λ r. ⌜ Gives n (now (table .entry)) (now (field .entry)) (now (places .entry)) r (now (places .exit)) ⌝ }
 {
@@ -215,10 +210,15 @@ pub fn given<'a>(n: usize, table: &'a [u64], field: &'a [u8], places: &mut [u8])
     planning::unplace(n, places);
     let r = walk(n, table, field, places);
     if r.refusal != 0 {
+        planning::unplace(n, places);
         return planning::empty(r.refusal);
     }
-    Channels {
-        refusal: 0,
-        count: r.count as u8,
+    if r.vertices == n {
+        return Channels {
+            refusal: 0,
+            count: r.count as u8,
+        };
     }
+    let seen = r.seen;
+    planning::beside(n, table, &seen, r.count, places)
 }

@@ -2,9 +2,9 @@
 -- chart is drawn from. Cites their promises alone. Assumes nothing.
 use Rattle.counting.proofs.Prelude.{_≡_, refl, sym, ap, _∙_, subst, _↔_, ⊎-elim, _&&_, List, ℕ, _*_, _/_, _≤_, _<_, min, arith, eqb, length}
 use Rattle.counting.proofs.Prelude.{getD, eq-eqb, eqb-true}
-use Rattle.specification.specs.Count.{choose, above}
+use Rattle.specification.specs.Count.{above}
 use Rattle.specification.specs.Sets.{member?, at, has?}
-use Rattle.specification.specs.Channels.{channelOf, positionOf, linesOf}
+use Rattle.specification.specs.Channels.{channelOf, positionOf, givenLines}
 use Rattle.specification.specs.Graph.{edge?, tailsOf, headsOf}
 use Rattle.specification.specs.Checks.{Content, Sound}
 use Rattle.specification.specs.Marks.{transitive?}
@@ -17,7 +17,7 @@ use Rattle.specification.specs.Chart as chart
 use Rattle.counting.specs.Quads.{quad}
 use Rattle.counting.proofs.Truth.{same-truth, lt-or-le, and-intro, and-elim}
 use Rattle.counting.proofs.Somes.{some-found, some-which}
-use Rattle.matching.proofs.Same.{planned-same}
+use Rattle.matching.proofs.Beside.{given-same}
 use Rattle.reach.proofs.Decide.{edge-decided}
 use Rattle.reach.proofs.Closures.{same-test}
 use Rattle.planning.specs.Arranged.{Arranged}
@@ -124,8 +124,9 @@ module _ {n : ℕ} {k : Checked} {e p spans number used column : List ℕ} (x : 
   arranged : Arranged n ls (k .channels) p
   unfolding channelsOf graphContent
   arranged =
-      subst (λ (y : List (List ℕ)). Arranged n (choose (x .given) (λ _. linesOf (x .field)) (λ _. y)) (k .channels) p)
-      (planned-same n (has? 2 t) (leads? c) (λ u v hu hv. table-same u v (omega (arith, small)) (omega (arith, small))))
+      subst (λ (y : List (List ℕ)). Arranged n y (k .channels) p)
+      (given-same (has? 2 t) n (givenLines (x .given) (x .field)) (leads? c)
+      (λ u v hu hv. table-same u v (omega (arith, small)) (omega (arith, small))))
       (x .passes .arranged)
 
   -- ---- rows

@@ -1,7 +1,9 @@
 -- The chart of no graph has no count. Assumes nothing.
 use Rattle.counting.proofs.Prelude.{_≡_, refl, sym, ap, subst, List, [], ℕ, zero, suc, _<_, length, replicate, _∙_}
 use Rattle.specification.specs.Count.{sum, count, above}
+use Rattle.specification.specs.Channels.{givenLines}
 use Rattle.specification.specs.Planning.{begun, plannedTo, planned}
+use Rattle.specification.specs.Given.{without, beside, withGiven}
 use Rattle.specification.specs.Checks.{edgesOf, nothing}
 use Rattle.specification.specs.Marks.{reducedCount}
 use Rattle.specification.specs.Bundles.{bundles, bundlesOf}
@@ -21,7 +23,7 @@ abbrev bare : Plan
 bare = record { channels = []; bundles = []; tracks = replicate 256 0 }
 
 nothing-plan : planOf nothing ≡ bare
-unfolding planOf bundled tracked channelsOf planned plannedTo begun bundlesOf bundles tracks
+unfolding planOf bundled tracked channelsOf givenLines withGiven beside without planned plannedTo begun bundlesOf bundles tracks
 nothing-plan = ap (λ (t : List ℕ). record { channels = []; bundles = []; tracks = t }) (no-tracks _ _ _ 256)
 
 pub record Empty (p : Plan) : Type 0 where

@@ -55,6 +55,7 @@ module _ (n : ℕ) (t : Lists) where
         kept = λ h. refl;
         left = λ h. absurd (true≢false (sym (roomy-tested h) ∙ fails));
         tables = λ h. absurd (true≢false (sym (roomy-tested h) ∙ fails));
+        cleared = λ h. absurd (true≢false (sym (roomy-tested h) ∙ fails));
         places-past = λ i v l h. refl;
         column-past = λ v h. refl;
         long =
@@ -108,6 +109,7 @@ module _ {n : ℕ} {ends : List ℕ} {given : Bool} {field : List ℕ} (t : List
         kept = λ h. refl;
         left = λ h. p .left (h .masks);
         tables = λ h. p .tables (h .masks);
+        cleared = λ h e _. p .cleared (h .masks) e ne;
         places-past = p .past;
         column-past = λ v h. refl;
         long = record {
@@ -174,6 +176,7 @@ module _ {n : ℕ} {ends : List ℕ} {given : Bool} {field : List ℕ} (t : List
       kept = λ h. absurd (h (f .refusal));
       left = λ h. p .left (h .masks);
       tables = λ h. p .tables (h .masks);
+      cleared = λ _ _ h. absurd (h (f .refusal));
       places-past = p .past;
       column-past = f .past;
       long = record {

@@ -2,7 +2,7 @@
 use Rattle.counting.proofs.Prelude.{_≡_, refl, sym, ap, _∙_, _↔_, ⊎-elim, Bool, true, false, List, ℕ, _≤_, arith, eqb, length, eqb-true}
 use Rattle.counting.proofs.Prelude.{eqb-false, ne-eqb}
 use Rattle.specification.specs.Count.{choose}
-use Rattle.specification.specs.Checks.{Content, edgesOf, size?, stranger?, double?, ring?, repeated?, lacking?, unled?, looseChecks}
+use Rattle.specification.specs.Checks.{Content, edgesOf, size?, stranger?, double?, ring?, repeated?, unled?, looseChecks}
 use Rattle.specification.specs.Checks.{laterChecks, firstOf, refusalOf, nothing, contentOf, refusalIn, recordRefusal, said}
 use Rattle.specification.specs.Layout.{layoutOf}
 use Rattle.specification.specs.declared.Layout.{Layout}
@@ -30,8 +30,7 @@ refusal-small c =
     first-small (stranger? c) 3 _ (omega arith) (
     first-small (double? c) 4 _ (omega arith) (
     first-small (ring? c) 5 _ (omega arith) (
-    first-small (repeated? c) 6 _ (omega arith) (
-    first-small (lacking? c) 6 _ (omega arith) seven)))))
+    first-small (repeated? c) 6 _ (omega arith) seven))))
 
 record-small : (b : List ℕ) → recordRefusal b ≤ 7
 unfolding recordRefusal

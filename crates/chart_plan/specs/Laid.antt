@@ -2,7 +2,7 @@
 use mathlib.Core.Path.{_≡_}
 use mathlib.Core.Logic.{_≢_, _↔_}
 use mathlib.Core.Bool.{Bool}
-use mathlib.Core.List.{List}
+use mathlib.Core.List.{List, []}
 use Prim.Native.Nat.{ℕ, _*_, _≤_, _<_, min}
 use lib.ListN.{length, getD}
 use Rattle.counting.specs.Quads.{quad}
@@ -16,6 +16,7 @@ use Rattle.specification.specs.Chart.{leads?, rowOf, rowCount, descendantsOf, p
 use Rattle.specification.specs.Drawn.{graphContent}
 use Rattle.specification.specs.Lent.{Untouched}
 use Rattle.descent.specs.Promise.{edgesRefusal, Sized, Left}
+use Rattle.planning.specs.Arranged.{Arranged}
 use Rattle.record.specs.Checked.{Tables}
 use Rattle.bundles.specs.Promise.{Listed}
 use Rattle.chart_plan.specs.declared.Plan.{Plan}
@@ -99,8 +100,8 @@ pub record Long (t s : Lists) : Type 0 where
   pub column : length (s .column) ≡ length (t .column)
 
 -- the first check that fails, or 0 and what is planned; 8, and nothing changed, where a list has no room. What the lists of masks hold, and
--- the rows and counts of the places, goes by the refusal of the edges alone. After a refusal the other lists are as they were; left free
--- are the channels and positions of the n vertices where the edges are not refused. The places and columns past the vertices always stay
+-- the rows and counts of the places, goes by the refusal of the edges alone. After a refusal the other lists are as they were, and where
+-- the edges are not refused no vertex has a channel, both numbers of each being 0. The places and columns past the vertices always stay
 pub record Plans (n : ℕ) (ends : List ℕ) (given : Bool) (field : List ℕ) (t : Lists) (p : Plan) (s : Lists) : Type 0 where
   pub answer : Roomy n t → p .refusal ≡ refusalOf (graphContent n ends given field)
   pub short : (Roomy n t → ⊥) → (p .refusal ≡ 8) × Untouched t s
@@ -113,6 +114,7 @@ pub record Plans (n : ℕ) (ends : List ℕ) (given : Bool) (field : List ℕ) (
       (s .edges) (s .below) (s .table) (s .longer) (s .places)
   pub tables : Roomy n t → edgesRefusal n (tailsOf ends) (headsOf ends) ≡ 0
       → Tables n ends (t .below) (s .edges) (s .below) (s .table) (s .longer) (s .places)
+  pub cleared : Roomy n t → edgesRefusal n (tailsOf ends) (headsOf ends) ≡ 0 → p .refusal ≢ 0 → Arranged n [] 0 (s .places)
   pub places-past : (k v : ℕ) → k < 4 → n ≤ v → quad k (s .places) v ≡ quad k (t .places) v
   pub column-past : (v : ℕ) → n ≤ v → getD (s .column) v 0 ≡ getD (t .column) v 0
   pub long : Long t s

@@ -1,14 +1,13 @@
 -- The number that is answered is that of the first check that fails. Assumes nothing.
 use Rattle.counting.proofs.Prelude.{_≡_, refl, sym, ap, _∙_, subst, _↔_, _≢_, _⊎_, inl, inr, ⊎-elim, Bool, true, false, true≢false}
-use Rattle.counting.proofs.Prelude.{false≢true, _||_, List, ℕ, _≤_, _<_, arith}
-use Rattle.counting.proofs.Truth.{true-or-false, or-neither}
-use Rattle.specification.specs.Count.{choose}
+use Rattle.counting.proofs.Prelude.{List, ℕ, _≤_, _<_, arith}
+use Rattle.counting.proofs.Truth.{true-or-false}
 use Rattle.specification.specs.Limits.{mostVertices, mostEdges, mostBundles}
 use Rattle.specification.specs.Layout.{layoutOf}
 use Rattle.specification.specs.declared.Fields.{Fields}
 use Rattle.specification.specs.declared.Layout.{Layout}
 use Rattle.specification.specs.declared.Layout.the-variants.{Good, Bad}
-use Rattle.specification.specs.Checks.{Content, size?, stranger?, double?, ring?, repeated?, lacking?, unled?, looseChecks, laterChecks}
+use Rattle.specification.specs.Checks.{Content, size?, stranger?, double?, ring?, repeated?, unled?, looseChecks, laterChecks}
 use Rattle.specification.specs.Checks.{firstOf, refusalOf, contentOf, refusalIn, recordRefusal, said, Sized, Distinct, Acyclic, Once, Led}
 use Rattle.specification.specs.Checks.{Sound, SoundRecord}
 use Rattle.specification.specs.Drawn.{Drawn, recordDrawn, short?}
@@ -49,14 +48,9 @@ module _ (c : Content) where
       next (stranger? c) (stranger-says c) (λ n. inr (3, stranger z n)) λ k.
       next (double? c) (double-says c) (λ n. inr (4, double z k n)) λ d.
       next (ring? c) (ring-says c z k) (λ n. inr (5, ring z k d n)) λ a.
-      next (repeated? c || lacking? c) (cover-says c z k) (λ n. inr (6, cover z k d a n)) λ o.
+      next (repeated? c) (cover-says c) (λ n. inr (6, cover z k d a n)) λ o.
       next (unled? c) (led-says c z k) (λ n. inr (7, broken z k d a o n)) λ l.
       inl (sound-parts .1 (z, k, d, a, o, l))
-
-  six : (t u : Bool) (rest : ℕ) → (t || u) ≡ true → choose t (λ _. 6) (λ _. choose u (λ _. 6) (λ _. rest)) ≡ 6
-  six true u rest e = refl
-  six false true rest e = refl
-  six false false rest e = absurd (false≢true e)
 
   fails-number : {k : ℕ} → Fails c k → (refusalOf c ≡ k) × (0 < k)
   unfolding refusalOf firstOf looseChecks laterChecks
@@ -67,15 +61,14 @@ module _ (c : Content) where
       (rw (size-says c .1 z, stranger-says c .1 k, double-says c .1 d, failing (ring? c) (ring-says c z k) n) refl, omega arith)
   fails-number (cover z k d a n) = (
     rw (size-says c .1 z, stranger-says c .1 k, double-says c .1 d, ring-says c z k .1 a)
-        (six (repeated? c) (lacking? c) _ (failing (repeated? c || lacking? c) (cover-says c z k) n)),
+        (rw (failing (repeated? c) (cover-says c) n) refl),
     omega arith,
   )
-  fails-number (broken z k d a o n) =
-      let p = or-neither (repeated? c) (lacking? c) (cover-says c z k .1 o) in (
-        rw (size-says c .1 z, stranger-says c .1 k, double-says c .1 d, ring-says c z k .1 a, p .0, p .1)
-            (rw (failing (unled? c) (led-says c z k) n) refl),
-        omega arith,
-      )
+  fails-number (broken z k d a o n) = (
+    rw (size-says c .1 z, stranger-says c .1 k, double-says c .1 d, ring-says c z k .1 a, cover-says c .1 o)
+        (rw (failing (unled? c) (led-says c z k) n) refl),
+    omega arith,
+  )
 
 -- ---- of bytes
 

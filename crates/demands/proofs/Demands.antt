@@ -1,8 +1,12 @@
 -- THE DEMANDS, proved of the chart that the definitions give of every sound graph, and of what every call leaves. Of a call nothing is
 -- asked but its promise. The statements are in specs/Demands.antt and specs/Refusals.antt, and in specification's specs/Lawful.antt.
 -- Assumes nothing.
-use Rattle.counting.proofs.Prelude.{_≡_, refl, _≢_, _↔_, Bool, List, ℕ, _/_, arith, length}
-use Rattle.specification.specs.Checks.{Content, Sized, Distinct, Acyclic, Once, Led, Sound, SoundRecord, contentOf, said}
+use Rattle.counting.proofs.Prelude.{_≡_, refl, _≢_, _↔_, Bool, true, false, List, ℕ, _/_, arith, length}
+use Rattle.specification.specs.Channels.{givenLines}
+use Rattle.specification.specs.Given.{Whole}
+use Rattle.specification.specs.Writing.{written, Writable}
+use Rattle.specification.specs.Checks.{Content, Sized, Distinct, Acyclic, Once, Led, Sound, SoundRecord, contentOf, said, givenOf}
+use Rattle.matching.proofs.Beside.{none-whole}
 use Rattle.specification.specs.Chart.{channelsOf, planOf, rowCount, reducedEdges, tracksIn}
 use Rattle.specification.specs.declared.VertexEntry.{VertexEntry}
 use Rattle.specification.specs.declared.EdgeEntry.{EdgeEntry}
@@ -13,7 +17,8 @@ use Rattle.chart_entries.specs.Promise.{HandedOver}
 use Rattle.chart_entries.proofs.Refusals.{refused-untouched, Refused}
 use Rattle.chart_numbers.specs.Chart.{HandedFlat}
 use Rattle.ceviloneth.proofs.Refusing as flat
-use Rattle.demands.specs.Demands.{Entries, entriesIn, entriesOf, oursOf, seen, Faithful, Roomy, Ample, Smallest, Counted, Carried}
+use Rattle.demands.specs.Demands.{Entries, entriesIn, entriesOf, oursOf, seen, Faithful, Roomy, Ample, unlined, Smallest, Counted}
+use Rattle.demands.specs.Demands.{Carried}
 use Rattle.demands.specs.Numbers.{entriesFrom}
 use Rattle.demands.specs.Refusals.{Known, Answered}
 use Rattle.demands.proofs.Agreeing.{defined-shown, ours-agrees}
@@ -22,6 +27,7 @@ use Rattle.demands.proofs.Showing.{shown-faithful}
 use Rattle.demands.proofs.Accepting.{said-fields, said-accepted, said-clear, said-least, graph-accepted, graph-clear, graph-least}
 use Rattle.demands.proofs.Handing.{handed-lists, handed-numbers}
 use Rattle.demands.proofs.Answering.{sound-parts, said-answered, never-short}
+use Rattle.demands.proofs.Unlined.{empty-as-none}
 use Rattle.specification.specs.declared.ChartCounts.{ChartCounts}
 
 -- ---- the chart of a sound graph
@@ -43,6 +49,11 @@ record-says = said-fields
 -- sound is what fails no check (13.3)
 pub sound-passes : (c : Content) → Sound c ↔ (Sized c × Known c × Distinct c × Acyclic c × Once c × Led c)
 sound-passes = sound-parts
+
+-- without given channels every division has them whole, so that no lawful chart at all has fewer parts than ours then (10.5)
+pub bare-whole : (c : Content) → c .given ≡ false → (part : ℕ → ℕ) → Whole (c .vertices) (givenOf c) part
+unfolding givenLines
+bare-whole c g part = rw g (none-whole (c .vertices) part)
 
 -- ---- every call: the lists vs, es and bs are lent, r is the answer, and vs′, es′ and bs′ are the lists afterwards
 
@@ -124,3 +135,10 @@ module _ (b ws ws′ es es′ bs bs′ : List ℕ) (r : ChartCounts) (h : Handed
   -- the numbers, by 10.4 and 10.5
   pub exported-smallest : r .refusal ≡ 0 → Smallest (said b) (seen (said b) r read) × Carried (said b) (seen (said b) r read) r
   exported-smallest = said-least _ _ _ b r read (handed-numbers b ws ws′ es es′ bs bs′ r h)
+
+-- a record with an empty field of given channels is answered as the one without it, in every number (1.4)
+pub exported-empty-as-none : (n : ℕ) (edges : List (ℕ × ℕ)) → Writable (unlined n edges true)
+    → (ws es bs : List ℕ) (r : ChartCounts) (ws′ es′ bs′ : List ℕ)
+    → HandedFlat (written (unlined n edges true)) ws es bs r ws′ es′ bs′
+    ↔ HandedFlat (written (unlined n edges false)) ws es bs r ws′ es′ bs′
+exported-empty-as-none = empty-as-none

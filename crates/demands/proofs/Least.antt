@@ -2,7 +2,8 @@
 use Rattle.counting.proofs.Prelude.{_≡_, refl, sym, ap, _∙_, _↔_, _⊎_, inl, inr, ⊎-elim, _≢_, true, ℕ, _≤_, _<_, arith, eqb, length}
 use Rattle.counting.proofs.Sums.{sum-ext, count-ext}
 use Rattle.specification.specs.Graph.{Reaches}
-use Rattle.specification.specs.Checks.{Content, Leads, Sound}
+use Rattle.specification.specs.Given.{Whole}
+use Rattle.specification.specs.Checks.{Content, givenOf, Leads, Sound}
 use Rattle.specification.specs.Marks.{Linked, linkCount, reducedLink}
 use Rattle.specification.specs.Tracks.{differentIn}
 use Rattle.specification.specs.Chart.{leads?, tailOf, headOf, rowOf, rowCount, reducedEdges, Plan, channelsOf, planOf, bundleIn, trackIn}
@@ -14,7 +15,7 @@ use Rattle.tracks.specs.Order.{Apart, Among}
 use Rattle.tracks.proofs.FirstFit.{row-meet, meet-row, meet-fact}
 use Rattle.tracks.proofs.Different.{different-ext}
 use Rattle.chart_laws.proofs.Leading.{leads-decided}
-use Rattle.chart_laws.proofs.Channels.{channels-divide, channel-below, channels-least}
+use Rattle.chart_laws.proofs.Channels.{channels-divide, channel-below, lines-below, channels-whole, channels-least}
 use Rattle.chart_laws.proofs.Rows.{edge-rises, row-count, rows-fewest}
 use Rattle.chart_laws.proofs.Marks.{chart-links, chart-links-least, chart-links-count}
 use Rattle.chart_laws.proofs.Bundling.{bundle-channel, bundle-ordered, plan-packed, tracks-different}
@@ -83,6 +84,16 @@ module _ (c : Content) (s : Sound c) where
       lined = λ b l. omega (arith, a .line b (within b l), a .parts, bundle-channel c s b (within b l));
       apart = agreed-apart;
     }
+
+    -- the given channels are whole, as in ours
+    agreed-whole : Whole n (givenOf c) (x .part)
+    agreed-whole =
+        record {
+          exact = λ l u v k h m.
+              let hu : u < n = lines-below c s l u k h in
+              let o = channels-whole c s .exact l u v k h m in
+              ((λ e. o .0 (sym (a .part u hu) ∙ e ∙ a .part v m)), λ e. a .part u hu ∙ o .1 e ∙ sym (a .part v m));
+        }
 
     -- ---- counts
 
@@ -168,7 +179,8 @@ module _ (c : Content) (s : Sound c) where
       lawful = agreed-lawful;
       filled = λ l h. let u = channels-divide c s .used l (omega (arith, a .parts)) in (u .0, u .1, a .part (u .0) (u .1) ∙ u .2);
       rows = λ y h. omega (arith, rows-counted, rows-fewest c s (y .row) (h .rises));
-      lines = λ g y h. omega (arith, a .parts, channels-least c s g (y .parts) (y .part) (other-division y h));
+      whole = agreed-whole;
+      lines = λ y h w. omega (arith, a .parts, channels-least c s (y .parts) (y .part) (other-division y h) w);
       links = λ y h. omega (arith, links-counted, chart-links-least c s (y .link) (h .descent));
       sides = λ y h lines rows same i j v hv e f. omega (arith, fewest-sides y h same i j v hv e f);
     }

@@ -4,4 +4,5 @@ pub mod Showing
 pub mod Accepting
 pub mod Handing
 pub mod Answering
+pub mod Unlined
 pub mod Demands

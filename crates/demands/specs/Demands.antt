@@ -3,14 +3,16 @@
 use mathlib.Core.Path.{_≡_}
 use mathlib.Core.Logic.{_↔_}
 use mathlib.Core.Bool.{Bool, true, false, not, _&&_}
-use mathlib.Core.List.{List}
+use mathlib.Core.List.{List, []}
 use Prim.Native.Nat.{ℕ, _≤_, _<_}
 use lib.Dec.{eqb}
 use lib.ListN.{length, getD}
 use Rattle.specification.specs.Count.{some}
 use Rattle.specification.specs.Graph.{Reaches, Longer, Edge}
 use Rattle.specification.specs.Channels.{channelOf}
-use Rattle.specification.specs.Checks.{Content, edgesOf, Leads}
+use Rattle.specification.specs.Given.{Whole}
+use Rattle.specification.specs.Checks.{Content, edgesOf, givenOf, Leads}
+use Rattle.specification.specs.Writing.{Draft}
 use Rattle.specification.specs.Marks.{reducedLink}
 use Rattle.specification.specs.Geometry.{Point, Clear}
 use Rattle.specification.specs.Chart.{leads?, tailOf, headOf, rowOf, channelsOf, planOf, bundleIn, trackIn, vertexEntry, edgeEntry}
@@ -112,6 +114,10 @@ pub record Ample (ws es bs : List ℕ) : Type 0 where
   pub arrows : 20480 ≤ length es
   pub bundles : 1024 ≤ length bs
 
+-- a record of so many vertices and these edges, with an empty field of given channels, or without one
+abbrev pub unlined : ℕ → List (ℕ × ℕ) → Bool → Draft
+unlined n edges given = record { vertices = n; edges = edges; given = given; channels = [] }
+
 -- ---- no lawful chart is smaller
 
 pub record Smallest (c : Content) (x : Chart) : Type 0 where
@@ -120,8 +126,10 @@ pub record Smallest (c : Content) (x : Chart) : Type 0 where
   pub filled : (p : ℕ) → p < x .parts → (v : ℕ) × (v < c .vertices) × (x .part v ≡ p)
   -- no lawful chart has fewer rows (10.5)
   pub rows : (y : Chart) → Lawful c y → rowsOf c x ≤ rowsOf c y
-  -- or fewer parts, unless channels are given
-  pub lines : c .given ≡ false → (y : Chart) → Lawful c y → x .parts ≤ y .parts
+  -- each given channel (house line) is one of its parts: the part of a vertex of it has that channel's vertices, and no other
+  pub whole : Whole (c .vertices) (givenOf c) (x .part)
+  -- and no lawful chart that has the given channels whole has fewer parts; where none are given every lawful chart has (`bare-whole`)
+  pub lines : (y : Chart) → Lawful c y → Whole (c .vertices) (givenOf c) (y .part) → x .parts ≤ y .parts
   -- or fewer links than ours reduced edges
   pub links : (y : Chart) → Lawful c y → linksOf c x ≤ linksOf c y
   -- and one with the same parts, rows and bundles has in no part fewer tracks: p and q are the same part, for vertex v is in both

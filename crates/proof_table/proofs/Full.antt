@@ -8,7 +8,7 @@ use Rattle.specification.specs.Graph.{alike?, duplicate?, unsized?}
 use Rattle.specification.specs.declared.Fields.{Fields}
 use Rattle.specification.specs.declared.Layout.the-variants.{Good}
 use Rattle.specification.specs.Layout.{sizeAt, fieldAt, afterEdges, withEdges, withVertices, layoutOf}
-use Rattle.specification.specs.Checks.{content, edgesOf, size?, stranger?, double?, ring?, repeated?, lacking?, unled?, looseChecks}
+use Rattle.specification.specs.Checks.{content, edgesOf, size?, stranger?, double?, ring?, repeated?, unled?, looseChecks}
 use Rattle.specification.specs.Checks.{laterChecks, firstOf, refusalOf, contentOf, recordRefusal, said}
 use Rattle.counting.proofs.Somes.{some-none}
 use Rattle.counting.proofs.Truth.{and-elim}
@@ -121,7 +121,7 @@ unfolding ring? full
 ring = some-none 128 (λ u. reachable? 128 tails heads u u) (λ u h. no-loop u)
 
 accepted : refusalOf full ≡ 0
-unfolding refusalOf firstOf looseChecks laterChecks repeated? lacking? unled? full
+unfolding refusalOf firstOf looseChecks laterChecks repeated? unled? full
 accepted = rw (size, stranger, double, ring)
 
 -- ---- the records

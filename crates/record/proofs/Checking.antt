@@ -3,8 +3,8 @@ use Rattle.counting.proofs.Prelude.{_≡_, refl, sym, ap, _∙_, subst, _≢_, 
 use Rattle.counting.proofs.Prelude.{arith, leb, length, eq-eqb, ne-eqb}
 use Rattle.counting.proofs.Sizes.{size-taken, sized}
 use Rattle.specification.specs.Count.{choose}
-use Rattle.specification.specs.Graph.{outsized?, verdict, reachable?, tailsOf, headsOf, unsized?}
-use Rattle.specification.specs.Channels.{verticesOf, unknown?}
+use Rattle.specification.specs.Graph.{outsized?, verdict, reachable?, tailsOf, headsOf, unsized?, sizeRefusal}
+use Rattle.specification.specs.Channels.{verticesOf, givenLines, unknown?}
 use Rattle.specification.specs.Checks.{content, refusalOf}
 use Rattle.specification.specs.Graph as edges
 use Rattle.counting.specs.Quads.{quad}
@@ -13,8 +13,8 @@ use Rattle.reach.proofs.Closures.{same-test}
 use Rattle.descent.specs.Promise.{Sized, edgesRefusal, Descended, Left, Descends}
 use Rattle.descent.specs.declared.Descent.{Descent}
 use Rattle.specification.specs.Sets.{has?}
-use Rattle.channels.specs.Promise as planner
-use Rattle.channels.specs.Promise.{Answers}
+use Rattle.channels.specs.Promise.{Answers, Plans, Gives}
+use Rattle.matching.proofs.Beside.{given-none}
 use Rattle.planning.specs.declared.Channels.{Channels}
 use Rattle.record.specs.declared.checks.Checked.{Checked}
 use Rattle.record.specs.Checked.{uncheckedBy, channelsBy, Tables, Checks}
@@ -69,6 +69,7 @@ module _ (n : ℕ) (ends : List ℕ) (given : Bool) (field e b t l p : List ℕ)
             (sym q ∙ sym same ∙ z));
         left = λ s _. subst (λ (x : ℕ). Left x n ends e b t l p e′ b′ t′ l′ p₁) (promised .answer s) (promised .left ne);
         tables = λ s z. absurd (ne (promised .answer s ∙ z));
+        cleared = λ s z _. absurd (ne (promised .answer s ∙ z));
         past = promised .past;
         long = promised .long;
       }
@@ -146,6 +147,7 @@ module _ (n : ℕ) (ends : List ℕ) (given : Bool) (field e b t l p : List ℕ)
             passes = λ z. absurd (ne (sym same ∙ z));
             left = λ s ne. absurd (ne (sound s));
             tables = λ _ _. tables;
+            cleared = λ s _ _. lined .cleared ne (room s) (of-size s);
             past = past;
             long = long;
           }
@@ -160,6 +162,7 @@ module _ (n : ℕ) (ends : List ℕ) (given : Bool) (field e b t l p : List ℕ)
             passes = λ _. record { descended = descended; arranged = lined .arranged z };
             left = λ s ne. absurd (ne (sound s));
             tables = λ _ _. tables;
+            cleared = λ _ _ h. absurd (h refl);
             past = past;
             long = long;
           })
@@ -171,10 +174,20 @@ module _ (n : ℕ) (ends : List ℕ) (given : Bool) (field e b t l p : List ℕ)
           let ne : ch .refusal ≢ 0 = λ z. absurd (omega arith) in
           channels-fail r ne (made ∙ simp (ne-eqb (ch .refusal) 0 ne))
 
-    -- channels are given, or planned, by what reaches what
-    pub settles : (g : Bool) → given ≡ g → (ch : Channels) (p′ : List ℕ)
+    settles : (g : Bool) → given ≡ g → (ch : Channels) (p′ : List ℕ)
         → Answers n (channelsRefusal n t′ g field) (channelsBy n t′ g field) p₁ ch p′
         → (r : Checked) → r ≡ settledBy (d .used) ch → Checks n ends given field e b t l p r e′ b′ t′ l′ p′
     settles g q ch p′ lined =
         settled-when ch p′
         (subst (λ (x : Bool). Answers n (channelsRefusal n t′ x field) (channelsBy n t′ x field) p₁ ch p′) (sym q) lined) (ch .refusal) refl
+
+    module _ (ch : Channels) (p′ : List ℕ) (r : Checked) (made : r ≡ settledBy (d .used) ch) where
+      -- channels are given, or planned, by what reaches what
+      pub given-settles : given ≡ true → Gives n t′ field p₁ ch p′ → Checks n ends given field e b t l p r e′ b′ t′ l′ p′
+      unfolding givenLines
+      given-settles g a = settles true g ch p′ a r made
+
+      pub plan-settles : given ≡ false → Plans n t′ p₁ ch p′ → Checks n ends given field e b t l p r e′ b′ t′ l′ p′
+      unfolding givenLines
+      plan-settles g a =
+          settles false g ch p′ (subst (λ ls. Answers n (sizeRefusal n) ls p₁ ch p′) (sym (given-none (has? 2 t′) n)) a) r made

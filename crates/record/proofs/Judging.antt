@@ -3,8 +3,8 @@ use Rattle.counting.proofs.Prelude.{_≡_, refl, sym, ap, _∙_, _≢_, Bool, t
 use Rattle.counting.proofs.Prelude.{lt-leb}
 use Rattle.specification.specs.Count.{choose, some}
 use Rattle.specification.specs.Graph.{edgeCount, outsized?, strange?, verdict, reachable?, duplicate?, unsized?}
-use Rattle.specification.specs.Channels.{linesOf, verticesOf, unknown?, repeats?, lacks?, broken?}
-use Rattle.specification.specs.Checks.{Content, content, size?, stranger?, double?, ring?, repeated?, lacking?, unled?, looseChecks}
+use Rattle.specification.specs.Channels.{linesOf, verticesOf, unknown?, repeats?, broken?}
+use Rattle.specification.specs.Checks.{Content, content, size?, stranger?, double?, ring?, repeated?, unled?, looseChecks}
 use Rattle.specification.specs.Checks.{laterChecks, firstOf, refusalOf}
 use Rattle.specification.specs.Graph as edges
 use Rattle.descent.specs.Promise.{edgesRefusal}
@@ -21,9 +21,9 @@ whole o s g d y rest = choose o (λ _. 2) (λ _. choose (s || g) (λ _. 3) (λ _
 alone : (o s d y : Bool) → ℕ
 alone o s d y = choose (eqb (verdict o s) 0) (λ _. choose d (λ _. 4) (λ _. choose y (λ _. 5) (λ _. 0))) (λ _. verdict o s)
 
--- the given channels, where some are given: repeated, lacking, broken
-lines : (g r l b : Bool) → ℕ
-lines g r l b = choose (g && r) (λ _. 6) (λ _. choose (g && l) (λ _. 6) (λ _. choose (g && b) (λ _. 7) (λ _. 0)))
+-- the given channels, where some are given: repeated, broken
+lines : (g r b : Bool) → ℕ
+lines g r b = choose (g && r) (λ _. 6) (λ _. choose (g && b) (λ _. 7) (λ _. 0))
 
 -- the edges are refused with k: an unknown vertex in the given channels goes before duplicates and cycles
 edges-refused : (o s g d y : Bool) (rest k : ℕ) → k ≡ alone o s d y → k ≢ 0
@@ -69,10 +69,10 @@ module _ (n : ℕ) (tails heads : List ℕ) (given : Bool) (field : List ℕ) wh
   y = some 128 (λ u. reachable? n tails heads u u)
 
   abbrev rest : ℕ
-  rest = lines given (repeats? (verticesOf field)) (lacks? n (verticesOf field)) (broken? (reachable? n tails heads) (linesOf field))
+  rest = lines given (repeats? (verticesOf field)) (broken? (reachable? n tails heads) (linesOf field))
 
   as-whole : refusalOf c ≡ whole o s (given && unknown? n (verticesOf field)) d y rest
-  unfolding refusalOf firstOf looseChecks laterChecks size? stranger? double? ring? repeated? lacking? unled? whole lines
+  unfolding refusalOf firstOf looseChecks laterChecks size? stranger? double? ring? repeated? unled? whole lines
   as-whole = refl
 
   as-alone : edgesRefusal n tails heads ≡ alone o s d y
@@ -92,16 +92,6 @@ module _ (n : ℕ) (tails heads : List ℕ) (given : Bool) (field : List ℕ) wh
 
 -- ---- then the given channels
 
--- what the planner answers of given channels is what the checks answer
-planner-answer : (u r l b : Bool)
-    → choose {A = ℕ} u (λ _. 3) (λ _. choose (r || l) (λ _. 6) (λ _. choose b (λ _. 7) (λ _. 0)))
-    ≡ choose u (λ _. 3) (λ _. lines true r l b)
-unfolding lines
-planner-answer true r l b = refl
-planner-answer false true l b = refl
-planner-answer false false true b = refl
-planner-answer false false false b = refl
-
 module _ (n : ℕ) (tails heads : List ℕ) (field : List ℕ) (passes : edgesRefusal n tails heads ≡ 0) where
   -- no channels are given
   pub bare-refusal : refusalOf (content n tails heads false field) ≡ 0
@@ -111,16 +101,14 @@ module _ (n : ℕ) (tails heads : List ℕ) (field : List ℕ) (passes : edgesRe
   -- channels are given, and checked by a relation that says what the graph says
   pub given-refusal : (leads : ℕ → ℕ → Bool) → ((u v : ℕ) → u < n → v < n → leads u v ≡ reachable? n tails heads u v) → unsized? n ≡ false
       → givenRefusal leads n field ≡ refusalOf (content n tails heads true field)
-  unfolding givenRefusal
+  unfolding givenRefusal lines
   given-refusal leads same small =
       given-same n leads (reachable? n tails heads) same field
       ∙ ap
       (λ (t : Bool). choose {A = ℕ} t (λ _. 2)
       (λ _. choose (unknown? n (verticesOf field)) (λ _. 3)
-      (λ _. choose (repeats? (verticesOf field) || lacks? n (verticesOf field)) (λ _. 6)
+      (λ _. choose (repeats? (verticesOf field)) (λ _. 6)
       (λ _. choose (broken? (reachable? n tails heads) (linesOf field)) (λ _. 7) (λ _. 0))))) small
-      ∙ planner-answer (unknown? n (verticesOf field)) (repeats? (verticesOf field)) (lacks? n (verticesOf field))
-      (broken? (reachable? n tails heads) (linesOf field))
       ∙ sym (passed-edges n tails heads true field passes)
 
 -- ---- the same, case by case

@@ -3,9 +3,9 @@ use Rattle.counting.proofs.Prelude.{_≡_, refl, sym, ap, _∙_, subst, _↔_, 
 use Rattle.counting.proofs.Prelude.{List, [], _∷_, ℕ, zero, suc, _≤_, _<_, arith, eqb, leb, length, getD, eq-eqb, eqb-true, le-ltb, lt-leb}
 use Rattle.counting.proofs.Prelude.{leb-false}
 use Rattle.specification.specs.Count.{choose, some}
-use Rattle.specification.specs.Channels.{times, linked, every, allLinked, linesOf, verticesOf, unknown?, repeats?, lacks?, broken?}
+use Rattle.specification.specs.Channels.{times, linked, every, allLinked, linesOf, verticesOf, unknown?, repeats?, broken?}
 use Rattle.specification.specs.Graph.{Edge, outsized?, strange?, verdict, refusal, reachable?, alike?, duplicate?}
-use Rattle.specification.specs.Checks.{Content, edgesOf, size?, stranger?, double?, ring?, repeated?, lacking?, unled?, looseChecks}
+use Rattle.specification.specs.Checks.{Content, edgesOf, size?, stranger?, double?, ring?, repeated?, unled?, looseChecks}
 use Rattle.specification.specs.Checks.{laterChecks, firstOf, refusalOf, contentOf, refusalIn, recordRefusal, Sized, EndsKnown, GivenKnown}
 use Rattle.specification.specs.Checks.{Distinct, Acyclic, Once, Led, Sound, SoundRecord}
 use Rattle.specification.specs.declared.Layout.{Layout}
@@ -14,10 +14,10 @@ use Rattle.specification.specs.Layout.{layoutOf}
 use Rattle.counting.proofs.Falsity.{not-true, neither}
 use Rattle.counting.proofs.Truth.{lt-or-le, and-intro, and-elim, or-neither}
 use Rattle.counting.proofs.Somes.{some-found, some-none}
-use Rattle.matching.proofs.Lists.{within-head, within-tail, times-has}
+use Rattle.matching.proofs.Lists.{within-head, within-tail}
 use Rattle.reach.proofs.Decide.{reachable-decided}
 use Rattle.reach.proofs.Routes.{begins-below}
-use Rattle.channels.proofs.Checks.{unknown-within, repeats-once, once-repeats, lacks-has, has-lacks, broken-linked}
+use Rattle.channels.proofs.Checks.{unknown-within, repeats-once, once-repeats, broken-linked}
 use Rattle.record.specs.declared.reading.Reading.{Reading}
 use Rattle.record.specs.Reading.{Reads}
 use Rattle.counting.proofs.Sizes.{sized, outsized-back}
@@ -47,7 +47,6 @@ pub record Passes (c : Content) : Type 0 where
   pub double : double? c ≡ false
   pub ring : ring? c ≡ false
   pub repeated : repeated? c ≡ false
-  pub lacking : lacking? c ≡ false
   pub unled : unled? c ≡ false
 
 pub accepted-passes : (c : Content) → refusalOf c ≡ 0 → Passes c
@@ -58,13 +57,12 @@ accepted-passes c e =
     let d = guarded (double? c) 4 _ (λ z. omega arith) (b .1) in
     let r = guarded (ring? c) 5 _ (λ z. omega arith) (d .1) in
     let p = guarded (repeated? c) 6 _ (λ z. omega arith) (r .1) in
-    let q = guarded (lacking? c) 6 _ (λ z. omega arith) (p .1) in
-    let u = guarded (unled? c) 7 _ (λ z. omega arith) (q .1) in
-    record { size = a .0; stranger = b .0; double = d .0; ring = r .0; repeated = p .0; lacking = q .0; unled = u .0 }
+    let u = guarded (unled? c) 7 _ (λ z. omega arith) (p .1) in
+    record { size = a .0; stranger = b .0; double = d .0; ring = r .0; repeated = p .0; unled = u .0 }
 
 passes-accepted : (c : Content) → Passes c → refusalOf c ≡ 0
 unfolding refusalOf firstOf looseChecks laterChecks
-passes-accepted c p = rw (p .size, p .stranger, p .double, p .ring, p .repeated, p .lacking, p .unled) refl
+passes-accepted c p = rw (p .size, p .stranger, p .double, p .ring, p .repeated, p .unled) refl
 
 -- ---- what each test says
 
@@ -180,6 +178,10 @@ module _ (c : Content) where
   pub double-says : (double? c ≡ false) ↔ Distinct c
   double-says = (no-double c, distinct-no-double c)
 
+  pub cover-says : (repeated? c ≡ false) ↔ Once c
+  unfolding repeated?
+  cover-says = ((λ e g. repeats-once vs (given-passes (c .given) _ e g)), λ o. passes-given (c .given) _ (λ g. once-repeats vs (o g)))
+
   -- size and known ends are all that the reachability layer asks
   graph-accepted : outsized? n m ≡ false → some m (strange? n (c .tails) (c .heads)) ≡ false → refusal n (c .tails) (c .heads) ≡ 0
   unfolding refusal verdict
@@ -202,19 +204,6 @@ module _ (c : Content) where
           true≢false
           (sym (reachable-decided n (c .tails) (c .heads) u u .0 (taken, r)) ∙ none-found 128 (λ u. reach u u) e u (omega arith))),
       λ a. some-none 128 (λ u. reach u u) (λ u l. not-true _ (λ e. a u (reachable-decided n (c .tails) (c .heads) u u .1 e .1))),
-    )
-
-    pub cover-says : ((repeated? c || lacking? c) ≡ false) ↔ Once c
-    unfolding repeated? lacking?
-    cover-says = (
-      (λ e g v l.
-          let p = or-neither (c .given && repeats? vs) (c .given && lacks? n vs) e in
-          omega (arith, repeats-once vs (given-passes (c .given) _ (p .0) g) v, lacks-has n vs (given-passes (c .given) _ (p .1) g) v l)),
-      λ o.
-          neither _ _
-          (passes-given (c .given) _
-          (λ g. once-repeats vs (λ v. ⊎-elim (λ l. omega (arith, o g v l)) (λ l. omega (arith, k .1 g v l)) (lt-or-le v n))))
-          (passes-given (c .given) _ (λ g. has-lacks n vs (λ v l. times-has v vs (omega (arith, o g v l))))),
     )
 
     pub led-says : (unled? c ≡ false) ↔ Led c
@@ -244,21 +233,19 @@ module _ (c : Content) where
         named = k .1;
         distinct = double-says .0 (p .double);
         acyclic = ring-says z k .0 (p .ring);
-        once = cover-says z k .0 (neither _ _ (p .repeated) (p .lacking));
+        once = cover-says .0 (p .repeated);
         led = led-says z k .0 (p .unled);
       }
 
   pub sound-accepted : Sound c → refusalOf c ≡ 0
   sound-accepted s =
       let k : EndsKnown c × GivenKnown c = (s .ends, s .named) in
-      let o = or-neither (repeated? c) (lacking? c) (cover-says (s .size) k .1 (s .once)) in
       passes-accepted c (record {
         size = size-says .1 (s .size);
         stranger = stranger-says .1 k;
         double = double-says .1 (s .distinct);
         ring = ring-says (s .size) k .1 (s .acyclic);
-        repeated = o .0;
-        lacking = o .1;
+        repeated = cover-says .1 (s .once);
         unled = led-says (s .size) k .1 (s .led);
       })
 

@@ -2,16 +2,15 @@
 use mathlib.Core.Path.{_≡_}
 use mathlib.Core.Logic.{_≢_}
 use mathlib.Core.Bool.{Bool}
-use mathlib.Core.List.{List}
+use mathlib.Core.List.{List, []}
 use Prim.Native.Nat.{ℕ, _+_, _*_, _≤_, _<_}
 use lib.ListN.{length}
-use Rattle.specification.specs.Count.{choose}
 use Rattle.counting.specs.Quads.{quad}
 use Rattle.specification.specs.Graph.{tailsOf, headsOf}
 use Rattle.descent.specs.Promise.{edgesRefusal, Sized, KeptFrom, Descended, Left}
-use Rattle.specification.specs.Planning.{planned}
 use Rattle.specification.specs.Sets.{has?}
-use Rattle.specification.specs.Channels.{linesOf}
+use Rattle.specification.specs.Channels.{givenLines}
+use Rattle.specification.specs.Given.{withGiven}
 use Rattle.planning.specs.Arranged.{Arranged}
 use Rattle.record.specs.declared.checks.Checked.{Checked}
 use Rattle.specification.specs.Checks.{content, refusalOf}
@@ -21,10 +20,10 @@ use Rattle.specification.specs.Lent.{Untouched}
 abbrev pub uncheckedBy : ℕ → Checked
 uncheckedBy k = record { refusal = k; used = 0; channels = 0 }
 
--- ---- the channels: the given ones, or those planned by the table t
+-- ---- the channels: the given ones, and then those planned by the table t
 
 abbrev pub channelsBy : ℕ → List ℕ → Bool → List ℕ → List (List ℕ)
-channelsBy n t given field = choose given (λ _. linesOf field) (λ _. planned (has? 2 t) n)
+channelsBy n t given field = withGiven (has? 2 t) n (givenLines given field)
 
 -- ---- the whole
 
@@ -40,8 +39,8 @@ pub record Tables (n : ℕ) (ends b e′ b′ t′ l′ p′ : List ℕ) : Type 
   pub past : KeptFrom (2 * used + 2) b b′
 
 -- r is the first check that fails and no count, or 0 and what passes; e, b, t, l and p are the lists that are lent, and e′ to p′ what they
--- hold afterwards, which goes by the refusal of the edges alone. The entries of p past the vertices stay. Left free are the channels and
--- positions of the n vertices where the given channels are refused and the edges are not
+-- hold afterwards, which goes by the refusal of the edges alone. The entries of p past the vertices stay. Where the given channels are
+-- refused and the edges are not, no vertex has a channel: both numbers of each are 0
 pub record Checks (n : ℕ) (ends : List ℕ) (given : Bool) (field e b t l p : List ℕ) (r : Checked) (e′ b′ t′ l′ p′ : List ℕ) : Type 0 where
   pub answer : Sized n e b t l p → r .refusal ≡ refusalOf (content n (tailsOf ends) (headsOf ends) given field)
   pub short : (Sized n e b t l p → ⊥)
@@ -51,5 +50,6 @@ pub record Checks (n : ℕ) (ends : List ℕ) (given : Bool) (field e b t l p : 
   pub left : Sized n e b t l p → edgesRefusal n (tailsOf ends) (headsOf ends) ≢ 0
       → Left (edgesRefusal n (tailsOf ends) (headsOf ends)) n ends e b t l p e′ b′ t′ l′ p′
   pub tables : Sized n e b t l p → edgesRefusal n (tailsOf ends) (headsOf ends) ≡ 0 → Tables n ends b e′ b′ t′ l′ p′
+  pub cleared : Sized n e b t l p → edgesRefusal n (tailsOf ends) (headsOf ends) ≡ 0 → r .refusal ≢ 0 → Arranged n [] 0 p′
   pub past : (k v : ℕ) → k < 4 → n ≤ v → quad k p′ v ≡ quad k p v
   pub long : (length e′ ≡ length e) × (length b′ ≡ length b) × (length t′ ≡ length t) × (length l′ ≡ length l) × (length p′ ≡ length p)

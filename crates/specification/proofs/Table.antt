@@ -9,10 +9,11 @@ use Rattle.specification.specs.Graph.{alike?, duplicate?, unsized?}
 use Rattle.specification.specs.Planning.{predecessorOf, none?, is?, candidate, marked, taken, answered, freed, scan, augment, asks}
 use Rattle.specification.specs.Planning.{matchingTo, successorFrom, successor, chain, begins, begun, plannedTo, planned}
 use Rattle.specification.specs.Channels.{has, placeFrom, linked, every, channelFrom, channelOf, positionOf, front, lines, filled}
-use Rattle.specification.specs.Channels.{linesOf, unknown?, repeats?, lacks?, broken?}
+use Rattle.specification.specs.Channels.{linesOf, givenLines, unknown?, repeats?, broken?}
 use Rattle.specification.specs.Layout.{sizeAt, fieldAt, lined, withLines, afterEdges, withEdges, withVertices, layoutOf}
-use Rattle.specification.specs.Checks.{Content, edgesOf, size?, stranger?, double?, ring?, repeated?, lacking?, unled?, looseChecks}
+use Rattle.specification.specs.Checks.{Content, edgesOf, size?, stranger?, double?, ring?, repeated?, unled?, looseChecks}
 use Rattle.specification.specs.Checks.{laterChecks, firstOf, refusalOf, contentOf, recordRefusal, said}
+use Rattle.specification.specs.Given.{heldIn, masked, unheld, without, beside, withGiven}
 use Rattle.specification.specs.Rows.{rowWithin}
 use Rattle.specification.specs.Marks.{transitive?, reducedCount}
 use Rattle.specification.specs.Bundles.{alike, gathers, takes, bundleOf, joined, waits, waitsAt, load, before, best, made, rounds}
@@ -22,8 +23,8 @@ use Rattle.specification.specs.Geometry.{isHit, isBlocked, blockStart, o
 use Rattle.specification.specs.Chart.{leads?, descendantsOf, rowOf, rowCount, transitiveEdge?, reducedEdges, channelsOf, tracked}
 use Rattle.specification.specs.Chart.{bundled, planOf, tracksIn, columnIn, widthOf, kindBetween, vertexEntry, edgeEntry, bundleEntry}
 use Rattle.specification.specs.Chart.{polylineOf}
-use Rattle.specification.specs.Table.{graph1, graph5, housed, graph6, graph7, graph8, moving, meeting, touching, detour, record1}
-use Rattle.specification.specs.Table.{record5, record6, record7, record8, record9, record10, Table}
+use Rattle.specification.specs.Table.{graph1, graph5, housed, graph6, graph7, graph8, graph11, graph12, moving, meeting, touching}
+use Rattle.specification.specs.Table.{detour, record1, record5, record6, record7, record8, record9, record10, record11, Table}
 use Rattle.specification.specs.Bundles as bundling
 
 -- ---- too many
@@ -48,15 +49,15 @@ more-arrows c m = outsized-refused c (or-right (unsized? (c .vertices)) (ltb 409
 
 pub table : Table
 unfolding leads? descendantsOf rowOf rowCount transitiveEdge? reducedEdges channelsOf tracked bundled planOf tracksIn columnIn widthOf
-    kindBetween vertexEntry edgeEntry bundleEntry polylineOf graph1 graph5 housed graph6 graph7 graph8 moving meeting touching detour
-    record1 record5 record6 record7 record8 record9 record10 sum count some edge? reaches? outsized? unsized? strange? verdict refusal
-    reachable? predecessorOf none? is? candidate marked taken answered freed scan augment asks matchingTo successorFrom successor chain
-    begins begun plannedTo planned has placeFrom linked every channelFrom channelOf positionOf front lines filled linesOf unknown? repeats?
-    lacks? broken? flatten sizeAt fieldAt lined withLines afterEdges withEdges withVertices layoutOf alternate tailsOf headsOf alike?
-    duplicate? size? stranger? double? ring? repeated? lacking? unled? looseChecks laterChecks firstOf refusalOf contentOf recordRefusal
-    said above rowWithin transitive? reducedCount alike gathers takes bundling.taken bundleOf joined waits waitsAt load before best made
-    rounds bundles adjacent? apart? side? bundlesOf lowestFree earlier meet blocks busy placed inRow inRows tracks isHit isBlocked
-    blockStart ownColumn bendBeside courseOf
+    kindBetween vertexEntry edgeEntry bundleEntry polylineOf graph1 graph5 housed graph6 graph7 graph8 graph11 graph12 moving meeting
+    touching detour record1 record5 record6 record7 record8 record9 record10 record11 sum count some edge? reaches? outsized? unsized?
+    strange? verdict refusal reachable? predecessorOf none? is? candidate marked taken answered freed scan augment asks matchingTo
+    successorFrom successor chain begins begun plannedTo planned has placeFrom linked every channelFrom channelOf positionOf front lines
+    filled linesOf unknown? repeats? broken? flatten givenLines heldIn masked unheld without beside withGiven sizeAt fieldAt lined
+    withLines afterEdges withEdges withVertices layoutOf alternate tailsOf headsOf alike? duplicate? size? stranger? double? ring?
+    repeated? unled? looseChecks laterChecks firstOf refusalOf contentOf recordRefusal said above rowWithin transitive? reducedCount alike
+    gathers takes bundling.taken bundleOf joined waits waitsAt load before best made rounds bundles adjacent? apart? side? bundlesOf
+    lowestFree earlier meet blocks busy placed inRow inRows tracks isHit isBlocked blockStart ownColumn bendBeside courseOf
 table = record {
   p1 = (refl, refl, refl, refl);
   p1-only = refl;
@@ -90,12 +91,15 @@ table = record {
   named-first = (refl, refl);
   double-first = (refl, refl);
   repeated-first = (refl, refl);
-  lacking-first = (refl, refl);
+  lacking-broken = (refl, refl);
   header = (refl, refl, refl, refl, refl, refl, refl);
   words = (refl, refl, refl, refl, refl);
   arrows = ((refl, refl, refl), (refl, refl, refl), (refl, refl, refl), (refl, refl, refl), (refl, refl, refl), (refl, refl, refl));
+  beside-record = (refl, refl);
+  beside-lines = refl;
   no-arrows-field = (refl, refl);
   empty-lines-field = (refl, refl);
+  empty-lines-planned = refl;
   more-words = more-words;
   more-arrows = more-arrows;
   moved = refl;

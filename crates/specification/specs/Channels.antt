@@ -1,9 +1,9 @@
--- Channels as lists, and given channels (SPECIFICATION.md, 3). Assumes nothing.
+-- Channels (lines) as lists, and the bytes of given ones (house lines; SPECIFICATION.md, 1 and 3). Assumes nothing.
 use mathlib.Core.Bool.{Bool, true, false, _&&_, _||_, not}
 use mathlib.Core.List.{List, [], _∷_, flatten}
 use Prim.Native.Nat.{ℕ, suc, _+_, zero}
 use lib.Dec.{eqb, leb}
-use Rattle.specification.specs.Count.{indicator, choose, some}
+use Rattle.specification.specs.Count.{indicator, choose}
 
 -- how often v stands in the list
 unfoldable pub times : ℕ → List ℕ → ℕ
@@ -70,6 +70,10 @@ filled ((v ∷ l) ∷ ls) = (v ∷ l) ∷ filled ls
 unfoldable pub linesOf : List ℕ → List (List ℕ)
 linesOf field = filled (lines 0 field)
 
+-- the given channels, in their order: those of the field if it is there. An empty one gives none, as no field does
+unfoldable pub givenLines : Bool → List ℕ → List (List ℕ)
+givenLines given field = choose given (λ _. linesOf field) (λ _. [])
+
 -- the vertices of a field, line by line
 abbrev pub verticesOf : List ℕ → List ℕ
 verticesOf field = flatten (linesOf field)
@@ -85,10 +89,6 @@ unknown? n (v ∷ l) = leb n v || unknown? n l
 unfoldable pub repeats? : List ℕ → Bool
 repeats? [] = false
 repeats? (v ∷ l) = has v l || repeats? l
-
--- a vertex below n that stands nowhere
-unfoldable pub lacks? : ℕ → List ℕ → Bool
-lacks? n l = some n (λ v. not (has v l))
 
 -- a vertex that the one before it in its line does not lead to
 unfoldable pub broken? : (ℕ → ℕ → Bool) → List (List ℕ) → Bool

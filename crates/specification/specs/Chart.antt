@@ -7,9 +7,9 @@ use lib.ListN.{length, getD}
 use Rattle.specification.specs.Count.{choose, count, above}
 use Rattle.specification.specs.Limits.{mostVertices, pageColumns, pageRows}
 use Rattle.specification.specs.Graph.{edge?, reachable?}
-use Rattle.specification.specs.Channels.{channelOf, positionOf, linesOf}
-use Rattle.specification.specs.Planning.{planned}
-use Rattle.specification.specs.Checks.{Content, edgesOf}
+use Rattle.specification.specs.Channels.{channelOf, positionOf}
+use Rattle.specification.specs.Given.{withGiven}
+use Rattle.specification.specs.Checks.{Content, edgesOf, givenOf}
 use Rattle.specification.specs.Rows.{row, rowsUsed}
 use Rattle.specification.specs.Marks.{transitive?, reducedCount}
 use Rattle.specification.specs.Bundles.{Bundle, bundleOf, adjacent?, bundlesOf, empty}
@@ -59,9 +59,9 @@ pub record Plan : Type 0 where
   pub bundles : List Bundle
   pub tracks : List ℕ
 
--- the given channels, in their order, or the planned ones (3.2, 3.3)
+-- the given channels, in their order, and then those planned for the vertices that they do not hold (3.2 to 3.5)
 unfoldable pub channelsOf : Content → List (List ℕ)
-channelsOf c = choose (c .given) (λ _. linesOf (c .field)) (λ _. planned (leads? c) (c .vertices))
+channelsOf c = withGiven (leads? c) (c .vertices) (givenOf c)
 
 -- the bundles, and then their tracks (6.2, 7.1)
 unfoldable pub tracked : List (List ℕ) → List Bundle → Plan

@@ -4,7 +4,7 @@ use mathlib.Core.List.{List, [], _∷_}
 use Prim.Native.Nat.{ℕ, _*_, _<_, suc, _≤_}
 use Rattle.specification.specs.Count.{choose, some}
 use Rattle.specification.specs.Graph.{edgeCount, outsized?, strange?, duplicate?, reachable?, tailsOf, headsOf, Reaches, Edge}
-use Rattle.specification.specs.Channels.{linesOf, verticesOf, unknown?, repeats?, lacks?, broken?, times}
+use Rattle.specification.specs.Channels.{linesOf, verticesOf, givenLines, unknown?, repeats?, broken?, times}
 use mathlib.Core.Path.{_≡_}
 use lib.Dec.{eqb}
 use lib.ListN.{length, take, drop, getD}
@@ -45,12 +45,9 @@ double? c = duplicate? (edgesOf c) (c .tails) (c .heads)
 unfoldable pub ring? : Content → Bool
 ring? c = some mostVertices (λ u. reachable? (c .vertices) (c .tails) (c .heads) u u)
 
--- 6 'cover': given channels repeat or lack a vertex; two checks with one number, since covering may be dropped later
+-- 6 'cover': a vertex stands in the given channels twice, in one of them or in two
 unfoldable pub repeated? : Content → Bool
 repeated? c = c .given && repeats? (verticesOf (c .field))
-
-unfoldable pub lacking? : Content → Bool
-lacking? c = c .given && lacks? (c .vertices) (verticesOf (c .field))
 
 -- 7 'broken': a vertex of a given channel is not reached from the one before
 unfoldable pub unled? : Content → Bool
@@ -68,7 +65,7 @@ unfoldable pub looseChecks : List Check
 looseChecks = check 2 size? ∷ check 3 stranger? ∷ check 4 double? ∷ []
 
 unfoldable pub laterChecks : List Check
-laterChecks = check 5 ring? ∷ check 6 repeated? ∷ check 6 lacking? ∷ check 7 unled? ∷ []
+laterChecks = check 5 ring? ∷ check 6 repeated? ∷ check 7 unled? ∷ []
 
 -- the number of the first check that fails, else what follows
 unfoldable pub firstOf : List Check → Content → ℕ → ℕ
@@ -107,6 +104,10 @@ said b = choose (eqb (recordRefusal b) 0) (λ _. contentIn b (layoutOf b)) (λ _
 abbrev pub Leads : Content → ℕ → ℕ → Type 0
 Leads c = Reaches (Edge (c .tails) (c .heads))
 
+-- the given channels (the editor's house lines)
+abbrev pub givenOf : Content → List (List ℕ)
+givenOf c = givenLines (c .given) (c .field)
+
 -- given channel k, as a list of vertices
 abbrev pub givenLine : Content → ℕ → List ℕ
 givenLine c k = getD (linesOf (c .field)) k []
@@ -134,9 +135,9 @@ Distinct c =
 abbrev pub Acyclic : Content → Type 0
 Acyclic c = (u : ℕ) → Leads c u u → ⊥
 
--- not 6: each vertex stands in the given channels once
+-- not 6: no vertex stands in the given channels twice; it may stand in none
 abbrev pub Once : Content → Type 0
-Once c = c .given ≡ true → (v : ℕ) → v < c .vertices → times v (verticesOf (c .field)) ≡ 1
+Once c = c .given ≡ true → (v : ℕ) → times v (verticesOf (c .field)) ≤ 1
 
 -- not 7: each vertex of a given channel is reached from the one before
 abbrev pub Led : Content → Type 0

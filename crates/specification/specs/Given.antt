@@ -1,5 +1,5 @@
--- Channels that are given for some of the vertices: they come first, in their order, and the other vertices are planned among themselves by
--- the rule. Ahead of its use: today given channels hold every vertex (SPECIFICATION.md, 3.2 and 13). Assumes nothing.
+-- Channels that are given for some of the vertices, or for all (house lines): they come first, in their order, and the other vertices are
+-- planned among themselves by the rule (SPECIFICATION.md, 3.2 and 3.5). Assumes nothing.
 use mathlib.Core.Path.{_≡_}
 use mathlib.Core.Logic.{_↔_}
 use mathlib.Core.Bool.{Bool, true, not, _&&_}

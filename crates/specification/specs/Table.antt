@@ -41,6 +41,14 @@ graph7 = housed (1 ∷ 0 ∷ 1 ∷ 1 ∷ 1 ∷ 2 ∷ 3 ∷ 3 ∷ 4 ∷ 5 ∷ [])
 unfoldable pub graph8 : Content
 graph8 = content 1 [] [] false []
 
+-- 0→1, 1→2, with the house line 1
+unfoldable pub graph11 : Content
+graph11 = content 3 (0 ∷ 1 ∷ []) (1 ∷ 2 ∷ []) true (1 ∷ 1 ∷ [])
+
+-- P8's with a field of house lines that is empty
+unfoldable pub graph12 : Content
+graph12 = content 1 [] [] true []
+
 -- wrong reading 1: 0→2, 0→3, 1→2
 unfoldable pub moving : Content
 moving = content 4 (0 ∷ 0 ∷ 1 ∷ []) (2 ∷ 3 ∷ 2 ∷ []) false []
@@ -83,6 +91,10 @@ record9 = 1 ∷ 0 ∷ 1 ∷ 1 ∷ 2 ∷ 0 ∷ 2 ∷ 0 ∷ 0 ∷ []
 -- P10: two vertices, 0→1 two times
 unfoldable pub record10 : List ℕ
 record10 = 1 ∷ 0 ∷ 1 ∷ 2 ∷ 2 ∷ 0 ∷ 4 ∷ 0 ∷ 1 ∷ 0 ∷ 1 ∷ []
+
+-- the house line 1 of three vertices
+unfoldable pub record11 : List ℕ
+record11 = 1 ∷ 0 ∷ 1 ∷ 3 ∷ 2 ∷ 0 ∷ 4 ∷ 0 ∷ 1 ∷ 1 ∷ 2 ∷ 3 ∷ 0 ∷ 2 ∷ 1 ∷ 1 ∷ []
 
 -- ---- what is looked up
 
@@ -169,12 +181,14 @@ pub record Table : Type 0 where
   pub p9 : Refused record9 5
   -- P10: an edge two times, 4
   pub p10 : Refused record10 4
-  -- of two checks that fail the first refuses: 3 before 4, by an edge and by a given channel; 4 before 5; 6 before 7, both ways to be 6
+  -- of two checks that fail the first refuses: 3 before 4, by an edge and by a given channel; 4 before 5; 6 before 7, though the
+  -- broken line stands before the one that repeats a vertex
   pub stranger-first : Refused (1 ∷ 0 ∷ 1 ∷ 2 ∷ 2 ∷ 0 ∷ 4 ∷ 0 ∷ 2 ∷ 0 ∷ 2 ∷ []) 3
   pub named-first : Refused (1 ∷ 0 ∷ 1 ∷ 2 ∷ 2 ∷ 0 ∷ 4 ∷ 0 ∷ 1 ∷ 0 ∷ 1 ∷ 3 ∷ 0 ∷ 4 ∷ 3 ∷ 0 ∷ 1 ∷ 2 ∷ []) 3
   pub double-first : Refused (1 ∷ 0 ∷ 1 ∷ 2 ∷ 2 ∷ 0 ∷ 6 ∷ 0 ∷ 1 ∷ 1 ∷ 0 ∷ 0 ∷ 1 ∷ []) 4
   pub repeated-first : Refused (1 ∷ 0 ∷ 1 ∷ 2 ∷ 2 ∷ 0 ∷ 0 ∷ 3 ∷ 0 ∷ 5 ∷ 2 ∷ 0 ∷ 1 ∷ 1 ∷ 0 ∷ []) 6
-  pub lacking-first : Refused (1 ∷ 0 ∷ 1 ∷ 3 ∷ 2 ∷ 0 ∷ 0 ∷ 3 ∷ 0 ∷ 3 ∷ 2 ∷ 0 ∷ 1 ∷ []) 6
+  -- a vertex that lacks is no fault; then a broken line is 7
+  pub lacking-broken : Refused (1 ∷ 0 ∷ 1 ∷ 3 ∷ 2 ∷ 0 ∷ 0 ∷ 3 ∷ 0 ∷ 3 ∷ 2 ∷ 0 ∷ 1 ∷ []) 7
   -- the sample listing: its header, words and arrows
   pub header : (graph1 .vertices ≡ 5) × (edgesOf graph1 ≡ 6) × (rowCount graph1 ≡ 4) × (length (channelsOf graph1) ≡ 2)
       × (reducedEdges graph1 ≡ 5) × (length (planOf graph1 .bundles) ≡ 0) × (widthOf (planOf graph1) ≡ 6)
@@ -182,9 +196,13 @@ pub record Table : Type 0 where
       × Word graph1 4 0 2 1 3 0
   pub arrows : Arrow graph1 0 0 1 Path firm × Arrow graph1 1 0 2 Straight firm × Arrow graph1 2 1 3 Straight firm
       × Arrow graph1 3 2 3 Path firm × Arrow graph1 4 3 4 Straight firm × Arrow graph1 5 0 3 Straight implied
-  -- limits (16.2): without tag 2 it is 1, with an empty tag 2 accepted (P8), with an empty tag 3 it is 6
+  -- the given line 1 comes first; 0 reaches 2 through it
+  pub beside-record : Says record11 graph11
+  pub beside-lines : channelsOf graph11 ≡ (1 ∷ []) ∷ (0 ∷ 2 ∷ []) ∷ []
+  -- limits (16.2): without tag 2 it is 1, with an empty tag 2 accepted (P8), with an empty tag 3 accepted too, and planned as without
   pub no-arrows-field : Refused (1 ∷ 0 ∷ 1 ∷ 1 ∷ []) 1
-  pub empty-lines-field : Refused (1 ∷ 0 ∷ 1 ∷ 1 ∷ 2 ∷ 0 ∷ 0 ∷ 3 ∷ 0 ∷ 0 ∷ []) 6
+  pub empty-lines-field : Says (1 ∷ 0 ∷ 1 ∷ 1 ∷ 2 ∷ 0 ∷ 0 ∷ 3 ∷ 0 ∷ 0 ∷ []) graph12
+  pub empty-lines-planned : planOf graph12 ≡ planOf graph8
   -- a vertex or an edge too many is 2
   pub more-words : (c : Content) → c .vertices ≡ 129 → refusalOf c ≡ 2
   pub more-arrows : (c : Content) → edgesOf c ≡ 4097 → refusalOf c ≡ 2

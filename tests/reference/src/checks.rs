@@ -14,7 +14,7 @@ const CHECKS: [(Refusal, Check); 6] = [
     (Refusal::UnknownVertex, vertices_are_known),
     (Refusal::DuplicateEdge, edges_are_distinct),
     (Refusal::Cycle, no_vertex_reaches_itself),
-    (Refusal::Cover, channels_hold_each_vertex_once),
+    (Refusal::Cover, channels_repeat_no_vertex),
     (Refusal::Broken, channels_follow_reachability),
 ];
 
@@ -32,7 +32,7 @@ fn sizes_are_allowed(record: &Record) -> bool {
 
 fn vertices_are_known(record: &Record) -> bool {
     let in_edges = record.edges.iter().flat_map(|edge| [edge.tail, edge.head]);
-    let in_channels = record.channels.iter().flatten().flatten().copied();
+    let in_channels = record.given().iter().flatten().copied();
     in_edges
         .chain(in_channels)
         .all(|vertex| vertex < record.vertex_count)
@@ -47,22 +47,15 @@ fn no_vertex_reaches_itself(record: &Record) -> bool {
     !Reachability::of(record.vertex_count, &record.edges).has_cycle()
 }
 
-fn channels_hold_each_vertex_once(record: &Record) -> bool {
-    let Some(channels) = &record.channels else {
-        return true;
-    };
-    let mut held: Vec<usize> = channels.iter().flatten().copied().collect();
-    held.sort_unstable();
-    held.into_iter().eq(0..record.vertex_count)
+fn channels_repeat_no_vertex(record: &Record) -> bool {
+    let mut held = BTreeSet::new();
+    let mut in_channels = record.given().iter().flatten();
+    in_channels.all(|vertex| held.insert(vertex))
 }
 
 fn channels_follow_reachability(record: &Record) -> bool {
-    let Some(channels) = &record.channels else {
-        return true;
-    };
     let reach = Reachability::of(record.vertex_count, &record.edges);
     let follows = |pair: &[usize]| reach.reaches(pair[0], pair[1]);
-    channels
-        .iter()
-        .all(|channel| channel.windows(2).all(follows))
+    let mut given = record.given().iter();
+    given.all(|channel| channel.windows(2).all(follows))
 }

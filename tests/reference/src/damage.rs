@@ -3,7 +3,7 @@
 // All faults of the bytes have one type, also those that keep the length.
 #![allow(clippy::ptr_arg)]
 
-use crate::random::{give_channels, Generator};
+use crate::random::{give_channels, give_some_channels, Generator};
 use crate::record::{push_field, split_fields, Edge, Record};
 use crate::record::{MAX_BYTES, MAX_EDGES, MAX_VERTICES, TAG_CHANNELS, TAG_VERTICES};
 
@@ -22,11 +22,11 @@ pub const FAULTS: [Fault; 15] = [
     way_back,
     edge_to_itself,
     too_many_edges,
-    channels_without_one,
-    channels_with_one_twice,
+    vertex_twice_in_a_channel,
+    vertex_in_two_channels,
+    break_before_a_repeat,
     channel_out_of_order,
     channels_joined,
-    no_channels,
     unknown_in_channel,
     empty_channel,
 ];
@@ -137,36 +137,53 @@ fn insert_edge(record: &mut Record, edge: Edge, generator: &mut Generator) {
     record.edges.insert(place, edge);
 }
 
-/// The record's channels; where it has none, good ones or else a channel for each vertex.
+/// The record's channels; where it gives none, good ones or else a channel for each vertex.
 fn channels<'a>(record: &'a mut Record, generator: &mut Generator) -> &'a mut Vec<Vec<usize>> {
-    if record.channels.is_none() && record.check().is_ok() {
-        give_channels(record, generator);
+    if record.given().is_empty() && record.check().is_ok() {
+        let give = [give_channels, give_some_channels];
+        give[generator.below(2)](record, generator);
     }
     let alone = || (0..record.vertex_count).map(|v| vec![v]).collect();
     record.channels.get_or_insert_with(alone)
 }
 
-fn channels_without_one(record: &mut Record, generator: &mut Generator) {
+/// A channel has one of its vertices again, anywhere.
+fn vertex_twice_in_a_channel(record: &mut Record, generator: &mut Generator) {
     let lists = channels(record, generator);
     let place = generator.below(lists.len());
-    if let Some(list) = lists.get_mut(place) {
-        let lost = generator.below(list.len());
-        if lost < list.len() {
-            list.remove(lost);
-        }
-        if list.is_empty() {
-            lists.remove(place);
+    let list = lists.get_mut(place);
+    if let Some(list) = list.filter(|list| list.len() < MAX_VERTICES) {
+        let again = generator.below(list.len() + 1);
+        if let Some(vertex) = generator.pick(list) {
+            list.insert(again, vertex);
         }
     }
 }
 
-fn channels_with_one_twice(record: &mut Record, generator: &mut Generator) {
-    let vertex = generator.below(record.vertex_count);
+/// A vertex of a channel is at the end of another one too, or alone in one.
+fn vertex_in_two_channels(record: &mut Record, generator: &mut Generator) {
     let lists = channels(record, generator);
-    let place = generator.below(lists.len());
-    match lists.get_mut(place) {
-        Some(list) if list.len() < MAX_VERTICES && generator.percent(70) => list.push(vertex),
-        _ => lists.push(vec![vertex]),
+    let held: Vec<usize> = lists.iter().flatten().copied().collect();
+    let Some(vertex) = generator.pick(&held) else {
+        return;
+    };
+    let other = |list: &&mut Vec<usize>| list.len() < MAX_VERTICES && !list.contains(&vertex);
+    let place = generator.below(lists.len() + 1);
+    match lists.get_mut(place).filter(other) {
+        Some(list) => list.push(vertex),
+        None => lists.push(vec![vertex]),
+    }
+}
+
+/// The longest channel comes first, the wrong way round, and the last vertex of all is repeated.
+fn break_before_a_repeat(record: &mut Record, generator: &mut Generator) {
+    let lists = channels(record, generator);
+    lists.sort_by_key(|list| std::cmp::Reverse(list.len()));
+    if let Some(longest) = lists.first_mut() {
+        longest.reverse();
+    }
+    if let Some(&last) = lists.last().and_then(|list| list.last()) {
+        lists.push(vec![last]);
     }
 }
 
@@ -190,10 +207,6 @@ fn channels_joined(record: &mut Record, generator: &mut Generator) {
             lists.pop();
         }
     }
-}
-
-fn no_channels(record: &mut Record, _: &mut Generator) {
-    record.channels = Some(Vec::new());
 }
 
 fn unknown_in_channel(record: &mut Record, generator: &mut Generator) {

@@ -130,6 +130,11 @@ impl LawfulChart {
             && tracks_keep_apart(&self.bundles)
     }
 
+    /// Whether each given channel is one of its parts, whole.
+    pub fn has_given_whole(&self, record: &Record) -> bool {
+        parts_have_whole(&self.parts, record.given())
+    }
+
     /// The number of rows.
     pub fn row_count(&self) -> usize {
         self.rows.iter().max().map_or(0, |highest| highest + 1)
@@ -169,6 +174,15 @@ fn parts_are_chains(descent: &Relation, parts: &[usize]) -> bool {
     (0..parts.len()).all(|v| (0..v).all(|u| parts[u] != parts[v] || related(u, v)))
 }
 
+/// For each channel some part holds its vertices and no other.
+fn parts_have_whole(parts: &[usize], channels: &[Vec<usize>]) -> bool {
+    let whole = |channel: &Vec<usize>, part: usize| {
+        (0..parts.len()).all(|vertex| channel.contains(&vertex) == (parts[vertex] == part))
+    };
+    let one_is_whole = |channel: &Vec<usize>| parts.iter().any(|&part| whole(channel, part));
+    channels.iter().all(one_is_whole)
+}
+
 fn tracks_keep_apart(bundles: &[PartBundle]) -> bool {
     let apart =
         |one: &PartBundle, other: &PartBundle| !one.meets(other) || one.track != other.track;
@@ -188,17 +202,45 @@ pub fn least_rows(record: &Record) -> Option<usize> {
 }
 
 /// All divisions into parts of which any lawful chart could have one; some come more than once.
-pub fn lawful_parts(record: &Record) -> impl Iterator<Item = Vec<usize>> {
+fn lawful_parts(record: &Record) -> impl Iterator<Item = Vec<usize>> {
     let descent = descent(record);
     choices(record.vertex_count, record.vertex_count)
         .filter(move |parts| parts_are_chains(&descent, parts))
 }
 
-/// The fewest parts of any lawful chart.
+/// The fewest parts of any lawful chart that has the given channels whole.
 pub fn least_parts(record: &Record) -> Option<usize> {
     lawful_parts(record)
+        .filter(|parts| parts_have_whole(parts, record.given()))
         .map(|parts| distinct(parts.into_iter()))
         .min()
+}
+
+/// Every sound choice of given channels: all lists of chains without a common vertex, of all
+/// vertices, of some and of none, in every order.
+pub fn sound_channels(record: &Record) -> impl Iterator<Item = Vec<Vec<usize>>> {
+    let (size, descent) = (record.vertex_count, descent(record));
+    // A vertex's number is that of its channel, from 1, or 0 where none holds it.
+    let all = choices(size, size + 1);
+    all.filter_map(move |numbers| {
+        let count = numbers.iter().copied().max().unwrap_or(0);
+        let channels = (1..=count).map(|channel| {
+            let held = (0..size).filter(|&vertex| numbers[vertex] == channel);
+            in_descent(&descent, held.collect())
+        });
+        let channels: Vec<Vec<usize>> = channels.collect::<Option<_>>()?;
+        let none_is_empty = channels.iter().all(|channel| !channel.is_empty());
+        none_is_empty.then_some(channels)
+    })
+}
+
+/// The vertices in the order of descent, if each leads to the next there.
+fn in_descent(descent: &Relation, mut vertices: Vec<usize>) -> Option<Vec<usize>> {
+    let among = vertices.clone();
+    let led_to = |vertex: usize| among.iter().filter(|&&v| descent.has(vertex, v)).count();
+    vertices.sort_by_key(|&vertex| std::cmp::Reverse(led_to(vertex)));
+    let follows = |pair: &[usize]| descent.has(pair[0], pair[1]);
+    vertices.windows(2).all(follows).then_some(vertices)
 }
 
 /// For each descent over `size` vertices, the fewest links that have it; all sets are tried.

@@ -20,12 +20,9 @@ pub struct Channels {
 }
 
 impl Channels {
-    /// The given channels of a checked record, or else planned ones.
+    /// The given channels of a checked record, and then planned ones of the vertices left.
     pub fn of(record: &Record, reach: &Reachability) -> Channels {
-        let lists = match &record.channels {
-            Some(given) => given.clone(),
-            None => plan(reach),
-        };
+        let lists = [record.given(), &plan(reach, &record.left())].concat();
         let mut slots = vec![Slot::default(); record.vertex_count];
         for (channel, list) in lists.iter().enumerate() {
             for (position, &vertex) in list.iter().enumerate() {
@@ -46,13 +43,15 @@ impl Channels {
     }
 }
 
-/// Plans channels (3.3): every vertex asks for a successor, in ascending order.
-pub fn plan(reach: &Reachability) -> Vec<Vec<usize>> {
+/// Plans channels (3.3) of the vertices in `left`, which ascend: each asks for a successor, in
+/// ascending order. The others neither ask nor are asked for, but routes go through them.
+pub fn plan(reach: &Reachability, left: &[usize]) -> Vec<Vec<usize>> {
     let mut planner = Planner {
         reach,
+        left,
         predecessors: vec![None; reach.vertex_count()],
     };
-    for vertex in 0..reach.vertex_count() {
+    for &vertex in left {
         planner.ask(vertex, &mut vec![false; reach.vertex_count()]);
     }
     planner.channels()
@@ -61,6 +60,7 @@ pub fn plan(reach: &Reachability) -> Vec<Vec<usize>> {
 /// The state between two asks (3.3).
 struct Planner<'a> {
     reach: &'a Reachability,
+    left: &'a [usize],
     predecessors: Vec<Option<usize>>,
 }
 
@@ -70,9 +70,8 @@ impl Planner<'_> {
     /// A vertex with a predecessor is free if that one can be given another successor. Each call
     /// visits at least one more vertex before the next, so the search ends.
     fn ask(&mut self, asker: usize, visited: &mut [bool]) -> bool {
-        let reach = self.reach;
-        for vertex in reach.descendants(asker) {
-            if visited[vertex] {
+        for &vertex in self.left {
+            if !self.reach.reaches(asker, vertex) || visited[vertex] {
                 continue;
             }
             visited[vertex] = true;
@@ -96,9 +95,10 @@ impl Planner<'_> {
                 successors[*holder] = Some(vertex);
             }
         }
-        (0..self.predecessors.len())
-            .filter(|&vertex| self.predecessors[vertex].is_none())
-            .map(|first| std::iter::successors(Some(first), |&last| successors[last]).collect())
-            .collect()
+        let mut firsts = self.left.to_vec();
+        firsts.retain(|&vertex| self.predecessors[vertex].is_none());
+        let channel = |first| std::iter::successors(Some(first), |&last| successors[last]);
+        let channels = firsts.into_iter().map(channel);
+        channels.map(Iterator::collect).collect()
     }
 }

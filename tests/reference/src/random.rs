@@ -102,7 +102,8 @@ pub fn record(generator: &mut Generator) -> Vec<u8> {
     }
 }
 
-/// A random record that passes all checks, a third of them with given channels.
+/// A random record that passes all checks, a third of them with given channels, of all vertices or
+/// of some.
 pub fn sound_record(generator: &mut Generator) -> Record {
     let weighted = [
         Shape::Empty,
@@ -125,8 +126,10 @@ pub fn sound_record(generator: &mut Generator) -> Record {
     };
     let size = size(generator);
     let mut record = graph(generator, shape, size);
-    if generator.percent(33) {
-        give_channels(&mut record, generator);
+    match generator.below(6) {
+        0 => give_channels(&mut record, generator),
+        1 => give_some_channels(&mut record, generator),
+        _ => {}
     }
     record
 }
@@ -196,8 +199,31 @@ fn rising_pairs(generator: &mut Generator, shape: Shape, size: usize) -> Vec<(us
     pairs
 }
 
-/// Gives the record channels that follow its reachability, in any order.
+/// Gives the record channels of all its vertices that follow its reachability, in any order.
 pub fn give_channels(record: &mut Record, generator: &mut Generator) {
+    record.channels = Some(covering_channels(record, generator));
+}
+
+/// Gives it such channels of some vertices: up to three whole ones, what stays of all where
+/// vertices are taken out, or an empty field.
+pub fn give_some_channels(record: &mut Record, generator: &mut Generator) {
+    let mut channels = covering_channels(record, generator);
+    match generator.below(8) {
+        0 => channels.clear(),
+        1..=3 => channels.truncate(generator.between(1, 3)),
+        _ => {
+            let share = generator.between(10, 90);
+            for channel in &mut channels {
+                channel.retain(|_| generator.percent(share));
+            }
+            channels.retain(|channel| !channel.is_empty());
+        }
+    }
+    record.channels = Some(channels);
+}
+
+/// Channels that hold every vertex.
+fn covering_channels(record: &Record, generator: &mut Generator) -> Vec<Vec<usize>> {
     let reach = Reachability::of(record.vertex_count, &record.edges);
     let rows = rows::compacted(record.vertex_count, &record.edges);
     let alone = generator.below(60);
@@ -219,7 +245,7 @@ pub fn give_channels(record: &mut Record, generator: &mut Generator) {
         }
     }
     generator.shuffle(&mut channels);
-    record.channels = Some(channels);
+    channels
 }
 
 /// A number of vertices for a session, now and then a wrong one, and calls on it.

@@ -42,7 +42,7 @@ pub struct Record {
     pub vertex_count: usize,
     /// The edges in their order; the place in this list is the edge's number.
     pub edges: Vec<Edge>,
-    /// The given channels, where the record has that field.
+    /// The given channels, where the record has that field; an empty one gives none.
     pub channels: Option<Vec<Vec<usize>>>,
 }
 
@@ -62,6 +62,27 @@ impl Record {
         let record = Record::parse(bytes)?;
         record.check()?;
         Ok(record)
+    }
+
+    /// The given channels, of all vertices, of some or of none.
+    pub fn given(&self) -> &[Vec<usize>] {
+        self.channels.as_deref().unwrap_or_default()
+    }
+
+    /// The same graph with these given channels.
+    pub fn with_given(&self, channels: Vec<Vec<usize>>) -> Record {
+        Record {
+            channels: Some(channels),
+            ..self.clone()
+        }
+    }
+
+    /// The vertices that no given channel holds, ascending.
+    pub fn left(&self) -> Vec<usize> {
+        let held = |vertex: &usize| self.given().iter().flatten().any(|other| other == vertex);
+        (0..self.vertex_count)
+            .filter(|vertex| !held(vertex))
+            .collect()
     }
 
     /// The bytes that say this record.

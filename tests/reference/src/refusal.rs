@@ -15,7 +15,7 @@ pub enum Refusal {
     DuplicateEdge,
     /// 5, "ring": a vertex reaches itself.
     Cycle,
-    /// 6, "cover": the given channels lack or repeat a vertex.
+    /// 6, "cover": the given channels repeat a vertex.
     Cover,
     /// 7, "broken": a vertex of a given channel is not reached by the one before.
     Broken,

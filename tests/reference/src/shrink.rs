@@ -52,6 +52,7 @@ fn shrink_record(smallest: &mut Vec<u8>, holds: &mut impl FnMut(&[u8]) -> bool) 
     }
     shrink_edges(&mut record, &mut accept);
     shrink_channels(&mut record, &mut accept);
+    join_channels(&mut record, &mut accept);
 }
 
 /// Leaves out edges.
@@ -80,6 +81,20 @@ fn shrink_channels(record: &mut Record, accept: &mut impl FnMut(&Record) -> bool
             candidate.channels = Some(fewer.clone());
             accept(&candidate)
         });
+    }
+}
+
+/// Joins channels that stand next to each other, which saves a length byte.
+fn join_channels(record: &mut Record, accept: &mut impl FnMut(&Record) -> bool) {
+    for number in (1..record.given().len()).rev() {
+        let mut channels = record.given().to_vec();
+        let later = channels.remove(number);
+        channels[number - 1].extend(later);
+        let has_length_byte = channels[number - 1].len() <= usize::from(u8::MAX);
+        let joined = record.with_given(channels);
+        if has_length_byte && accept(&joined) {
+            *record = joined;
+        }
     }
 }
 

@@ -14,19 +14,22 @@ pub struct Vector {
     pub listing: String,
 }
 
-/// Reads a file of vectors. A block of comments alone is passed over.
+/// Reads a file of vectors. A comment with no record below it is passed over.
 pub fn parse(text: &str) -> Result<Vec<Vector>, String> {
-    text.split("\n\n")
-        .map(|block| block.trim_matches('\n'))
-        .filter(|block| block.lines().any(|line| !line.starts_with('#')))
-        .map(parse_block)
-        .collect()
+    let text = format!("\n{text}");
+    let (before, blocks) = text.split_once("\n# ").unwrap_or((&text, ""));
+    if !before.trim().is_empty() {
+        return Err(format!("no name: {before}"));
+    }
+    let blocks = blocks.split("\n# ");
+    let vectors = blocks.filter(|block| block.trim_end().contains('\n'));
+    vectors.map(parse_block).collect()
 }
 
+/// Name, record and listing, one below the other; the record's line may be empty.
 fn parse_block(block: &str) -> Result<Vector, String> {
-    let mut lines = block.lines();
-    let name = lines.next().and_then(|line| line.strip_prefix("# "));
-    let name = name.ok_or_else(|| format!("no name: {block}"))?;
+    let mut lines = block.trim_end().lines();
+    let name = lines.next().unwrap_or_default();
     let bytes = lines.next().and_then(from_hex);
     let bytes = bytes.ok_or_else(|| format!("no record: {name}"))?;
     let listing: String = lines.flat_map(|line| [line, "\n"]).collect();

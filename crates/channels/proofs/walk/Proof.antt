@@ -3,7 +3,7 @@ use Rattle.counting.proofs.Prelude.{refl, _∙_, _-_, _≤_, arith, length, nee
 use Rattle.specification.specs.Sets.{has?}
 use Rattle.planning.specs.Arranged.{Kept}
 use Rattle.planning.proofs.Laying.{kept-same, kept-on}
-use Rattle.channels.proofs.Walking.{Walking, walking-none, walking-length, walked-unknown, walking-more, walked-all}
+use Rattle.channels.proofs.Walking.{Walking, walking-none, walking-length, walked-unknown, walking-more}
 use Rattle.channels.proofs.Tabling.{Tabling, tabling-none, tabling-length, tabling-more, walks-refused, walks-all}
 use Rattle.channels.proofs.walk.Statement.{statement}
 use Rattle.channels.proofs.walk.Tie as tie
@@ -83,16 +83,14 @@ loop-again-2 c =
     )
 
 same-length-2 : tie.Need-same-length-2 Inv-loop μ-loop
-same-length-2 c = c .before .before .loop .inv .3 .long
+same-length-2 c = c .before .loop .inv .3 .long
 
 returns-2 : tie.Need-returns-2 Inv-loop μ-loop
 returns-2 c =
-    let test = c .before in let o = test .before in let st = start-of (o .before) in
+    let o = c .before in let st = start-of (o .before) in
     let l = o .loop in
-    let done = test .loop-test .left in
-    walks-all _ _ _ _ _ (l .inv .3) _ (st .pre .1) (l .i) (l .left) (l .p) (l .vertices) (l .fault) (c .settle .ensures)
-    (walked-all _ _ _ (st .pre .0) (st .pre .1) (l .i) (l .left) (l .last) (l .seen) (l .vertices) (l .fault) (l .inv .1) done)
-    done (l .inv .2)
+    walks-all _ _ _ _ _ (l .inv .3) _ (st .pre .0) (st .pre .1) (l .i) (l .left) (l .p) (l .last) (c .loop-test .left) (l .inv .1)
+    (l .inv .2)
 
 pub walk-spec : {M : Type 1} → statement M
 walk-spec =
@@ -116,6 +114,5 @@ walk-spec =
     loop-again
     (λ c. search needs)
     loop-again-2
-    (λ c κs. search needs)
     same-length-2
     returns-2)

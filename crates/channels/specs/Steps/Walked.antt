@@ -5,7 +5,10 @@ use mathlib.Core.List.{List}
 use Prim.Native.Nat.{ℕ, _≤_}
 use lib.Dec.{eqb}
 use Rattle.specification.specs.Count.{choose}
-use Rattle.specification.specs.Channels.{linesOf}
+use Rattle.specification.specs.Channels.{linesOf, verticesOf}
+use Rattle.specification.specs.Given.{heldIn}
+use Rattle.specification.specs.Sets.{member?}
+use lib.ListN.{length}
 use Rattle.planning.specs.Arranged.{Arranged, Kept}
 use Rattle.channels.specs.Promise.{givenRefusal}
 use Rattle.channels.specs.declared.Walked.{Walked}
@@ -14,13 +17,11 @@ use Rattle.channels.specs.declared.Walked.{Walked}
 unfoldable pub weighed : Bool → Bool → ℕ → ℕ
 weighed again follows fault = choose again (λ _. 6) (λ _. choose (eqb fault 0) (λ _. choose follows (λ _. 0) (λ _. 7)) (λ _. fault))
 
--- .. and at the end, by the number of vertices
-unfoldable pub settled : ℕ → ℕ → ℕ → ℕ
-settled fault vertices n = choose (eqb fault 6) (λ _. 6) (λ _. choose (eqb vertices n) (λ _. fault) (λ _. 6))
-
--- the first check that fails, and the channels, at most n, where none does
+-- the first check that fails; where none does the channels, no more than their vertices, and the set of these
 pub record Walks (leads : ℕ → ℕ → Bool) (n : ℕ) (field p : List ℕ) (r : Walked) (p′ : List ℕ) : Type 0 where
   pub answer : r .refusal ≡ givenRefusal leads n field
   pub laid : r .refusal ≡ 0 → Arranged n (linesOf field) (r .count) p′
-  pub few : r .refusal ≡ 0 → r .count ≤ n
+  pub few : r .refusal ≡ 0 → r .count ≤ r .vertices
+  pub total : r .refusal ≡ 0 → r .vertices ≡ length (verticesOf field)
+  pub held : r .refusal ≡ 0 → (v : ℕ) → member? (r .seen) 0 v ≡ heldIn (linesOf field) v
   pub kept : Kept n p p′

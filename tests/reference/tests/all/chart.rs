@@ -121,7 +121,10 @@ fn short_is_said_after_every_other_refusal() {
             Refusal::DuplicateEdge,
         ),
         (graph(2, &[(0, 1), (1, 0)]).to_bytes(), Refusal::Cycle),
-        (with_channels(2, &[], &[&[0]]).to_bytes(), Refusal::Cover),
+        (
+            with_channels(2, &[], &[&[0], &[0]]).to_bytes(),
+            Refusal::Cover,
+        ),
         (
             with_channels(2, &[], &[&[0, 1]]).to_bytes(),
             Refusal::Broken,
@@ -211,7 +214,7 @@ fn an_unchecked_record_is_not_drawn() {
     assert_eq!(refused(&graph(0, &[])), Some(2));
     assert_eq!(refused(&graph(1, &[(0, 7)])), Some(3));
     assert_eq!(refused(&graph(2, &[(0, 1), (1, 0)])), Some(5));
-    assert_eq!(refused(&with_channels(1, &[], &[])), Some(6));
+    assert_eq!(refused(&with_channels(1, &[], &[&[0, 0]])), Some(6));
 }
 
 #[test]

@@ -22,7 +22,7 @@ fn refusals(fault: impl Fn(&mut Generator) -> Vec<u8>) -> Vec<u8> {
 
 #[test]
 fn faults_in_what_a_record_says_have_their_refusals() {
-    // In the order of the list: sizes, ends, doubles, rings, edges, channels.
+    // In the order of the list: sizes, ends, doubles, rings, edges, channels (repeats first).
     let expected: [&[u8]; 15] = [
         &[2],
         &[2],
@@ -34,9 +34,9 @@ fn faults_in_what_a_record_says_have_their_refusals() {
         &[2],
         &[6],
         &[6],
-        &[7],
-        &[7],
         &[6],
+        &[7],
+        &[7],
         &[3],
         &[1],
     ];

@@ -44,8 +44,11 @@ fn an_empty_tag_2_field_is_accepted_and_a_missing_one_is_not() {
 }
 
 #[test]
-fn an_empty_tag_3_field_gives_6() {
-    assert_eq!(refusal(&fields(&[ONE, NO_ARROWS, (3, &[])])), 6);
+fn an_empty_tag_3_field_counts_as_none() {
+    assert_eq!(refusal(&fields(&[ONE, NO_ARROWS, (3, &[])])), 0);
+    let rising = rising(6, 9);
+    let empty = draw(&with_channels(6, &rising, &[]));
+    assert_eq!(empty, draw(&graph(6, &rising)));
 }
 
 #[test]
@@ -172,45 +175,58 @@ fn rings_of_every_length_give_5() {
 }
 
 #[test]
-fn lines_that_lack_or_repeat_a_word_give_6() {
-    let path = [(0, 1), (1, 2)];
+fn lines_that_repeat_a_word_give_6() {
     let lines: [&[&[usize]]; 5] = [
-        &[&[0, 1]],
         &[&[0, 1, 2], &[2]],
         &[&[0, 1], &[1]],
         &[&[0, 1, 2, 2]],
         &[&[0, 2], &[0]],
+        &[&[1], &[1]],
     ];
     for lines in lines {
-        assert_eq!(refusal(&with_channels(3, &path, lines).to_bytes()), 6);
+        assert_eq!(refusal_with(lines), 6, "{lines:?}");
     }
-    assert_eq!(
-        refusal(&with_channels(3, &path, &[&[0, 1, 2]]).to_bytes()),
-        0
-    );
 }
 
 #[test]
-fn a_repeat_and_a_break_give_6() {
-    let record = with_channels(2, &[(0, 1)], &[&[1, 0, 1]]);
-    assert_eq!(refusal(&record.to_bytes()), 6);
+fn lines_may_lack_words() {
+    let lines: [&[&[usize]]; 6] = [
+        &[],
+        &[&[2]],
+        &[&[0, 1]],
+        &[&[0, 2]],
+        &[&[2], &[0]],
+        &[&[0, 1, 2]],
+    ];
+    for lines in lines {
+        assert_eq!(refusal_with(lines), 0, "{lines:?}");
+    }
+}
+
+#[test]
+fn a_repeat_anywhere_gives_6_before_a_break_anywhere() {
+    let lines: [&[&[usize]]; 4] = [
+        &[&[1, 0, 1]],
+        &[&[1, 0], &[2], &[2]],
+        &[&[2], &[2], &[1, 0]],
+        &[&[2, 1], &[0, 1]],
+    ];
+    for lines in lines {
+        assert_eq!(refusal_with(lines), 6, "{lines:?}");
+    }
+    assert_eq!(refusal_with(&[&[1, 0], &[2]]), 7);
+}
+
+/// The refusal of the path 0 1 2 with these house lines.
+fn refusal_with(lines: &[&[usize]]) -> u8 {
+    refusal(&with_channels(3, &[(0, 1), (1, 2)], lines).to_bytes())
 }
 
 #[test]
 fn a_line_may_leap_but_not_fall() {
-    let path = [(0, 1), (1, 2)];
-    assert_eq!(
-        refusal(&with_channels(3, &path, &[&[0, 2], &[1]]).to_bytes()),
-        0
-    );
-    assert_eq!(
-        refusal(&with_channels(3, &path, &[&[2, 0], &[1]]).to_bytes()),
-        7
-    );
-    assert_eq!(
-        refusal(&with_channels(3, &path, &[&[0], &[2, 1]]).to_bytes()),
-        7
-    );
+    assert_eq!(refusal_with(&[&[0, 2], &[1]]), 0);
+    assert_eq!(refusal_with(&[&[2, 0], &[1]]), 7);
+    assert_eq!(refusal_with(&[&[0], &[2, 1]]), 7);
     assert_eq!(
         refusal(&with_channels(3, &[(0, 1)], &[&[0, 1, 2]]).to_bytes()),
         7
@@ -222,6 +238,13 @@ fn house_lines_are_used_in_their_order() {
     let lines: [&[usize]; 3] = [&[3], &[1, 2], &[0]];
     let chart = draw(&with_channels(4, &[(0, 1), (1, 2), (2, 3)], &lines));
     assert_eq!(channels(&chart), lines);
+}
+
+#[test]
+fn planned_lines_follow_the_house_lines() {
+    let path = [(0, 1), (1, 2), (2, 3), (3, 4)];
+    let chart = draw(&with_channels(6, &path, &[&[3], &[1, 4]]));
+    assert_eq!(channels(&chart), [vec![3], vec![1, 4], vec![0, 2], vec![5]]);
 }
 
 #[test]
@@ -241,7 +264,7 @@ fn with_faults(has: impl Fn(u8) -> bool) -> Vec<u8> {
         lines[0].reverse();
     }
     if has(6) {
-        lines[1].pop();
+        lines.push(vec![3]);
     }
     let faulty_arrows = [(5, (3, 2)), (4, (0, 1)), (3, (0, 200))];
     for (number, ends) in faulty_arrows {

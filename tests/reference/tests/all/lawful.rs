@@ -4,8 +4,8 @@ use crate::support::{draw, graph, with_channels};
 use reference::bundles::Bundle;
 use reference::chart::Chart;
 use reference::lawful::{
-    acyclic_graphs, choices, descent, lawful_parts, least_links, least_parts, least_rows,
-    least_tracks, LawfulChart, PartBundle, Relation,
+    acyclic_graphs, choices, descent, least_links, least_parts, least_rows, least_tracks,
+    sound_channels, LawfulChart, PartBundle, Relation,
 };
 use reference::record::Record;
 use reference::tracks;
@@ -17,6 +17,7 @@ const SIZES: std::ops::RangeInclusive<usize> = 1..=4;
 fn assert_lawful(record: &Record, chart: &Chart) -> LawfulChart {
     let ours = LawfulChart::of(record, chart);
     assert!(ours.is_lawful(record), "{record:?}");
+    assert!(ours.has_given_whole(record), "{record:?}");
     let counts = &chart.counts;
     assert_eq!(ours.row_count(), counts.rows, "{record:?}");
     assert_eq!(ours.part_count(), counts.channels, "{record:?}");
@@ -28,10 +29,12 @@ fn assert_lawful(record: &Record, chart: &Chart) -> LawfulChart {
     ours
 }
 
-/// No lawful chart has fewer rows, fewer links or, with the same bundles, fewer tracks.
+/// No lawful chart has fewer rows, fewer links or, with the same bundles, fewer tracks; and none
+/// that has the given channels whole has fewer parts.
 fn assert_least(record: &Record, chart: &Chart, links: &BTreeMap<Relation, usize>) {
     let ours = assert_lawful(record, chart);
     assert_eq!(Some(ours.row_count()), least_rows(record), "{record:?}");
+    assert_eq!(Some(ours.part_count()), least_parts(record), "{record:?}");
     let least = links.get(&descent(record)).copied();
     assert_eq!(Some(ours.links.len()), least, "{record:?}");
     for part in 0..chart.counts.channels {
@@ -51,10 +54,7 @@ fn no_lawful_chart_is_smaller() {
     for size in SIZES {
         let links = least_links(size);
         for record in acyclic_graphs(size) {
-            let chart = draw(&record);
-            assert_least(&record, &chart, &links);
-            let least = least_parts(&record);
-            assert_eq!(Some(chart.counts.channels), least, "{record:?}");
+            assert_least(&record, &draw(&record), &links);
         }
     }
 }
@@ -65,8 +65,8 @@ fn nor_with_given_channels() {
     for size in SIZES {
         let links = least_links(size);
         for record in acyclic_graphs(size) {
-            for parts in lawful_parts(&record) {
-                let given = as_channels(&record, &parts);
+            for channels in sound_channels(&record) {
+                let given = record.with_given(channels);
                 assert_least(&given, &draw(&given), &links);
                 tried += 1;
             }
@@ -75,20 +75,26 @@ fn nor_with_given_channels() {
     assert!(tried > 10_000, "{tried}");
 }
 
-/// The parts as channels, each in the order of descent, without the empty ones.
-fn as_channels(record: &Record, parts: &[usize]) -> Record {
-    let descent = descent(record);
-    let descendants = |u: usize| (0..parts.len()).filter(|&v| descent.has(u, v)).count();
-    let channel = |part: usize| {
-        let mut vertices: Vec<usize> = (0..parts.len()).filter(|&v| parts[v] == part).collect();
-        vertices.sort_by_key(|&vertex| std::cmp::Reverse(descendants(vertex)));
-        vertices
-    };
-    let channels = (0..parts.len()).map(channel);
-    Record {
-        channels: Some(channels.filter(|channel| !channel.is_empty()).collect()),
-        ..record.clone()
-    }
+#[test]
+fn all_sound_channels_are_tried() {
+    // Of two vertices with an edge: none, either alone, both alone in either order, the chain.
+    let one_edge = sound_channels(&graph(2, &[(1, 0)])).collect::<Vec<_>>();
+    let expected: [&[&[usize]]; 6] = [
+        &[],
+        &[&[1]],
+        &[&[0]],
+        &[&[1, 0]],
+        &[&[0], &[1]],
+        &[&[1], &[0]],
+    ];
+    assert_eq!(one_edge.len(), expected.len());
+    assert!(expected
+        .iter()
+        .all(|lists| one_edge.iter().any(|other| other == lists)));
+    // The lists of different vertices, and the ordered divisions of all sets of vertices.
+    assert_eq!(sound_channels(&graph(4, &[])).count(), 65);
+    let chain = graph(4, &[(0, 1), (1, 2), (2, 3)]);
+    assert_eq!(sound_channels(&chain).count(), 150);
 }
 
 #[test]
@@ -184,9 +190,25 @@ fn larger_lawful_charts_are_lawful_and_larger() {
 
 #[test]
 fn an_editor_s_lines_may_be_more_than_the_fewest() {
-    let record = with_channels(2, &[(0, 1)], &[&[0], &[1]]);
+    let record = with_channels(2, &[(0, 1)], &[&[0]]);
     assert_eq!(draw(&record).counts.channels, 2);
-    assert_eq!(least_parts(&record), Some(1));
+    assert_eq!(least_parts(&record), Some(2));
+    assert_eq!(least_parts(&graph(2, &[(0, 1)])), Some(1));
+}
+
+#[test]
+fn a_part_is_whole_with_all_vertices_of_its_channel_and_no_other() {
+    let record = with_channels(3, &[(0, 1), (1, 2)], &[&[0, 1]]);
+    let ours = LawfulChart::of(&record, &draw(&record));
+    let parts = |parts: [usize; 3]| LawfulChart {
+        parts: parts.to_vec(),
+        ..ours.clone()
+    };
+    assert!(parts([7, 7, 2]).has_given_whole(&record));
+    for wrong in [[0, 0, 0], [0, 1, 1], [0, 1, 2]] {
+        let chart = parts(wrong);
+        assert!(chart.is_lawful(&record) && !chart.has_given_whole(&record));
+    }
 }
 
 #[test]

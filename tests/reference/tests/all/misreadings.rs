@@ -61,6 +61,41 @@ fn a_holder_is_moved_over_several_others() {
 }
 
 #[test]
+fn planned_lines_lead_through_house_lines() {
+    let chart = draw(&with_channels(3, &[(0, 1), (1, 2)], &[&[1]]));
+    assert_eq!(channels(&chart), [vec![1], vec![0, 2]]);
+}
+
+#[test]
+fn words_of_house_lines_are_not_taken_and_do_not_ask() {
+    // Word 0 would take 1, and 1 would take 2.
+    let chart = draw(&with_channels(4, &[(0, 1), (1, 2), (2, 3)], &[&[1], &[2]]));
+    assert_eq!(channels(&chart), [vec![1], vec![2], vec![0, 3]]);
+}
+
+#[test]
+fn house_lines_are_not_drawn_out() {
+    // Alone they would be one line; words before, between and after stay out of the house line.
+    let path = [(0, 1), (1, 2), (2, 3), (3, 4)];
+    let chart = draw(&with_channels(5, &path, &[&[1, 3]]));
+    assert_eq!(channels(&chart), [vec![1, 3], vec![0, 2, 4]]);
+}
+
+#[test]
+fn a_holder_is_moved_beside_house_lines() {
+    // Word 0 holds 3 and word 1 asks for it, so 0 goes on to 5, past word 4 of the house line.
+    let edges = [(0, 3), (0, 4), (0, 5), (1, 3)];
+    let chart = draw(&with_channels(6, &edges, &[&[4]]));
+    assert_eq!(channels(&chart), [vec![4], vec![0, 5], vec![1, 3], vec![2]]);
+}
+
+#[test]
+fn planned_lines_are_numbered_by_first_word_after_all_house_lines() {
+    let chart = draw(&with_channels(5, &[(4, 0), (3, 1)], &[&[2]]));
+    assert_eq!(channels(&chart), [vec![2], vec![3, 1], vec![4, 0]]);
+}
+
+#[test]
 fn lines_are_numbered_by_first_word() {
     let chart = draw(&graph(4, &[(3, 0), (2, 1)]));
     assert_eq!(channels(&chart), [[2, 1], [3, 0]]);

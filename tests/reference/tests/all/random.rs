@@ -1,9 +1,11 @@
 //! The generator: the same for the same seed, and wide enough.
 
 use reference::chart::Chart;
+use reference::descent::Reachability;
 use reference::kinds::Kind;
 use reference::random::{graph, record, sound_record, Generator, Shape, SHAPES};
 use reference::record::{Record, MAX_BYTES, MAX_EDGES, MAX_VERTICES};
+use reference::refusal::Refusal;
 use std::collections::{BTreeMap, BTreeSet};
 
 fn records(seed: u64, count: usize) -> Vec<Vec<u8>> {
@@ -45,6 +47,74 @@ fn sound_records_pass_all_checks() {
         given += usize::from(record.channels.is_some());
     }
     assert!((500..900).contains(&given), "{given}");
+}
+
+/// How the given channels of a record stand to its vertices.
+#[derive(Clone, Copy, Debug, PartialEq, Eq, PartialOrd, Ord)]
+enum Given {
+    NoField,
+    EmptyField,
+    OneOfSome,
+    SeveralOfSome,
+    All,
+}
+
+fn given(record: &Record) -> Given {
+    match (&record.channels, record.left().len()) {
+        (None, _) => Given::NoField,
+        (Some(channels), _) if channels.is_empty() => Given::EmptyField,
+        (_, 0) => Given::All,
+        (Some(channels), _) if channels.len() == 1 => Given::OneOfSome,
+        _ => Given::SeveralOfSome,
+    }
+}
+
+#[test]
+fn channels_of_every_kind_are_given() {
+    let mut generator = Generator::new(14);
+    let mut met: BTreeMap<Given, usize> = BTreeMap::new();
+    for _ in 0..3000 {
+        *met.entry(given(&sound_record(&mut generator))).or_default() += 1;
+    }
+    assert_eq!(met.len(), 5, "{met:?}");
+    assert!(met.values().all(|&count| count > 60), "{met:?}");
+}
+
+#[test]
+fn repeats_and_breaks_of_every_kind_are_met() {
+    // Repeated in one channel, in two; broken; both at once; beside vertices that none holds.
+    let mut met = [0; 5];
+    for bytes in records(15, 6000) {
+        let Err(refusal @ (Refusal::Cover | Refusal::Broken)) = Record::read(&bytes) else {
+            continue;
+        };
+        let record = Record::parse(&bytes).expect("laid out");
+        let distinct = |list: &Vec<usize>| list.iter().collect::<BTreeSet<_>>().len();
+        let repeated = refusal == Refusal::Cover;
+        let within = record
+            .given()
+            .iter()
+            .any(|list| distinct(list) < list.len());
+        let broken = broken(&record);
+        let cases = [
+            within,
+            repeated && !within,
+            broken && !repeated,
+            broken && repeated,
+            !record.left().is_empty(),
+        ];
+        for (count, case) in met.iter_mut().zip(cases) {
+            *count += usize::from(case);
+        }
+    }
+    assert!(met.iter().all(|&count| count > 40), "{met:?}");
+}
+
+/// Whether a given channel goes on to a vertex that it does not reach.
+fn broken(record: &Record) -> bool {
+    let reach = Reachability::of(record.vertex_count, &record.edges);
+    let falls = |pair: &[usize]| !reach.reaches(pair[0], pair[1]);
+    record.given().iter().any(|list| list.windows(2).any(falls))
 }
 
 #[test]

@@ -71,28 +71,44 @@ fn lines_hold_each_word_once_and_follow_descent() {
         assert!(held.into_iter().eq(0..record.vertex_count));
         let follows = |pair: &[usize]| reach.reaches(pair[0], pair[1]);
         assert!(lines.iter().all(|line| line.windows(2).all(follows)));
-        match &record.channels {
-            Some(given) => assert_eq!(*given, lines),
-            None => assert!(lines.windows(2).all(|pair| pair[0][0] < pair[1][0])),
-        }
+        let (given, planned) = lines.split_at(record.given().len());
+        assert_eq!(given, record.given());
+        assert!(planned.windows(2).all(|pair| pair[0][0] < pair[1][0]));
     }
 }
 
 #[test]
-fn planned_lines_are_as_many_as_the_most_unrelated_words() {
+fn planned_lines_are_as_many_as_the_most_unrelated_words_left() {
     for (record, chart) in small(14, 1000, 11) {
-        if record.channels.is_none() {
-            assert_eq!(chart.counts.channels, most_unrelated(&record), "{record:?}");
-        }
+        let planned = chart.counts.channels - record.given().len();
+        assert_eq!(planned, most_unrelated(&record), "{record:?}");
     }
 }
 
-/// The size of the largest set of vertices of which none reaches another.
+/// The size of the largest set of vertices, in no given channel, of which none reaches another.
 fn most_unrelated(record: &Record) -> usize {
-    let descent = descent(record);
-    let unrelated = |set: &Vec<usize>| !descent.pairs().any(|(u, v)| set[u] + set[v] == 2);
-    let sets = choices(record.vertex_count, 2).filter(unrelated);
+    let (descent, left) = (descent(record), record.left());
+    let related = |set: &[usize], u: usize| {
+        (0..left.len()).any(|v| set[v] == 1 && descent.has(left[u], left[v]))
+    };
+    let unrelated = |set: &Vec<usize>| !(0..left.len()).any(|u| set[u] == 1 && related(set, u));
+    let sets = choices(left.len(), 2).filter(unrelated);
     sets.map(|set| set.iter().sum()).max().unwrap_or(0)
+}
+
+#[test]
+fn an_empty_field_of_house_lines_changes_nothing() {
+    for (record, chart) in sample(28, 300) {
+        if record.given().is_empty() {
+            let empty = Some(Vec::new());
+            let channels = if record.channels.is_none() {
+                empty
+            } else {
+                None
+            };
+            assert_eq!(draw(&Record { channels, ..record }), chart);
+        }
+    }
 }
 
 #[test]

@@ -1,6 +1,6 @@
 //! The shrinker ends at small records, and what held still holds.
 
-use crate::support::{graph, refusal, rising};
+use crate::support::{graph, refusal, rising, with_channels};
 use reference::chart::Chart;
 use reference::hex::from_hex;
 use reference::kinds::Kind;
@@ -15,7 +15,7 @@ fn smaller(one: &[u8], other: &[u8]) -> bool {
 #[test]
 fn each_refusal_ends_at_a_least_record() {
     // For 3, of an unknown vertex in an edge or in a channel.
-    let lengths: [&[usize]; 8] = [&[7], &[0], &[7], &[9, 12], &[11], &[9], &[10], &[13]];
+    let lengths: [&[usize]; 8] = [&[7], &[0], &[7], &[9, 12], &[11], &[9], &[13], &[13]];
     let mut generator = Generator::new(31);
     let mut met = [0; 8];
     for _ in 0..400 {
@@ -35,6 +35,14 @@ fn a_ring_ends_at_one_word() {
     let ring: Vec<_> = (0..9).map(|u| (u, (u + 1) % 9)).collect();
     let found = shrink(&graph(9, &ring).to_bytes(), |bytes| refusal(bytes) == 5);
     assert_eq!(Some(found), from_hex("010001 01 020002 0000"));
+}
+
+#[test]
+fn a_word_in_two_house_lines_ends_at_one_word_twice_in_one() {
+    let lines: [&[usize]; 3] = [&[0, 3], &[4], &[1, 4, 5]];
+    let record = with_channels(6, &rising(6, 15), &lines);
+    let found = shrink(&record.to_bytes(), |bytes| refusal(bytes) == 6);
+    assert_eq!(Some(found), from_hex("010001 01 020000 030003 02 00 00"));
 }
 
 #[test]

@@ -19,10 +19,8 @@ pub fn with_channels(
     edges: &[(usize, usize)],
     channels: &[&[usize]],
 ) -> Record {
-    Record {
-        channels: Some(channels.iter().map(|channel| channel.to_vec()).collect()),
-        ..graph(vertex_count, edges)
-    }
+    let channels = channels.iter().map(|channel| channel.to_vec());
+    graph(vertex_count, edges).with_given(channels.collect())
 }
 
 /// The chart of a record that must be accepted.

@@ -1,4 +1,4 @@
-//! The 67 records whose listings are given, byte for byte.
+//! The 101 records whose listings are given, byte for byte.
 
 use reference::listing::listing;
 use reference::record::Record;
@@ -6,36 +6,42 @@ use reference::vectors::{block, parse, Vector};
 use std::collections::BTreeSet;
 
 const BASE: &str = include_str!("../../vectors/base.txt");
+const HOUSE_LINES: &str = include_str!("../../vectors/a.txt");
 
-fn base() -> Vec<Vector> {
-    parse(BASE).expect("a file of vectors")
+fn vectors(text: &str) -> Vec<Vector> {
+    parse(text).expect("a file of vectors")
+}
+
+fn all() -> Vec<Vector> {
+    [vectors(BASE), vectors(HOUSE_LINES)].concat()
 }
 
 #[test]
-fn all_67_are_there() {
-    let names: BTreeSet<String> = base().into_iter().map(|vector| vector.name).collect();
-    assert_eq!((base().len(), names.len()), (67, 67));
+fn all_are_there() {
+    let counts = [BASE, HOUSE_LINES].map(|text| vectors(text).len());
+    assert_eq!(counts, [67, 34]);
+    let names: BTreeSet<String> = all().into_iter().map(|vector| vector.name).collect();
+    assert_eq!(names.len(), 101);
 }
 
 #[test]
-fn all_67_listings_agree() {
-    for vector in base() {
+fn all_listings_agree() {
+    for vector in all() {
         assert_eq!(listing(&vector.bytes), vector.listing, "{}", vector.name);
     }
 }
 
 #[test]
 fn a_changed_listing_is_noticed() {
-    let first = &base()[0];
-    let changed = BASE.replacen("w 4 0 2 1 3", "w 4 0 2 1 2", 1);
-    let changed = parse(&changed).expect("a file of vectors");
+    let first = &vectors(BASE)[0];
+    let changed = vectors(&BASE.replacen("w 4 0 2 1 3", "w 4 0 2 1 2", 1));
     assert_eq!(changed[0].bytes, first.bytes);
     assert_ne!(changed[0].listing, listing(&first.bytes));
 }
 
 #[test]
 fn laid_out_records_are_written_as_they_were() {
-    for vector in base() {
+    for vector in all() {
         let written = Record::parse(&vector.bytes).map(|record| record.to_bytes());
         let laid_out = vector.listing != "refused 1\n";
         assert_eq!(written.is_ok(), laid_out, "{}", vector.name);
@@ -45,10 +51,12 @@ fn laid_out_records_are_written_as_they_were() {
 
 #[test]
 fn a_written_block_is_read_again() {
-    for vector in base() {
+    for vector in all() {
         let text = block(&vector.name, &vector.bytes) + "\n";
         assert_eq!(parse(&text), Ok(vec![vector]));
     }
+    let nothing = parse(&format!("# a comment\n\n{}", block("nothing", &[])));
+    assert!(nothing.is_ok_and(|vectors| vectors.len() == 1 && vectors[0].bytes.is_empty()));
 }
 
 #[test]

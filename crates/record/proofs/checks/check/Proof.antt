@@ -1,5 +1,5 @@
-use Rattle.counting.proofs.Prelude.{true, false, needs}
-use Rattle.record.proofs.Checking.{edges-fail, settles}
+use Rattle.counting.proofs.Prelude.{needs}
+use Rattle.record.proofs.Checking.{edges-fail, given-settles, plan-settles}
 use Rattle.record.proofs.checks.check.Statement.{statement}
 use Rattle.record.proofs.checks.check.Tie as tie
 
@@ -22,15 +22,15 @@ returns-2 : tie.Need-returns-2
 returns-2 c =
     let laid = c .before .before .before in let test = laid .before .before .before in let past = test .before in let d = descend-of past in
     let a = start-of d .args in
-    settles _ _ (a .given) (a .field .now) _ _ _ _ _ _ _ _ _ _ _ (d .descend .ensures) (past .if1 .left)
-    true (test .if2 .taken) _ _ (laid .given .ensures) _ (c .settled .ensures)
+    given-settles _ _ (a .given) (a .field .now) _ _ _ _ _ _ _ _ _ _ _ (d .descend .ensures) (past .if1 .left)
+    _ _ _ (c .settled .ensures) (test .if2 .taken) (laid .given .ensures)
 
 returns-3 : tie.Need-returns-3
 returns-3 c =
     let laid = c .before .before .before in let test = laid .before .before .before in let past = test .before in let d = descend-of past in
     let a = start-of d .args in
-    settles _ _ (a .given) (a .field .now) _ _ _ _ _ _ _ _ _ _ _ (d .descend .ensures) (past .if1 .left)
-    false (test .if2 .left) _ _ (laid .plan .ensures) _ (c .settled2 .ensures)
+    plan-settles _ _ (a .given) (a .field .now) _ _ _ _ _ _ _ _ _ _ _ (d .descend .ensures) (past .if1 .left)
+    _ _ _ (c .settled2 .ensures) (test .if2 .left) (laid .plan .ensures)
 
 pub check-spec : {M : Type 1} → statement M
 check-spec =
