@@ -33,10 +33,10 @@ pub found-free : (held : ℕ → Bool) (leads : ℕ → ℕ → Bool) (n : ℕ) 
 unfolding masked
 found-free held leads n P h t = record { by = leads; same = λ u v l m. rw (h u l, h v m) refl; tabled = t }
 
-pub found-cleared : (held : ℕ → Bool) (table left : List ℕ) (n : ℕ) (P : List ℕ) → n ≤ 128 → Cleared held table left
+pub found-cleared : (held : ℕ → Bool) (table left : List ℕ) (n m : ℕ) (P : List ℕ) → n ≤ 128 → m ≡ n → Cleared held m table left
     → Tabled (matching (has? 2 left) n) P → Found held (has? 2 table) n P
-found-cleared held table left n P small c t =
-    record { by = has? 2 left; same = λ u v l m. c .each u v (omega arith) (omega arith); tabled = t }
+found-cleared held table left n m P small em c t =
+    record { by = has? 2 left; same = λ u v l k. c .each u v (omega arith) (omega arith); tabled = t }
 
 module _ (held : ℕ → Bool) (leads : ℕ → ℕ → Bool) (n : ℕ) (P : List ℕ) (small : n ≤ 128) (f : Found held leads n P) where
   abbrev rule : List Held

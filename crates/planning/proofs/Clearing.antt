@@ -103,5 +103,5 @@ module _ (table held : List ℕ) where
           go w v l m (yes e) = ap (λ x. has? 2 s x v) e ∙ row v m ∙ ap (λ x. masked holds (has? 2 table) x v) (sym e)
           go w v l m (no d) = ap (λ x. eqb x 1) (other w v m d) ∙ g .done w v (omega arith) m
 
-    pub clearing-all : 128 ≤ u → Cleared (member? held 0) table r
-    clearing-all l = record { size = g .size; each = λ w v a b. g .done w v (omega arith) b }
+    pub clearing-all : (n : ℕ) → n ≤ u → Cleared (member? held 0) n table r
+    clearing-all n l = record { size = g .size; each = λ w v a b. g .done w v (omega arith) b }

@@ -52,10 +52,10 @@ pub record Apart (held : ℕ → Bool) (n : ℕ) (P : List ℕ) : Type 0 where
   pub leads : ℕ → ℕ → Bool
   pub sound : (v p : ℕ) → predecessorOf (heldIn n P) v ≡ some p → (p < n) × (masked held leads p v ≡ true)
 
--- the table r relates the vertices that are not held as `table` does, and no other
-pub record Cleared (held : ℕ → Bool) (table r : List ℕ) : Type 0 where
+-- the table r relates those of the first n vertices that are not held as `table` does, and no other
+pub record Cleared (held : ℕ → Bool) (n : ℕ) (table r : List ℕ) : Type 0 where
   pub size : length r ≡ 256
-  pub each : (u v : ℕ) → u < 128 → v < 128 → has? 2 r u v ≡ masked held (has? 2 table) u v
+  pub each : (u v : ℕ) → u < n → v < 128 → has? 2 r u v ≡ masked held (has? 2 table) u v
 
 -- P has the predecessors of the rule on `leads` between those of the n vertices that are not held: by a relation that is the same there
 pub record Found (held : ℕ → Bool) (leads : ℕ → ℕ → Bool) (n : ℕ) (P : List ℕ) : Type 0 where

@@ -125,15 +125,16 @@ fn capped(n: usize) -> usize
     n
 }
 
-// The table without the rows and the columns of held vertices.
-fn cleared<'a>(table: &'a [u64], held: &'a [u64]) -> [u64; 256]
-    ensures { λ r. ⌜ Cleared (member? (now (held .entry)) 0) (now (table .entry)) r ⌝ }
+// The table of the first n vertices, without the rows and the columns of held ones.
+fn cleared<'a>(table: &'a [u64], held: &'a [u64], n: usize) -> [u64; 256]
+    requires { ⌜ n ≤ 128 ⌝ }
+    ensures { λ r. ⌜ Cleared (member? (now (held .entry)) 0) n (now (table .entry)) r ⌝ }
 {
     let low = masks::mask_at(held, 0, 0);
     let high = masks::mask_at(held, 0, 1);
     let mut r = [0u64; 256];
     let mut u: usize = 0;
-    while u < 128 {
+    while u < n {
         let a = masks::mask_at(table, 2 * u, 0);
         let b = masks::mask_at(table, 2 * u, 1);
         let next = u + 1;
@@ -155,7 +156,7 @@ fn predecessors<'a>(n: usize, table: &'a [u64], held: &'a [u64]) -> [u8; 128]
             return search::matched(table, n);
         }
     }
-    let left = cleared(table, held);
+    let left = cleared(table, held, capped(n));
     search::matched(&left, n)
 }
 

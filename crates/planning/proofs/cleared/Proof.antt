@@ -5,10 +5,10 @@ use Rattle.planning.proofs.cleared.Statement.{statement}
 use Rattle.planning.proofs.cleared.Tie as tie
 
 abbrev Inv-loop : tie.InvT-loop
-Inv-loop table held low high r₀ u₀ r u = Clearing table held u r
+Inv-loop table held n low high r₀ u₀ r u = Clearing table held u r
 
 abbrev μ-loop : tie.MeasureT-loop
-μ-loop table held low high r₀ u₀ r u = 128 - u
+μ-loop table held n low high r₀ u₀ r u = n - u
 
 -- the places that facts are read from
 abbrev turn-of : tie.After-contains Inv-loop μ-loop → tie.In-loop Inv-loop μ-loop
@@ -27,7 +27,8 @@ loop-again : tie.Need-loop-again Inv-loop μ-loop
 loop-again c =
     let contains = c .before in let b = contains .before in let a = b .before in let test = a .before in let o = test .before in
     let high = o .before in let low = high .before in let known = low .before in
-    clearing-row _ _ _ _ (o .loop .inv) (test .loop-test .taken) (sym (contains .contains .ensures) ∙ not-true _ (c .if1 .taken)) _ _ _ _
+    let l = test .loop-test .taken in
+    clearing-row _ _ _ _ (o .loop .inv) (omega arith) (sym (contains .contains .ensures) ∙ not-true _ (c .if1 .taken)) _ _ _ _
     (a .mask-at3 .ensures) (b .mask-at4 .ensures) (low .mask-at .ensures) (high .mask-at2 .ensures)
     (λ i. known .shared-slice-known2 .given i .fits)
 
@@ -37,7 +38,7 @@ loop-again-2 c =
     clearing-held _ _ _ _ (turn-of contains .before .loop .inv) (sym (contains .contains .ensures) ∙ not-false _ (c .if1 .left))
 
 returns : tie.Need-returns Inv-loop μ-loop
-returns c = clearing-all _ _ _ _ (c .before .loop .inv) (c .loop-test .left)
+returns c = clearing-all _ _ _ _ (c .before .loop .inv) _ (c .loop-test .left)
 
 pub cleared-spec : {M : Type 1} → statement M
 cleared-spec =

@@ -15,7 +15,7 @@ returns c =
 returns-2 : tie.Need-returns-2
 returns-2 c =
     let cleared = c .before .before in
-    found-cleared _ _ _ _ _ (omega arith) (cleared .cleared .ensures) (c .matched2 .ensures)
+    found-cleared _ _ _ _ _ _ (omega arith) (cleared .before .capped .ensures) (cleared .cleared .ensures) (c .matched2 .ensures)
 
 pub predecessors-spec : {M : Type 1} → statement M
 predecessors-spec =
@@ -25,6 +25,7 @@ predecessors-spec =
     (λ c κs. search needs)
     (λ c κs. search needs)
     returns
+    (λ c κs. search needs)
     (λ c κs. search needs)
     (λ c. search needs)
     (λ c κs. search needs)
