@@ -1,7 +1,7 @@
 -- THE DEMANDS, proved of the chart that the definitions give of every sound graph, and of what every call leaves. Of a call nothing is
 -- asked but its promise. The statements are in specs/Demands.antt and specs/Refusals.antt, and in specification's specs/Lawful.antt.
 -- Assumes nothing.
-use Rattle.counting.proofs.Prelude.{_≡_, refl, _≢_, _↔_, Bool, true, false, List, ℕ, _/_, arith, length}
+use Rattle.counting.proofs.Prelude.{_≡_, refl, _≢_, _↔_, Bool, true, false, List, ℕ, _/_, _≤_, _<_, arith, length}
 use Rattle.specification.specs.Channels.{givenLines}
 use Rattle.specification.specs.Given.{Whole}
 use Rattle.specification.specs.Writing.{written, Writable}
@@ -17,6 +17,9 @@ use Rattle.chart_entries.specs.Promise.{HandedOver}
 use Rattle.chart_entries.proofs.Refusals.{refused-untouched, Refused}
 use Rattle.chart_numbers.specs.Chart.{HandedFlat}
 use Rattle.ceviloneth.proofs.Refusing as flat
+use Rattle.ceviloneth.specs.State.{stateNumbers}
+use Rattle.ceviloneth.specs.Calls.{LentCall, LentAnswer, Calls, Life, Lived, Short}
+use Rattle.ceviloneth.proofs.Sequences.{every-life, every-short}
 use Rattle.demands.specs.Demands.{Entries, entriesIn, entriesOf, oursOf, seen, Faithful, Roomy, Ample, unlined, Smallest, Counted}
 use Rattle.demands.specs.Demands.{Carried}
 use Rattle.demands.specs.Numbers.{entriesFrom}
@@ -135,6 +138,21 @@ module _ (b ws ws′ es es′ bs bs′ : List ℕ) (r : ChartCounts) (h : Handed
   -- the numbers, by 10.4 and 10.5
   pub exported-smallest : r .refusal ≡ 0 → Smallest (said b) (seen (said b) r read) × Carried (said b) (seen (said b) r read) r
   exported-smallest = said-least _ _ _ b r read (handed-numbers b ws ws′ es es′ bs bs′ r h)
+
+-- ---- the exported calls of a session in a lent list, `ceviloneth_session_start`, `_add` and `_leads`: calls cs in any order, each by a
+-- result that meets its promise, answer out, and is is the list was afterwards
+
+module _ {was is : List ℕ} {cs : List LentCall} {out : List LentAnswer} (h : Calls was cs out is) where
+  -- whatever the numbers are: from the first accepted start on every answer is the machine's, and the list spells its graph; a refused
+  -- start leaves the earlier machine (11.4, 11.5)
+  pub exported-sessions : stateNumbers ≤ length was → Lived Life.unstarted was cs out is
+  exported-sessions long = every-life long h
+
+  -- a list that is too short for a session: each call is refused with 8, and nothing changes
+  pub exported-sessions-short : length was < stateNumbers → Short was cs out is
+  exported-sessions-short few = every-short few h
+
+-- ---- given channels
 
 -- a record with an empty field of given channels is answered as the one without it, in every number (1.4)
 pub exported-empty-as-none : (n : ℕ) (edges : List (ℕ × ℕ)) → Writable (unlined n edges true)
