@@ -1,4 +1,4 @@
--- Bundles of path-transitive edges (SPECIFICATION.md, 6). Assumes nothing.
+-- Bundles of path-transitive edges (side arrows; SPECIFICATION.md, 6). Assumes nothing.
 use mathlib.Core.Bool.{Bool, not, _&&_, _||_, true, false}
 use mathlib.Core.List.{List, [], _∷_, _++_}
 use Prim.Native.Nat.{ℕ, _+_, _*_, zero, suc, min, max}
@@ -7,7 +7,7 @@ use Rattle.specification.specs.Graph.{edge?}
 use Rattle.specification.specs.Count.{choose, count}
 use Rattle.specification.specs.Limits.{highestRow}
 
--- vertices are next to each other in their channel
+-- vertices are next to each other in their channel: an edge between them is a path edge (a spine arrow)
 unfoldable pub adjacent? : ℕ → ℕ → Bool
 adjacent? p q = eqb (p + 1) q || eqb (q + 1) p
 

@@ -1,4 +1,4 @@
--- Edges, which vertex reaches which, and sizes (SPECIFICATION.md, 1 and 2). Assumes nothing.
+-- Edges (arrows) between vertices (words), which vertex reaches which (descent), and sizes (SPECIFICATION.md, 1 and 2). Assumes nothing.
 use mathlib.Core.Path.{_≡_}
 use mathlib.Core.Bool.{Bool, false, _||_, _&&_, true}
 use mathlib.Core.List.{List, [], _∷_}
@@ -8,7 +8,7 @@ use lib.ListN.{length, getD, drop}
 use Rattle.specification.specs.Count.{some, choose}
 use Rattle.specification.specs.Limits.{mostVertices, mostEdges}
 
--- u reaches v by one or more edges of E, of which the head of each is the tail of the next (2.1)
+-- u reaches v, or leads to it, by one or more edges of E, of which the head of each is the tail of the next (2.1)
 pub data Reaches (E : ℕ → ℕ → Type 0) : ℕ → ℕ → Type 0 where
   one : {u v : ℕ} → E u v → Reaches E u v
   more : {u v w : ℕ} → E u v → Reaches E v w → Reaches E u w

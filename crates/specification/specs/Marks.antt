@@ -1,4 +1,4 @@
--- Transitive and reduced edges (SPECIFICATION.md, 5). Assumes nothing.
+-- Transitive (implied) and reduced (firm) edges (SPECIFICATION.md, 5). Assumes nothing.
 use mathlib.Core.Path.{_≡_}
 use mathlib.Core.Bool.{Bool, true, not, _&&_}
 use mathlib.Core.List.{List}

@@ -1,4 +1,4 @@
--- The page, places on it and polylines (SPECIFICATION.md, 12). Assumes nothing.
+-- The page, places on it and polylines (strokes; SPECIFICATION.md, 12). Assumes nothing.
 use mathlib.Core.Path.{_≡_}
 use mathlib.Core.Bool.{Bool, true, false, _||_}
 use mathlib.Core.List.{List, [], _∷_, map}
@@ -26,7 +26,7 @@ perPoint = 4
 unfoldable pub toPoints : ℕ → Float
 toPoints n = round binary32 false n perPoint
 
--- the point of a cell (12.1)
+-- the point (page place) of a cell (12.1)
 abbrev pub pointOf : Cell → Point
 pointOf c = record { x = toPoints (c .column * columnPitch); y = toPoints (c .row * rowPitch) }
 

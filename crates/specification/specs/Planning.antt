@@ -7,7 +7,7 @@ use Rattle.specification.specs.Count.{choose}
 use mathlib.Core.Option.{Option, none, some}
 use Rattle.specification.specs.Channels.{has}
 
--- a vertex and its predecessor
+-- a vertex and its predecessor (its holder)
 pub record Held : Type 0 where
   pub vertex : ℕ
   pub predecessor : ℕ
@@ -27,7 +27,7 @@ unfoldable pub is? : ℕ → Option ℕ → Bool
 is? h none = false
 is? h (some p) = eqb p h
 
--- who has which predecessor, the vertices visited in this search, and whether who asked last found a successor (3.3)
+-- who has which predecessor, the vertices visited (tried) in this search, and whether who asked last found a successor (a follower; 3.3)
 pub record State : Type 0 where
   pub held : List Held
   pub visited : List ℕ

@@ -23,7 +23,7 @@ member masks first v = bit (getD masks (maskOf first v) 0) (v % maskBits)
 abbrev pub member? : List ℕ → ℕ → ℕ → Bool
 member? masks first v = eqb (member masks first v) 1
 
--- a table has a set of w masks for each vertex u: 1 where v is in the set of u
+-- a table has a set of w masks for each vertex u, that of reachability (the descent table) two: 1 where v is in the set of u
 unfoldable pub at : ℕ → List ℕ → ℕ → ℕ → ℕ
 unfolding member
 at w table u v = member table (w * u) v

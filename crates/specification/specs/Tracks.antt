@@ -1,4 +1,4 @@
--- Tracks of bundles (SPECIFICATION.md, 7). Assumes nothing.
+-- Tracks (side columns) of bundles (SPECIFICATION.md, 7). Assumes nothing.
 use Prim.Native.Nat.{ℕ, zero, suc}
 use mathlib.Core.Bool.{Bool, not, _&&_, _||_}
 use mathlib.Core.List.{List}
