@@ -28,10 +28,9 @@ use Rattle.planning.proofs.Adding.{added-kept, arranged-both}
 -- ---- the predecessors
 
 -- nothing is held
-pub found-free : (held : ℕ → Bool) (leads : ℕ → ℕ → Bool) (n : ℕ) (P : List ℕ) → ((v : ℕ) → v < n → held v ≡ false)
-    → Tabled (matching leads n) P → Found held leads n P
+pub none-found : (leads : ℕ → ℕ → Bool) (n : ℕ) (P : List ℕ) → Tabled (matching leads n) P → Found (member? (replicate 2 0) 0) leads n P
 unfolding masked
-found-free held leads n P h t = record { by = leads; same = λ u v l m. rw (h u l, h v m) refl; tabled = t }
+none-found leads n P t = record { by = leads; same = λ u v l m. rw (member-zeros 2 u, member-zeros 2 v) refl; tabled = t }
 
 pub found-cleared : (held : ℕ → Bool) (table left : List ℕ) (n m : ℕ) (P : List ℕ) → n ≤ 128 → m ≡ n → Cleared held m table left
     → Tabled (matching (has? 2 left) n) P → Found held (has? 2 table) n P

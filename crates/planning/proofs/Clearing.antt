@@ -1,26 +1,16 @@
 -- The table without the rows and columns of held vertices, row by row. Assumes nothing.
-use Rattle.counting.proofs.Prelude.{_≡_, sym, ap, ap₂, _∙_, _≢_, _⊎_, inl, inr, Bool, true, false, not, _&&_, List, [], _∷_, ℕ, zero}
-use Rattle.counting.proofs.Prelude.{suc, _+_, _*_, _/_, _%_, _^_, _≤_, _<_, arith, eqb, length, getD, set, replicate, length-set}
+use Rattle.counting.proofs.Prelude.{_≡_, sym, ap, ap₂, _∙_, _≢_, Bool, true, false, not, _&&_, List, [], _∷_, ℕ, zero}
+use Rattle.counting.proofs.Prelude.{suc, _+_, _*_, _^_, _≤_, _<_, arith, eqb, length, getD, set, replicate, length-set}
 use Rattle.counting.proofs.Prelude.{length-replicate}
 use mathlib.Core.Bool.{and-comm}
 use native.Mathlib.Decide.{ℕ-discrete}
 use lib.Seq.{getD-set-same, getD-set-other}
-use Rattle.specification.specs.Sets.{bit, member, member?, at, has?}
+use Rattle.specification.specs.Sets.{member, member?, at, has?}
 use Rattle.specification.specs.Given.{masked}
-use Rattle.counting.proofs.Truth.{lt-or-le}
-use Rattle.masks.proofs.Bits.{bit-of-zero, without}
+use Rattle.masks.proofs.Bits.{without}
 use Rattle.masks.proofs.Sets.{without-member}
 use Rattle.masks.proofs.Tables.{at-zeros, pair-row, row-member, others-kept}
 use Rattle.planning.specs.Steps.{Cleared}
-
--- two masks that are 0 hold none
-pub free : (held : List ℕ) → getD held (0 + 0) 0 ≡ 0 → getD held (0 + 1) 0 ≡ 0 → (v : ℕ) → v < 128 → member? held 0 v ≡ false
-unfolding member
-free held a b v l = ap (λ (x : ℕ). eqb (bit x (v % 64)) 1) (go (lt-or-le v 64)) ∙ ap (λ (x : ℕ). eqb x 1) (bit-of-zero (v % 64))
-  where
-    go : (v < 64) ⊎ (64 ≤ v) → getD held (0 + v / 64) 0 ≡ 0
-    go (inl m) = ap (λ i. getD held i 0) (let e : 0 + v / 64 ≡ 0 + 0 = omega arith in e) ∙ a
-    go (inr m) = ap (λ i. getD held i 0) (let e : 0 + v / 64 ≡ 0 + 1 = omega arith in e) ∙ b
 
 module _ (table held : List ℕ) where
   abbrev holds : ℕ → Bool

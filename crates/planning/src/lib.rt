@@ -5,7 +5,7 @@ ghost use Prim.Native.Nat.{suc, _+_, _*_, _≤_, _<_, min, _/_};
 ghost use lib.ListN.{length};
 ghost use Rattle.specification.specs.Sets.{member?, has?};
 ghost use Rattle.planning.specs.Arranged.{Arranged, Kept, Added};
-ghost use Rattle.planning.specs.Steps.{freeIn, Successors, followed, Ready, Apart, Cleared, Found};
+ghost use Rattle.planning.specs.Steps.{freeIn, Successors, followed, Ready, Apart, Cleared};
 ghost use Rattle.planning.specs.Promise.{Besides, Chained};
 
 // The most vertices, and what stands for no vertex.
@@ -147,19 +147,6 @@ fn cleared<'a>(table: &'a [u64], held: &'a [u64], n: usize) -> [u64; 256]
     r
 }
 
-// The predecessors of the rule among the vertices that are not held. The table is copied only where one is.
-fn predecessors<'a>(n: usize, table: &'a [u64], held: &'a [u64]) -> [u8; 128]
-    ensures { λ r. ⌜ Found (member? (now (held .entry)) 0) (has? 2 (now (table .entry))) (min n 128) r ⌝ }
-{
-    if masks::mask_at(held, 0, 0) == 0 {
-        if masks::mask_at(held, 0, 1) == 0 {
-            return search::matched(table, n);
-        }
-    }
-    let left = cleared(table, held, capped(n));
-    search::matched(&left, n)
-}
-
 // Lays the channels of those of n vertices that are not held, by the table, or of 128 where n is over: numbered from `first` on, behind
 // those that stand in the list. Refused with 8 where the list has no room for n vertices, and with 2 where `first` is 128 or more.
 pub fn beside<'a>(
@@ -178,7 +165,8 @@ pub fn beside<'a>(
     if MOST <= first {
         return empty(2);
     }
-    let predecessor = predecessors(n, table, held);
+    let left = cleared(table, held, most);
+    let predecessor = search::matched(&left, n);
     chains(&predecessor, held, most, first, places)
 }
 
@@ -192,5 +180,6 @@ pub fn chained(n: usize, table: &[u64], places: &mut [u8]) -> Channels
     }
     unplace(most, places);
     let none = [0u64; 2];
-    beside(n, table, &none, 0, places)
+    let predecessor = search::matched(table, n);
+    chains(&predecessor, &none, most, 0, places)
 }

@@ -1,6 +1,6 @@
 -- `planning::beside` meets its contract: the predecessors are those of the rule. Assumes nothing.
 use Rattle.counting.proofs.Prelude.{refl, arith, needs}
-use Rattle.planning.proofs.Answers.{found-apart, beside-refused, beside-all}
+use Rattle.planning.proofs.Answers.{found-cleared, found-apart, beside-refused, beside-all}
 use Rattle.planning.proofs.beside.Statement.{statement}
 use Rattle.planning.proofs.beside.Tie as tie
 
@@ -19,11 +19,14 @@ returns-2 c =
     let m = if1 .before .capped .ensures in
     beside-refused _ _ _ _ _ _ 2 (λ e. omega arith) (λ _ l. omega arith) (λ l. absurd (omega arith)) (λ _ _. refl) (c .empty2 .ensures)
 
+cleared-requires : tie.Need-cleared-requires
+cleared-requires c κs = omega (arith, c .before .before .capped .ensures)
+
 chains-requires : tie.Need-chains-requires
 chains-requires c κs =
-    let predecessors = c .before .before in let if2 = predecessors .before in let if1 = if2 .before in
+    let matched = c .before .before in let cleared = matched .before .before in let if2 = cleared .before in let if1 = if2 .before in
     let m = if1 .before .capped .ensures in
-    let f = predecessors .predecessors .ensures in (
+    let f = found-cleared _ _ _ _ _ _ (omega arith) m (cleared .cleared .ensures) (matched .matched .ensures) in (
       omega (arith, m),
       omega (arith, if2 .if2 .left),
       f .tabled .size,
@@ -33,10 +36,11 @@ chains-requires c κs =
 
 returns-3 : tie.Need-returns-3
 returns-3 c =
-    let chains = c .before .before in let predecessors = chains .before .before .before in let if2 = predecessors .before in
-    let if1 = if2 .before in
-    beside-all _ _ _ _ _ _ _ _ _ (if1 .before .capped .ensures) (omega (arith, if1 .if1 .left)) (omega (arith, if2 .if2 .left))
-    (predecessors .predecessors .ensures) (chains .chains .ensures)
+    let chains = c .before .before in let matched = chains .before .before .before in let cleared = matched .before .before in
+    let if2 = cleared .before in let if1 = if2 .before in
+    let m = if1 .before .capped .ensures in
+    beside-all _ _ _ _ _ _ _ _ _ m (omega (arith, if1 .if1 .left)) (omega (arith, if2 .if2 .left))
+    (found-cleared _ _ _ _ _ _ (omega arith) m (cleared .cleared .ensures) (matched .matched .ensures)) (chains .chains .ensures)
 
 pub beside-spec : {M : Type 1} → statement M
 beside-spec =
@@ -48,6 +52,8 @@ beside-spec =
     returns
     (λ c κs. search needs)
     returns-2
+    cleared-requires
+    (λ c. search needs)
     (λ c κs. search needs)
     (λ c. search needs)
     chains-requires
