@@ -1,11 +1,11 @@
 -- Laws of sums that count by classes: one of several, at most one, rows and columns, a change at one place. Assumes nothing.
 use Rattle.counting.proofs.Prelude.{_≡_, refl, sym, ap, _∙_, subst, _≢_, Bool, true, false, true≢false, _&&_, _||_, ℕ, zero, suc}
-use Rattle.counting.proofs.Prelude.{_+_, _≤_, _<_, arith, eqb, leb, ltb, eq-eqb, ne-eqb, le-leb, lt-leb, lt-ltb, le-ltb}
+use Rattle.counting.proofs.Prelude.{_+_, _≤_, _<_, arith, eqb, leb, ltb, eq-eqb, ne-eqb, le-leb, lt-leb, lt-ltb, le-ltb, eqb-true}
 use native.Mathlib.Nat.{not-suc-le-zero}
 use native.Mathlib.Decide.{ℕ-discrete, decLt}
 use Rattle.specification.specs.Count.{indicator, sum, count}
-use Rattle.counting.proofs.Truth.{indicator-le}
-use Rattle.counting.proofs.Sums.{sum-ext, sum-zero}
+use Rattle.counting.proofs.Truth.{indicator-le, and-elim}
+use Rattle.counting.proofs.Sums.{sum-ext, sum-mono, sum-zero}
 
 -- ---- tests as numbers
 
@@ -156,3 +156,20 @@ count-classes n m f p l =
     each : (w : ℕ) → w < n → (b : Bool) → f w ≡ b → indicator (f w) ≡ sum m (λ q. indicator (f w && eqb (p w) q))
     each w a true e = rw e (sym (one-below m (p w) (l w a e)))
     each w a false e = rw e (sym (sum-zero m (λ q. 0) (λ q b. refl)))
+
+-- of what passes a test no two are in one class: no more pass than there are classes
+pub apart-fit : (n m : ℕ) (f : ℕ → Bool) (p : ℕ → ℕ) → ((w : ℕ) → w < n → f w ≡ true → p w < m)
+    → ((i j : ℕ) → i < n → j < n → f i ≡ true → f j ≡ true → p i ≡ p j → i ≡ j) → count n f ≤ m
+apart-fit n m f p below one =
+    omega (
+      arith,
+      count-classes n m f p below,
+      sum-mono m (λ q. count n (λ w. f w && eqb (p w) q)) (λ q. 1) (λ q l. at-most-one n (λ w. f w && eqb (p w) q) (same q)),
+      sum-one m,
+    )
+  where
+    same : (q i j : ℕ) → i < n → j < n → (f i && eqb (p i) q) ≡ true → (f j && eqb (p j) q) ≡ true → i ≡ j
+    same q i j a b s t =
+        let s′ = and-elim (f i) (eqb (p i) q) s in
+        let t′ = and-elim (f j) (eqb (p j) q) t in
+        one i j a b (s′ .0) (t′ .0) (eqb-true (p i) q (s′ .1) ∙ sym (eqb-true (p j) q (t′ .1)))

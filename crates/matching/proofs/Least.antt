@@ -6,7 +6,7 @@ use Rattle.specification.specs.Count.{indicator, sum, count}
 use Rattle.specification.specs.Planning.{begins, Held, predecessorOf, none?, is?}
 use Rattle.counting.proofs.Truth.{and-elim}
 use Rattle.counting.proofs.Sums.{sum-ext, sum-mono}
-use Rattle.counting.proofs.Classes.{sum-add, sum-one, sum-swap, one-of, count-positive, at-most-one, count-classes, indicator-and-le}
+use Rattle.counting.proofs.Classes.{sum-add, sum-swap, one-of, count-positive, count-classes, indicator-and-le, apart-fit}
 use Rattle.matching.specs.Division.{Division}
 use Rattle.matching.proofs.Kept.{heldBy}
 use Rattle.matching.proofs.Closed.{Into}
@@ -17,24 +17,14 @@ use mathlib.Core.Option.{Option, none, some}
 pub antichain-fits : (leads : ℕ → ℕ → Bool) (n m : ℕ) (part : ℕ → ℕ) → Division leads n m part → (A : ℕ → Bool)
     → ((a b : ℕ) → a < n → b < n → A a ≡ true → A b ≡ true → leads a b ≡ true → ⊥)
     → count n A ≤ m
-antichain-fits leads n m part p A anti =
-    omega (
-      arith,
-      count-classes n m A part (λ w l t. p .below w l),
-      sum-mono m (λ q. count n (λ w. A w && eqb (part w) q)) (λ q. 1) (λ q l. at-most-one n (λ w. A w && eqb (part w) q) (only q)),
-      sum-one m,
-    )
+antichain-fits leads n m part p A anti = apart-fit n m A part (λ w l t. p .below w l) one
   where
-    only : (q i j : ℕ) → i < n → j < n → (A i && eqb (part i) q) ≡ true → (A j && eqb (part j) q) ≡ true → i ≡ j
-    only q i j a b s t = go (ℕ-discrete i j)
+    one : (i j : ℕ) → i < n → j < n → A i ≡ true → A j ≡ true → part i ≡ part j → i ≡ j
+    one i j a b s t q = go (ℕ-discrete i j)
       where
         go : Dec (i ≡ j) → i ≡ j
         go (yes e) = e
-        go (no e) =
-            let s′ : (A i ≡ true) × (eqb (part i) q ≡ true) = and-elim (A i) (eqb (part i) q) s in
-            let t′ : (A j ≡ true) × (eqb (part j) q ≡ true) = and-elim (A j) (eqb (part j) q) t in
-            absurd (⊎-elim (anti i j a b (s′ .0) (t′ .0)) (anti j i b a (t′ .0) (s′ .0))
-            (p .related i j a b e (eqb-true (part i) q (s′ .1) ∙ sym (eqb-true (part j) q (t′ .1)))))
+        go (no e) = absurd (⊎-elim (anti i j a b s t) (anti j i b a t s) (p .related i j a b e q))
 
 -- a predecessor as a number; n where there is none
 owner : ℕ → Option ℕ → ℕ
