@@ -4,13 +4,13 @@ use Rattle.counting.proofs.Prelude.{length, getD, take, drop, replicate}
 use Rattle.counting.specs.Quads.{quad}
 use Rattle.counting.proofs.Zeros.{zeros}
 use Rattle.specification.specs.Sets.{member?}
-use Rattle.specification.specs.Checks.{Content, edgesOf, refusalOf, nothing}
+use Rattle.specification.specs.Checks.{Content, edgesOf, nothing}
 use Rattle.specification.specs.Layout.{layoutOf}
 use Rattle.specification.specs.declared.Fields.{Fields}
 use Rattle.specification.specs.declared.Layout.the-variants.{Good, Bad}
 use Rattle.specification.specs.Chart.{planOf, tailOf, headOf, kindBetween, transitiveEdge?, vertexEntry, edgeEntry, bundleEntry}
 use Rattle.specification.specs.declared.Kind.{Kind}
-use Rattle.specification.specs.Drawn.{Drawn, graphContent, graphDrawn, short?, lent, refusedBy}
+use Rattle.specification.specs.Drawn.{chartRefusal, Drawn, graphContent, graphDrawn, short?, lent, refusedBy}
 use Rattle.reach.proofs.Ends.{tail-at, head-at}
 use Rattle.kinds.specs.Codes.{kindOf}
 use Rattle.specification.specs.Numbers.{codeOf}
@@ -220,7 +220,7 @@ roomy n =
 
 module _ (n : ℕ) (ends : List ℕ) (given : Bool) (field : List ℕ) (p : Plan) (s : Lists) (q : Plans n ends given field cleared p s)
     (v e b : ℕ) (d : Sheet) where
-  answer : p .refusal ≡ refusalOf (graphContent n ends given field)
+  answer : p .refusal ≡ chartRefusal (graphContent n ends given field)
   answer = q .answer (roomy n)
 
   pub graph-unplanned : (p .refusal ≡ 0 → ⊥) → d ≡ blankOf (p .refusal) → GraphSheet n ends given field v e b d

@@ -419,6 +419,7 @@ fn hand_over<'a, 'v, 'e, 'b>(
 
 // The chart of a neutral graph into the three lists: the needed entries of each are written and the others stay; where it is refused all
 // stay. The graph is so many vertices, the bytes of its edges' ends, two an edge, and the bytes of its given channels, if any are given.
+// Refused with 11 where it has more than 31 channels, and then with 8 where a list is too short.
 pub fn draw<'a, 'v, 'e, 'b>(
     n: usize,
     ends: &'a [u8],

@@ -1,5 +1,6 @@
 pub mod Leading
 pub mod Channels
+pub mod Broad
 pub mod Rows
 pub mod Bundling
 pub mod Columns

@@ -3,12 +3,12 @@ use Rattle.counting.proofs.Prelude.{_≡_, refl, sym, ap, ap₂, subst, _∙_, 
 use Rattle.counting.proofs.Prelude.{ltb, length, take, drop, replicate, eq-eqb, ne-eqb, ltb-false}
 use native.Mathlib.Decide.{ℕ-discrete}
 use Rattle.specification.specs.Count.{choose}
-use Rattle.specification.specs.Checks.{Content, edgesOf, refusalOf, nothing}
+use Rattle.specification.specs.Checks.{Content, edgesOf, nothing}
 use Rattle.specification.specs.Layout.{layoutOf}
 use Rattle.specification.specs.declared.Fields.{Fields}
 use Rattle.specification.specs.declared.Layout.the-variants.{Good}
 use Rattle.specification.specs.Chart.{planOf}
-use Rattle.specification.specs.Drawn.{Drawn, graphContent, graphDrawn, short?, lent, refusedBy}
+use Rattle.specification.specs.Drawn.{chartRefusal, Drawn, graphContent, graphDrawn, short?, lent, refusedBy}
 use Rattle.counting.proofs.Zeros.{zeros}
 use Rattle.counting.proofs.Truth.{or-neither}
 use Rattle.lists.proofs.Stores.{filled-none, filled-to}
@@ -101,7 +101,7 @@ module _ (refusal n m b words arrows bundles k : ℕ) (e : k ≡ roomRefusal ref
           (accepted, ltb-false words n (v .0), ltb-false arrows m (w .0), ltb-false bundles b (w .1))
 
 module _ (n : ℕ) (ends : List ℕ) (given : Bool) (field : List ℕ) (p : Plan) (t : Lists)
-    (answer : p .refusal ≡ refusalOf (graphContent n ends given field))
+    (answer : p .refusal ≡ chartRefusal (graphContent n ends given field))
     (laid : p .refusal ≡ 0 → Laid (graphContent n ends given field) p t) (ws es bs : List ℕ) (k : ℕ)
     (told : k ≡ roomRefusal (p .refusal) n (length ends / 2) (p .bundles) (length ws / 5) (length es / 5) (length bs / 4)) where
   abbrev c : Content

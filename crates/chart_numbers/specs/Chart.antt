@@ -22,6 +22,6 @@ pub record Left (d : Drawn) (ws es bs : List ℕ) (r : ChartCounts) (ws′ es′
   pub refusal : r .refusal ≡ d .refusal
   pub numbered : Numbered (d .graph) (planOf (d .graph)) ws es bs r ws′ es′ bs′
 
--- the record's chart, or 8 where a list has room for fewer entries (`lent`)
+-- the record's chart, or why it is refused (`recordDrawn`): 8 where a list has room for fewer entries (`lent`)
 abbrev pub HandedFlat : List ℕ → List ℕ → List ℕ → List ℕ → ChartCounts → List ℕ → List ℕ → List ℕ → Type 0
 HandedFlat b ws es bs = Left (lent (length ws / 5) (length es / 5) (length bs / 4) (recordDrawn b)) ws es bs

@@ -243,7 +243,8 @@ fn recorded<'u>(
 }
 
 // The chart of a neutral graph into three lists: so many vertices, the bytes of its edges' ends, two an edge, and the bytes of its given
-// channels, if any are given. Refused with 8 where a list has no room for all its entries. Numbers past the needed ones stay.
+// channels, if any are given. Refused with 11 where it has more than 31 channels, and then with 8 where a list has no room for all its
+// entries. Numbers past the needed ones stay.
 pub fn of_graph<'g, 'f>(
     n: usize,
     ends: &'g [u8],

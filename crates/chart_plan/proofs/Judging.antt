@@ -1,19 +1,19 @@
 -- What is drawn of a graph, and of a record: its graph's, or nothing. Assumes nothing.
-use Rattle.counting.proofs.Prelude.{_≡_, refl, ap, _∙_, Bool, List, ℕ, _*_, eqb, take, drop, ne-eqb}
-use Rattle.specification.specs.Count.{choose}
-use Rattle.specification.specs.Checks.{refusalOf, nothing, contentOf, contentIn, refusalIn, recordRefusal, said}
+use Rattle.counting.proofs.Prelude.{_≡_, refl, ap, _∙_, Bool, List, ℕ, _*_, take, drop, ne-eqb}
+use Rattle.specification.specs.Checks.{contentOf, contentIn, refusalIn}
 use Rattle.specification.specs.Layout.{layoutOf}
 use Rattle.specification.specs.declared.Fields.{Fields}
 use Rattle.specification.specs.declared.Layout.{Layout}
 use Rattle.specification.specs.declared.Layout.the-variants.{Good, Bad}
-use Rattle.specification.specs.Drawn.{Drawn, judged, graphContent, graphDrawn, recordDrawn, refusedBy}
+use Rattle.specification.specs.Drawn.{chartRefusal, Drawn, judged, graphContent, graphDrawn, recordDrawn, refusedBy}
 
 module _ (n : ℕ) (ends : List ℕ) (given : Bool) (field : List ℕ) where
-  pub graph-refused : (k : ℕ) → k ≡ refusalOf (graphContent n ends given field) → (k ≡ 0 → ⊥) → graphDrawn n ends given field ≡ refusedBy k
+  pub graph-refused : (k : ℕ) → k ≡ chartRefusal (graphContent n ends given field) → (k ≡ 0 → ⊥)
+      → graphDrawn n ends given field ≡ refusedBy k
   unfolding graphDrawn judged
   graph-refused k e ne = rw (← e) (rw (ne-eqb k 0 ne) refl)
 
-  pub graph-whole : 0 ≡ refusalOf (graphContent n ends given field)
+  pub graph-whole : 0 ≡ chartRefusal (graphContent n ends given field)
       → graphDrawn n ends given field ≡ record { refusal = 0; graph = graphContent n ends given field }
   unfolding graphDrawn judged
   graph-whole e = rw (← e) refl
@@ -21,18 +21,15 @@ module _ (n : ℕ) (ends : List ℕ) (given : Bool) (field : List ℕ) where
 -- ---- by where the fields of the record stand
 
 drawnIn : List ℕ → Layout → Drawn
-drawnIn b l = record {
-  refusal = refusalIn refusalOf b l;
-  graph = choose (eqb (refusalIn refusalOf b l) 0) (λ _. contentIn b l) (λ _. nothing);
-}
+drawnIn b l = judged (refusalIn chartRefusal b l) (contentIn b l)
 
 module _ (b : List ℕ) where
   record-drawn : recordDrawn b ≡ drawnIn b (layoutOf b)
-  unfolding recordDrawn recordRefusal said drawnIn
+  unfolding recordDrawn drawnIn
   record-drawn = refl
 
   pub record-bad : layoutOf b ≡ Bad → recordDrawn b ≡ refusedBy 1
-  unfolding drawnIn
+  unfolding drawnIn judged
   record-bad e = record-drawn ∙ ap (drawnIn b) e
 
   pub record-good : (f : Fields) → layoutOf b ≡ Good f

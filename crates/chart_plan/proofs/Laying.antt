@@ -121,7 +121,7 @@ module _ {n : ℕ} {k : Checked} {e p spans number used column : List ℕ} (x : 
 
   -- ---- channels
 
-  arranged : Arranged n ls (k .channels) p
+  pub arranged : Arranged n ls (k .channels) p
   unfolding channelsOf graphContent
   arranged =
       subst (λ (y : List (List ℕ)). Arranged n y (k .channels) p)

@@ -1,13 +1,18 @@
 -- What planning answers, by what the checks hand over. Assumes nothing.
 use Rattle.counting.proofs.Prelude.{_≡_, refl, sym, ap, _∙_, _≢_, Bool, true, false, true≢false, List, ℕ, _*_, _≤_, _<_, min, arith, leb}
-use Rattle.counting.proofs.Prelude.{length, leb-true, le-leb}
+use Rattle.counting.proofs.Prelude.{length, leb-true, le-leb, lt-ltb, le-ltb}
 use native.Mathlib.Decide.{decLt}
 use Rattle.counting.proofs.Truth.{and-intro, and-elim}
 use Rattle.descent.specs.Promise.{Sized}
-use Rattle.specification.specs.Checks.{refusalOf}
+use Rattle.specification.specs.Limits.{mostLines}
+use Rattle.specification.specs.Checks.{Content, refusalOf}
+use Rattle.specification.specs.Chart.{channelsOf}
+use Rattle.planning.specs.Arranged.{Arranged}
 use Rattle.record.specs.Checked.{Checks}
 use Rattle.record.specs.declared.checks.Checked.{Checked}
-use Rattle.specification.specs.Drawn.{graphContent}
+use Rattle.specification.specs.Drawn.{graphContent, broad?}
+use Rattle.chart_laws.proofs.Broad.{chart-refused, chart-broad, chart-whole}
+use Rattle.chart_plan.proofs.Laying as laying
 use Rattle.chart_plan.specs.Laid.{Lists, lists, Roomy, Plans, unplannedBy}
 use Rattle.chart_plan.specs.Steps.{roomy?, Passed, Filled}
 use Rattle.chart_plan.specs.declared.Plan.{Plan}
@@ -55,6 +60,7 @@ module _ (n : ℕ) (t : Lists) where
         kept = λ h. refl;
         left = λ h. absurd (true≢false (sym (roomy-tested h) ∙ fails));
         tables = λ h. absurd (true≢false (sym (roomy-tested h) ∙ fails));
+        arranged = λ h. absurd (true≢false (sym (roomy-tested h) ∙ fails));
         cleared = λ h. absurd (true≢false (sym (roomy-tested h) ∙ fails));
         places-past = λ i v l h. refl;
         column-past = λ v h. refl;
@@ -83,7 +89,10 @@ stable a b h = go (decLt b a)
 module _ {n : ℕ} {ends : List ℕ} {given : Bool} {field : List ℕ} (t : Lists) (fine : tested n t ≡ true)
     {k : Checked} {e′ b′ t′ l′ p′ : List ℕ}
     (p : Checks n ends given field (t .edges) (t .below) (t .table) (t .longer) (t .places) k e′ b′ t′ l′ p′) where
-  answer : Roomy n t → k .refusal ≡ refusalOf (graphContent n ends given field)
+  abbrev c : Content
+  c = graphContent n ends given field
+
+  answer : Roomy n t → k .refusal ≡ refusalOf c
   unfolding graphContent
   answer r = p .answer (r .masks)
 
@@ -102,13 +111,14 @@ module _ {n : ℕ} {ends : List ℕ} {given : Bool} {field : List ℕ} (t : List
   refused-plan ne r made =
       let same : r .refusal ≡ k .refusal = ap (λ (x : Plan). x .refusal) made in
       record {
-        answer = λ h. same ∙ answer h;
+        answer = λ h. same ∙ answer h ∙ sym (chart-refused c (λ z. ne (answer h ∙ z)));
         short = λ h. let s = p .short (cramped h) in (same ∙ s .0, untouched (s .1, s .2, s .3, s .4, s .5));
         laid = λ z. absurd (ne (sym same ∙ z));
         none = λ h. made ∙ ap unplannedBy (sym same);
         kept = λ h. refl;
         left = λ h. p .left (h .masks);
         tables = λ h. p .tables (h .masks);
+        arranged = λ h z. absurd (ne (answer h ∙ z));
         cleared = λ h e _. p .cleared (h .masks) e ne;
         places-past = p .past;
         column-past = λ v h. refl;
@@ -164,19 +174,61 @@ module _ {n : ℕ} {ends : List ℕ} {given : Bool} {field : List ℕ} (t : List
       };
     }
 
-    pub laid-plan : {r : Plan} {spans′ number′ used′ column′ : List ℕ}
+    -- the chart's channels
+    arranged : Arranged n (channelsOf c) (k .channels) p′
+    unfolding passed
+    arranged = laying.arranged passed
+
+    placed : Arranged n (channelsOf c) (length (channelsOf c)) p′
+    placed = record { counted = refl; channel = arranged .channel; position = arranged .position }
+
+    abbrev count : ℕ
+    count = length (channelsOf c)
+
+    -- there are too many
+    pub broad-plan : mostLines < k .channels → (r : Plan) → r ≡ unplannedBy 11 → Plans n ends given field t r masked
+    unfolding broad?
+    broad-plan l r made =
+        let eleven : r .refusal ≡ 11 = ap (λ (x : Plan). x .refusal) made in
+        record {
+          answer = λ h. eleven ∙ sym (chart-broad c (sym (answer h) ∙ z) (lt-ltb mostLines count (omega (arith, arranged .counted))));
+          short = λ h. absurd (h roomy);
+          laid = λ h. absurd (omega arith);
+          none = λ h. made ∙ ap unplannedBy (sym eleven);
+          kept = λ h. refl;
+          left = λ h. p .left (h .masks);
+          tables = λ h. p .tables (h .masks);
+          arranged = λ h _. placed;
+          cleared = λ h _ ne. absurd (ne (sym (answer h) ∙ z));
+          places-past = p .past;
+          column-past = λ v h. refl;
+          long = record {
+            edges = p .long .0;
+            below = p .long .1;
+            table = p .long .2;
+            longer = p .long .3;
+            places = p .long .4;
+            spans = refl;
+            number = refl;
+            used = refl;
+            column = refl;
+          };
+        }
+
+    pub laid-plan : k .channels ≤ mostLines → {r : Plan} {spans′ number′ used′ column′ : List ℕ}
         → Filled n k e′ p′ (t .spans) (t .number) (t .used) (t .column) r spans′ number′ used′ column′
         → Plans n ends given field t r (lists e′ b′ t′ l′ p′ spans′ number′ used′ column′)
-    unfolding passed
-    laid-plan f = record {
-      answer = λ h. f .refusal ∙ sym z ∙ answer h;
+    unfolding passed broad?
+    laid-plan few f = record {
+      answer = λ h. f .refusal ∙ sym (chart-whole c (sym (answer h) ∙ z) (le-ltb mostLines count (omega (arith, arranged .counted))));
       short = λ h. absurd (h roomy);
       laid = λ _. f .laid passed;
       none = λ h. absurd (h (f .refusal));
       kept = λ h. absurd (h (f .refusal));
       left = λ h. p .left (h .masks);
       tables = λ h. p .tables (h .masks);
-      cleared = λ _ _ h. absurd (h (f .refusal));
+      arranged = λ _ _. placed;
+      cleared = λ h _ ne. absurd (ne (sym (answer h) ∙ z));
       places-past = p .past;
       column-past = f .past;
       long = record {

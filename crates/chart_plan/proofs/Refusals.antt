@@ -1,60 +1,59 @@
--- What is known of a refusal: one of 1 to 7 and nothing, or 8 'short' just where a list is too short for what is accepted. Assumes nothing.
-use Rattle.counting.proofs.Prelude.{_≡_, refl, sym, ap, _∙_, _↔_, ⊎-elim, Bool, true, false, List, ℕ, _≤_, arith, eqb, length, eqb-true}
-use Rattle.counting.proofs.Prelude.{eqb-false, ne-eqb}
+-- What is known of a refusal: one of 1 to 7 or 11 and nothing, or 8 'short' just where a list is too short for what is accepted. Assumes
+-- nothing.
+use Rattle.counting.proofs.Prelude.{_≡_, refl, sym, ap, _∙_, _≢_, _↔_, ⊎-elim, Bool, true, false, List, ℕ, _<_, arith, eqb, length}
+use Rattle.counting.proofs.Prelude.{eqb-true, eqb-false, ne-eqb}
 use Rattle.specification.specs.Count.{choose}
 use Rattle.specification.specs.Checks.{Content, edgesOf, size?, stranger?, double?, ring?, repeated?, unled?, looseChecks}
-use Rattle.specification.specs.Checks.{laterChecks, firstOf, refusalOf, nothing, contentOf, refusalIn, recordRefusal, said}
+use Rattle.specification.specs.Checks.{laterChecks, firstOf, nothing, contentOf, refusalIn}
 use Rattle.specification.specs.Layout.{layoutOf}
 use Rattle.specification.specs.declared.Layout.{Layout}
 use Rattle.specification.specs.declared.Layout.the-variants.{Good, Bad}
 use Rattle.specification.specs.Chart.{planOf}
-use Rattle.specification.specs.Drawn.{Drawn, judged, graphContent, recordDrawn, graphDrawn, short?, lent}
+use Rattle.specification.specs.Drawn.{broad?, chartChecks, chartRefusal, Drawn, judged, graphContent, recordDrawn, graphDrawn, short?}
+use Rattle.specification.specs.Drawn.{lent}
 use Rattle.chart_plan.proofs.Nothing.{empty}
 use Rattle.chart_plan.proofs.Shortage.{lacking, lent-short, lent-whole}
 
--- ---- what is drawn of a graph or a record: one of 1 to 7 and nothing, or 0
+-- ---- what is drawn of a graph or a record: one of 1 to 7 or 11 and nothing, or 0
 
 pub record Sound (d : Drawn) : Type 0 where
   pub quiet : (d .refusal ≡ 0 → ⊥) → d .graph ≡ nothing
-  pub small : d .refusal ≤ 7
+  pub unshort : d .refusal ≢ 8
 
-first-small : (t : Bool) (a b : ℕ) → a ≤ 7 → b ≤ 7 → choose t (λ _. a) (λ _. b) ≤ 7
-first-small true a b h k = h
-first-small false a b h k = k
+either : (t : Bool) (a b : ℕ) → a ≢ 8 → b ≢ 8 → choose t (λ _. a) (λ _. b) ≢ 8
+either true a b h k = h
+either false a b h k = k
 
-refusal-small : (c : Content) → refusalOf c ≤ 7
-unfolding refusalOf looseChecks laterChecks firstOf
-refusal-small c =
-    let seven : choose (unled? c) (λ _. 7) (λ _. 0) ≤ 7 = first-small (unled? c) 7 0 (omega arith) (omega arith) in
-    first-small (size? c) 2 _ (omega arith) (
-    first-small (stranger? c) 3 _ (omega arith) (
-    first-small (double? c) 4 _ (omega arith) (
-    first-small (ring? c) 5 _ (omega arith) (
-    first-small (repeated? c) 6 _ (omega arith) seven))))
+chart-unshort : (c : Content) → chartRefusal c ≢ 8
+unfolding chartRefusal looseChecks laterChecks chartChecks firstOf
+chart-unshort c =
+    either (size? c) 2 _ (λ e. omega arith) (
+    either (stranger? c) 3 _ (λ e. omega arith) (
+    either (double? c) 4 _ (λ e. omega arith) (
+    either (ring? c) 5 _ (λ e. omega arith) (
+    either (repeated? c) 6 _ (λ e. omega arith) (
+    either (unled? c) 7 _ (λ e. omega arith) (
+    either (broad? c) 11 0 (λ e. omega arith) (λ e. omega arith)))))))
 
-record-small : (b : List ℕ) → recordRefusal b ≤ 7
-unfolding recordRefusal
-record-small b = go (layoutOf b)
-  where
-    go : (l : Layout) → refusalIn refusalOf b l ≤ 7
-    go Bad = omega arith
-    go (Good f) = refusal-small (contentOf b f)
-
-said-nothing : (b : List ℕ) → (recordRefusal b ≡ 0 → ⊥) → said b ≡ nothing
-unfolding said
-said-nothing b ne = simp (ne-eqb _ _ ne)
+record-unshort : (b : List ℕ) (l : Layout) → refusalIn chartRefusal b l ≢ 8
+record-unshort b Bad = λ e. omega arith
+record-unshort b (Good f) = chart-unshort (contentOf b f)
 
 judged-nothing : (k : ℕ) (c : Content) → (k ≡ 0 → ⊥) → judged k c .graph ≡ nothing
 unfolding judged
 judged-nothing k c ne = simp (ne-eqb _ _ ne)
 
+pub drawn-sound : (c : Content) → Sound (judged (chartRefusal c) c)
+unfolding judged
+drawn-sound c = record { quiet = judged-nothing _ _; unshort = chart-unshort c }
+
 pub graph-sound : (n : ℕ) (ends : List ℕ) (given : Bool) (field : List ℕ) → Sound (graphDrawn n ends given field)
-unfolding graphDrawn judged
-graph-sound n ends given field = record { quiet = judged-nothing _ _; small = refusal-small (graphContent n ends given field) }
+unfolding graphDrawn
+graph-sound n ends given field = drawn-sound (graphContent n ends given field)
 
 pub record-sound : (b : List ℕ) → Sound (recordDrawn b)
-unfolding recordDrawn
-record-sound b = record { quiet = said-nothing _; small = record-small _ }
+unfolding recordDrawn judged
+record-sound b = record { quiet = judged-nothing _ _; unshort = record-unshort b (layoutOf b) }
 
 -- ---- into lists of given lengths
 
@@ -88,7 +87,18 @@ module _ (d : Drawn) (ok : Sound d) where
       where
         go : (t : Bool) → short? v e b d ≡ t → lent v e b d .refusal ≡ 8 → t ≡ true
         go true h k = refl
-        go false h k = absurd (omega (arith, ok .small, ap (λ (y : Drawn). y .refusal) (sym (lent-whole v e b d h)) ∙ k))
+        go false h k = absurd (ok .unshort (ap (λ (y : Drawn). y .refusal) (sym (lent-whole v e b d h)) ∙ k))
 
     pub lent-eight : (lent v e b d .refusal ≡ 8) ↔ ((d .refusal ≡ 0) × (short? v e b d ≡ true))
     lent-eight = ((λ k. (short-accepted (eight-short k), eight-short k)), (λ h. ap (λ (y : Drawn). y .refusal) (lent-short v e b d (h .1))))
+
+    -- any other refusal is as it was, whatever the lengths
+    pub lent-refused : (k : ℕ) → 0 < k → k ≢ 8 → (lent v e b d .refusal ≡ k) ↔ (d .refusal ≡ k)
+    lent-refused k l ne = go (short? v e b d) refl
+      where
+        go : (t : Bool) → short? v e b d ≡ t → (lent v e b d .refusal ≡ k) ↔ (d .refusal ≡ k)
+        go true h = (
+          (λ q. absurd (ne (sym q ∙ ap (λ (y : Drawn). y .refusal) (lent-short v e b d h)))),
+          λ q. absurd (omega (arith, short-accepted h)),
+        )
+        go false h = let same = ap (λ (y : Drawn). y .refusal) (lent-whole v e b d h) in ((λ q. sym same ∙ q), λ q. same ∙ q)

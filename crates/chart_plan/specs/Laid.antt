@@ -12,8 +12,8 @@ use Rattle.specification.specs.Graph.{tailsOf, headsOf}
 use Rattle.specification.specs.Channels.{channelOf, positionOf}
 use Rattle.specification.specs.Checks.{Content, refusalOf, Sound}
 use Rattle.specification.specs.Marks.{transitive?}
-use Rattle.specification.specs.Chart.{leads?, rowOf, rowCount, descendantsOf, planOf, tracksIn, columnIn, widthOf}
-use Rattle.specification.specs.Drawn.{graphContent}
+use Rattle.specification.specs.Chart.{leads?, channelsOf, rowOf, rowCount, descendantsOf, planOf, tracksIn, columnIn, widthOf}
+use Rattle.specification.specs.Drawn.{graphContent, chartRefusal}
 use Rattle.specification.specs.Lent.{Untouched}
 use Rattle.descent.specs.Promise.{edgesRefusal, Sized, Left}
 use Rattle.planning.specs.Arranged.{Arranged}
@@ -100,10 +100,11 @@ pub record Long (t s : Lists) : Type 0 where
   pub column : length (s .column) ≡ length (t .column)
 
 -- the first check that fails, or 0 and what is planned; 8, and nothing changed, where a list has no room. What the lists of masks hold, and
--- the rows and counts of the places, goes by the refusal of the edges alone. After a refusal the other lists are as they were, and where
--- the edges are not refused no vertex has a channel, both numbers of each being 0. The places and columns past the vertices always stay
+-- the rows and counts of the places, goes by the refusal of the edges alone, and channels and positions by that of the graph: where it
+-- passes they are the chart's, broad or not, and where only its given channels are refused no vertex has any, both numbers of each being
+-- 0. After a refusal the other lists are as they were. The places and columns past the vertices always stay
 pub record Plans (n : ℕ) (ends : List ℕ) (given : Bool) (field : List ℕ) (t : Lists) (p : Plan) (s : Lists) : Type 0 where
-  pub answer : Roomy n t → p .refusal ≡ refusalOf (graphContent n ends given field)
+  pub answer : Roomy n t → p .refusal ≡ chartRefusal (graphContent n ends given field)
   pub short : (Roomy n t → ⊥) → (p .refusal ≡ 8) × Untouched t s
   pub laid : p .refusal ≡ 0 → Laid (graphContent n ends given field) p s
   pub none : p .refusal ≢ 0 → p ≡ unplannedBy (p .refusal)
@@ -114,7 +115,10 @@ pub record Plans (n : ℕ) (ends : List ℕ) (given : Bool) (field : List ℕ) (
       (s .edges) (s .below) (s .table) (s .longer) (s .places)
   pub tables : Roomy n t → edgesRefusal n (tailsOf ends) (headsOf ends) ≡ 0
       → Tables n ends (t .below) (s .edges) (s .below) (s .table) (s .longer) (s .places)
-  pub cleared : Roomy n t → edgesRefusal n (tailsOf ends) (headsOf ends) ≡ 0 → p .refusal ≢ 0 → Arranged n [] 0 (s .places)
+  pub arranged : Roomy n t → refusalOf (graphContent n ends given field) ≡ 0
+      → Arranged n (channelsOf (graphContent n ends given field)) (length (channelsOf (graphContent n ends given field))) (s .places)
+  pub cleared : Roomy n t → edgesRefusal n (tailsOf ends) (headsOf ends) ≡ 0 → refusalOf (graphContent n ends given field) ≢ 0
+      → Arranged n [] 0 (s .places)
   pub places-past : (k v : ℕ) → k < 4 → n ≤ v → quad k (s .places) v ≡ quad k (t .places) v
   pub column-past : (v : ℕ) → n ≤ v → getD (s .column) v 0 ≡ getD (t .column) v 0
   pub long : Long t s

@@ -13,8 +13,11 @@ use columns::columns_of;
 use record::checks::Checked;
 use record::checks::check;
 
-// The most vertices, and channels.
+// The most vertices.
 const MOST: usize = 128;
+
+// The most channels of a chart.
+const MOST_LINES: u8 = 31;
 
 // Why a graph is refused, or 0; how many rows, channels and bundles it has, and the columns of all channels.
 pub struct Plan {
@@ -100,11 +103,11 @@ fn filled<'e, 's, 'n, 'u, 'c>(
 }
 
 // What is planned of n vertices, the edges whose ends are bytes, tail and head in turn, and the given channels in the bytes of their
-// field, if there are any; or the number of the first check that fails, of 2 to 7. `below` gets the sets of vertices by row, `longer` the
-// pairs with a vertex between; `places` four bytes a vertex: its channel, its position there, its row and how many vertices it reaches;
-// `spans` four bytes a bundle: its channel, its first row, its last row and its track; `number` the bundle of the edges into each vertex and
-// of those out of it, in turn; `used` how many tracks each channel has, and `column` the column of each vertex. 8, and nothing changed,
-// where a list has no room.
+// field, if there are any; or the number of the first check that fails, of 2 to 7, or 11 where there are too many channels. `below` gets
+// the sets of vertices by row, `longer` the pairs with a vertex between; `places` four bytes a vertex: its channel, its position there, its
+// row and how many vertices it reaches; `spans` four bytes a bundle: its channel, its first row, its last row and its track; `number` the
+// bundle of the edges into each vertex and of those out of it, in turn; `used` how many tracks each channel has, and `column` the column of
+// each vertex. 8, and nothing changed, where a list has no room.
 pub fn planned<'a, 'f, 'e, 'b, 't, 'l, 'p, 's, 'n, 'u, 'c>(
     n: usize,
     ends: &'a [u8],
@@ -134,6 +137,9 @@ pub fn planned<'a, 'f, 'e, 'b, 't, 'l, 'p, 's, 'n, 'u, 'c>(
     let k = check(n, ends, given, field, edges, below, table, longer, places);
     if k.refusal != 0 {
         return unplanned(k.refusal);
+    }
+    if MOST_LINES < k.channels {
+        return unplanned(11);
     }
     filled(n, k, edges, places, spans, number, used, column)
 }

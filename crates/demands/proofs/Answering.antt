@@ -1,26 +1,25 @@
--- The number that is answered is that of the first check that fails. Assumes nothing.
+-- The number that is answered of a graph is that of the first check that fails, with 'broad' before 'short'. Assumes nothing.
 use Rattle.counting.proofs.Prelude.{_≡_, refl, sym, ap, _∙_, subst, _↔_, _≢_, _⊎_, inl, inr, ⊎-elim, Bool, true, false, true≢false}
-use Rattle.counting.proofs.Prelude.{List, ℕ, _≤_, _<_, arith}
-use Rattle.counting.proofs.Truth.{true-or-false}
-use Rattle.specification.specs.Limits.{mostVertices, mostEdges, mostBundles}
-use Rattle.specification.specs.Layout.{layoutOf}
-use Rattle.specification.specs.declared.Fields.{Fields}
-use Rattle.specification.specs.declared.Layout.{Layout}
-use Rattle.specification.specs.declared.Layout.the-variants.{Good, Bad}
+use Rattle.counting.proofs.Prelude.{ℕ, _≤_, _<_, arith, length, eq-eqb, ltb-false, List·getD-eq-default}
+use native.Mathlib.Decide.{ℕ-discrete}
+use Rattle.counting.proofs.Truth.{true-or-false, lt-or-le}
+use Rattle.specification.specs.Limits.{mostVertices, mostEdges, mostBundles, mostLines}
 use Rattle.specification.specs.Checks.{Content, size?, stranger?, double?, ring?, repeated?, unled?, looseChecks, laterChecks}
-use Rattle.specification.specs.Checks.{firstOf, refusalOf, contentOf, refusalIn, recordRefusal, said, Sized, Distinct, Acyclic, Once, Led}
-use Rattle.specification.specs.Checks.{Sound, SoundRecord}
-use Rattle.specification.specs.Drawn.{Drawn, recordDrawn, short?}
+use Rattle.specification.specs.Checks.{firstOf, refusalOf, Sized, Distinct, Acyclic, Once, Led, Sound}
+use Rattle.specification.specs.Chart.{channelsOf, planOf, tracksIn}
+use Rattle.specification.specs.Drawn.{broad?, chartRefusal, Drawn, judged, short?, lent, Summary}
 use Rattle.specification.specs.declared.ChartCounts.{ChartCounts}
-use Rattle.record.proofs.Soundness.{size-says, stranger-says, double-says, ring-says, cover-says, led-says, record-sound}
-use Rattle.chart_laws.proofs.Bundling.{bundles-256}
-use Rattle.chart_plan.proofs.Refusals.{lent-eight, record-sound as record-quiet}
-use Rattle.chart_plan.proofs.Shortage.{lent-short, lent-whole}
-use Rattle.demands.specs.Demands.{Entries, Roomy}
-use Rattle.demands.specs.Refusals.{Known, Fails, Answered}
+use Rattle.record.proofs.Soundness.{size-says, stranger-says, double-says, ring-says, cover-says, led-says, sound-accepted}
+use Rattle.chart_laws.proofs.Broad.{too-many, broad-so, chart-refused, chart-broad, chart-whole}
+use Rattle.chart_laws.proofs.Bundling.{bundles-256, plan-channels, tracks-past}
+use Rattle.chart_plan.proofs.Nothing.{empty}
+use Rattle.chart_plan.proofs.Refusals.{lent-quiet, lent-eight, lent-refused, drawn-sound}
+use Rattle.chart_plan.proofs.Refusals as plan
+use Rattle.demands.specs.Demands.{Entries, Faithful, Roomy, seen, Smallest, Carried}
+use Rattle.demands.specs.Refusals.{Known, Fails, Broad, Answered, Told, Narrow}
 use Rattle.demands.specs.Refusals.Fails.{size, stranger, double, ring, cover, broken}
-use Rattle.demands.specs.Refusals.Answered.{accepted, layout, graph, short}
-use Rattle.demands.proofs.Accepting.{Handed, roomy, roomy-enough, said-accepted, said-fields}
+use Rattle.demands.specs.Refusals.Answered.{accepted, failed, broad, short}
+use Rattle.demands.proofs.Accepting.{Handed, roomy, roomy-enough, call-accepted, call-summary, call-faithful, call-smallest}
 
 -- ---- a test that says P where it is false
 
@@ -32,7 +31,7 @@ next : (t : Bool) {P A : Type 0} → (t ≡ false) ↔ P → ((P → ⊥) → A)
 next true d f g = f (λ p. true≢false (d .1 p))
 next false d f g = g (d .0 refl)
 
--- ---- of a graph
+-- ---- a graph is sound, or a check is the first that fails
 
 module _ (c : Content) where
   pub sound-parts : Sound c ↔ (Sized c × Known c × Distinct c × Acyclic c × Once c × Led c)
@@ -41,9 +40,8 @@ module _ (c : Content) where
     λ p. record { size = p .0; ends = p .1 .0; named = p .1 .1; distinct = p .2; acyclic = p .3; once = p .4; led = p .5 },
   )
 
-  -- sound, or a check is the first that fails
-  judged : Sound c ⊎ ((k : ℕ) × Fails c k)
-  judged =
+  first : Sound c ⊎ ((k : ℕ) × Fails c k)
+  first =
       next (size? c) (size-says c) (λ n. inr (2, size n)) λ z.
       next (stranger? c) (stranger-says c) (λ n. inr (3, stranger z n)) λ k.
       next (double? c) (double-says c) (λ n. inr (4, double z k n)) λ d.
@@ -52,109 +50,182 @@ module _ (c : Content) where
       next (unled? c) (led-says c z k) (λ n. inr (7, broken z k d a o n)) λ l.
       inl (sound-parts .1 (z, k, d, a, o, l))
 
-  fails-number : {k : ℕ} → Fails c k → (refusalOf c ≡ k) × (0 < k)
+  fails-number : {k : ℕ} → Fails c k → (refusalOf c ≡ k) × (0 < k) × (k < 8)
   unfolding refusalOf firstOf looseChecks laterChecks
-  fails-number (size n) = (rw (failing (size? c) (size-says c) n) refl, omega arith)
-  fails-number (stranger z n) = (rw (size-says c .1 z, failing (stranger? c) (stranger-says c) n) refl, omega arith)
-  fails-number (double z k n) = (rw (size-says c .1 z, stranger-says c .1 k, failing (double? c) (double-says c) n) refl, omega arith)
-  fails-number (ring z k d n) =
-      (rw (size-says c .1 z, stranger-says c .1 k, double-says c .1 d, failing (ring? c) (ring-says c z k) n) refl, omega arith)
+  fails-number (size n) = (rw (failing (size? c) (size-says c) n) refl, omega arith, omega arith)
+  fails-number (stranger z n) = (rw (size-says c .1 z, failing (stranger? c) (stranger-says c) n) refl, omega arith, omega arith)
+  fails-number (double z k n) =
+      (rw (size-says c .1 z, stranger-says c .1 k, failing (double? c) (double-says c) n) refl, omega arith, omega arith)
+  fails-number (ring z k d n) = (
+    rw (size-says c .1 z, stranger-says c .1 k, double-says c .1 d, failing (ring? c) (ring-says c z k) n) refl,
+    omega arith,
+    omega arith,
+  )
   fails-number (cover z k d a n) = (
     rw (size-says c .1 z, stranger-says c .1 k, double-says c .1 d, ring-says c z k .1 a)
         (rw (failing (repeated? c) (cover-says c) n) refl),
+    omega arith,
     omega arith,
   )
   fails-number (broken z k d a o n) = (
     rw (size-says c .1 z, stranger-says c .1 k, double-says c .1 d, ring-says c z k .1 a, cover-says c .1 o)
         (rw (failing (unled? c) (led-says c z k) n) refl),
     omega arith,
+    omega arith,
   )
 
--- ---- of bytes
+-- ---- what the numbers say
 
-module _ (b : List ℕ) where
-  bad-layout : ((f : Fields) → layoutOf b ≡ Good f → ⊥) → recordRefusal b ≡ 1
-  unfolding recordRefusal
-  bad-layout n = go (layoutOf b) refl
-    where
-      go : (l : Layout) → layoutOf b ≡ l → refusalIn refusalOf b l ≡ 1
-      go Bad p = refl
-      go (Good f) p = absurd (n f p)
+module _ {c : Content} {room : Content → Type 0} where
+  pub accepted-is : {i : ℕ} → Answered c room i → i ≡ 0 → Sound c × (Broad c → ⊥) × room c
+  accepted-is (accepted s n m) q = (s, n, m)
+  accepted-is (failed f) q = absurd (omega (arith, fails-number c f .1))
+  accepted-is (broad s b) q = absurd (omega arith)
+  accepted-is (short s n m) q = absurd (omega arith)
 
-  good-layout : (f : Fields) → layoutOf b ≡ Good f → recordRefusal b ≡ refusalOf (contentOf b f)
-  unfolding recordRefusal
-  good-layout f p = ap (refusalIn refusalOf b) p
+  pub broad-is : {i : ℕ} → Answered c room i → i ≡ 11 → Sound c × Broad c
+  broad-is (accepted s n m) q = absurd (omega arith)
+  broad-is (failed f) q = absurd (omega (arith, fails-number c f .2))
+  broad-is (broad s b) q = (s, b)
+  broad-is (short s n m) q = absurd (omega arith)
 
-  bad-not-good : (f : Fields) → layoutOf b ≡ Bad → layoutOf b ≡ Good f → ⊥
-  bad-not-good f p q = let z : _≡_ {A = ℕ} 1 0 = ap (refusalIn (λ _. 0) b) (sym p ∙ q) in omega arith
+  pub short-is : {i : ℕ} → Answered c room i → i ≡ 8 → Sound c × (Broad c → ⊥) × (room c → ⊥)
+  short-is (accepted s n m) q = absurd (omega arith)
+  short-is (failed f) q = absurd (omega (arith, fails-number c f .2))
+  short-is (broad s b) q = absurd (omega arith)
+  short-is (short s n m) q = (s, n, m)
 
--- ---- of a call
+-- lists for the most vertices, edges and bundles have room for every chart
+pub roomy-most : (c : Content) → Sound c → (v e k : ℕ) → mostVertices ≤ v → mostEdges ≤ e → mostBundles ≤ k → Roomy c v e k
+roomy-most c s v e k hv he hk = record {
+  vertices = omega (arith, s .size .1);
+  edges = omega (arith, s .size .2);
+  bundles = omega (arith, bundles-256 c s);
+}
 
-module _ (v e k : ℕ) (b : List ℕ) (r : ChartCounts) (n : Entries) (h : Handed v e k (recordDrawn b) r n) where
-  abbrev room : Type 0
-  room = Roomy (said b) v e k
+-- ---- no more lines than a chart may have
 
-  -- what is refused for itself is answered so, whatever room there is
-  refused-so : (i : ℕ) → recordRefusal b ≡ i → 0 < i → r .refusal ≡ i
-  unfolding recordDrawn
-  refused-so i p l = ⊎-elim
-      (λ t.
-      let eight = ap (λ (x : Drawn). x .refusal) (lent-short v e k (recordDrawn b) t) in
-      let z : recordRefusal b ≡ 0 = lent-eight (recordDrawn b) (record-quiet b) v e k .0 eight .0 in
-      absurd (omega arith))
-      (λ t. h .refusal ∙ ap (λ (x : Drawn). x .refusal) (lent-whole v e k (recordDrawn b) t) ∙ p)
-      (true-or-false (short? v e k (recordDrawn b)))
+thin : (c : Content) (r : ChartCounts) → Summary c (planOf c) r → length (planOf c .channels) ≤ mostLines
+    → ((l : ℕ) → mostLines ≤ l → l < mostVertices → tracksIn (planOf c) l ≡ 0) → Narrow r
+thin c r q few past = record {
+  lines = omega (arith, q .lines);
+  side-columns = λ l m. ⊎-elim
+      (λ h. q .side-columns l h ∙ past l m h)
+      (λ h. List·getD-eq-default (r .«side_columns») 0 (omega (arith, q .long)))
+      (lt-or-le l mostVertices);
+  long = q .long;
+}
 
-  lacks : (room → ⊥) → short? v e k (recordDrawn b) ≡ true
-  unfolding recordDrawn
-  lacks ne = ⊎-elim (λ t. t) (λ t. absurd (ne (roomy v e k (recordDrawn b) t))) (true-or-false (short? v e k (recordDrawn b)))
+module _ (v e k : ℕ) (d : Drawn) (ok : plan.Sound d) (r : ChartCounts) (n : Entries) (h : Handed v e k d r n) where
+  -- after a refusal there are none
+  pub refused-narrow : (r .refusal ≡ 0 → ⊥) → Narrow r
+  refused-narrow ne =
+      let none = lent-quiet d ok v e k (λ z. ne (h .refusal ∙ z)) in
+      thin _ r (h .summary) (omega (arith, ap (λ (c : Content). length (planOf c .channels)) none, empty .channels))
+      (λ l m b. ap (λ (c : Content). tracksIn (planOf c) l) none ∙ empty .tracks l b)
 
-  number : {i : ℕ} → Answered b room i → r .refusal ≡ i
-  unfolding recordDrawn
-  number (accepted s m) = said-accepted v e k b r n h .1 (s, m)
-  number (layout ne) = refused-so 1 (bad-layout b ne) (omega arith)
-  number (graph f p q) = let x = fails-number (contentOf b f) q in refused-so _ (good-layout b f p ∙ x .0) (x .1)
-  number (short s ne) = h .refusal ∙ lent-eight (recordDrawn b) (record-quiet b) v e k .1 (record-sound b .1 s, lacks ne)
+-- ---- what is drawn of a graph
 
-  roomed : SoundRecord b → (i : ℕ) × Answered b room i
-  unfolding recordDrawn
-  roomed s = ⊎-elim
-      (λ t. (8, short s (λ m. true≢false (sym t ∙ roomy-enough v e k (recordDrawn b) m))))
-      (λ t. (0, accepted s (roomy v e k (recordDrawn b) t)))
-      (true-or-false (short? v e k (recordDrawn b)))
+module _ (c : Content) where
+  -- by the count of our channels
+  pub broad-decided : Sound c → (broad? c ≡ true) ↔ Broad c
+  broad-decided s = (too-many c s, broad-so c s)
 
-  found : (i : ℕ) × Answered b room i
-  found = go (layoutOf b) refl
-    where
-      go : (l : Layout) → layoutOf b ≡ l → (i : ℕ) × Answered b room i
-      go Bad p = (1, layout (λ f q. bad-not-good b f p q))
-      go (Good f) p = ⊎-elim (λ s. roomed (f, p, s)) (λ w. (w .0, graph f p (w .1))) (judged (contentOf b f))
+  whole-number : Sound c → (Broad c → ⊥) → chartRefusal c ≡ 0
+  whole-number s ne =
+      chart-whole c (sound-accepted c s)
+      (⊎-elim (λ t. absurd (ne (broad-decided s .0 t))) (λ t. t) (true-or-false (broad? c)))
 
-  pub said-answered : (i : ℕ) → (r .refusal ≡ i) ↔ Answered b room i
-  said-answered i = ((λ p. let w = found in subst (Answered b room) (sym (number (w .1)) ∙ p) (w .1)), number)
+  broad-number : Sound c → Broad c → chartRefusal c ≡ 11
+  broad-number s b = chart-broad c (sound-accepted c s) (broad-decided s .1 b)
 
--- ---- lists for the most vertices, edges and bundles have room for every chart
+  failed-number : {k : ℕ} → Fails c k → (chartRefusal c ≡ k) × (0 < k) × (k < 8)
+  failed-number f =
+      let n = fails-number c f in
+      let refused : refusalOf c ≡ 0 → ⊥ = λ z. omega (arith, n .0, n .1) in
+      (chart-refused c refused ∙ n .0, n .1, n .2)
 
-most-room : (c : Content) → Sound c → Roomy c mostVertices mostEdges mostBundles
-most-room c s = record { vertices = s .size .1; edges = s .size .2; bundles = bundles-256 c s }
+  abbrev drawn : Drawn
+  drawn = judged (chartRefusal c) c
 
-below-eight : {c : Content} {k : ℕ} → Fails c k → k < 8
-below-eight (size n) = omega arith
-below-eight (stranger z n) = omega arith
-below-eight (double z k n) = omega arith
-below-eight (ring z k d n) = omega arith
-below-eight (cover z k d a n) = omega arith
-below-eight (broken z k d a o n) = omega arith
+  drawn-graph : chartRefusal c ≡ 0 → drawn .graph ≡ c
+  unfolding judged
+  drawn-graph z = rw (eq-eqb _ _ z) refl
 
-pub never-short : (b : List ℕ) (v e k : ℕ) → mostVertices ≤ v → mostEdges ≤ e → mostBundles ≤ k
-    → {i : ℕ} → Answered b (Roomy (said b) v e k) i → i ≢ 8
-never-short b v e k hv he hk (accepted s m) = λ p. omega arith
-never-short b v e k hv he hk (layout ne) = λ p. omega arith
-never-short b v e k hv he hk (graph f p q) = λ p. let l = below-eight q in omega arith
-never-short b v e k hv he hk (short s ne) =
-    let m = most-room (said b) (subst Sound (sym (said-fields b s)) (s .2)) in
-    λ p. ne (record {
-      vertices = omega (arith, m .vertices);
-      edges = omega (arith, m .edges);
-      bundles = omega (arith, m .bundles);
-    })
+  module _ (v e k : ℕ) (r : ChartCounts) (n : Entries) (h : Handed v e k drawn r n) where
+    abbrev room : Content → Type 0
+    room x = Roomy x v e k
+
+    ok : plan.Sound drawn
+    ok = drawn-sound c
+
+    lacks : chartRefusal c ≡ 0 → (room c → ⊥) → short? v e k drawn ≡ true
+    lacks z ne =
+        ⊎-elim (λ t. t) (λ t. absurd (ne (subst room (drawn-graph z) (roomy v e k drawn t)))) (true-or-false (short? v e k drawn))
+
+    number : {i : ℕ} → Answered c room i → r .refusal ≡ i
+    unfolding judged
+    number (accepted s b m) =
+        let z = whole-number s b in call-accepted v e k drawn r n h .1 (z, subst room (sym (drawn-graph z)) m)
+    number (failed f) =
+        let x = failed-number f in h .refusal ∙ lent-refused drawn ok v e k _ (x .1) (λ q. omega (arith, x .2)) .1 (x .0)
+    number (broad s b) = h .refusal ∙ lent-refused drawn ok v e k 11 (omega arith) (λ q. omega arith) .1 (broad-number s b)
+    number (short s b m) = let z = whole-number s b in h .refusal ∙ lent-eight drawn ok v e k .1 (z, lacks z m)
+
+    fitted : Sound c → (Broad c → ⊥) → (i : ℕ) × Answered c room i
+    fitted s b =
+        let z = whole-number s b in ⊎-elim
+        (λ t. (8, short s b (λ m. true≢false (sym t ∙ roomy-enough v e k drawn (subst room (sym (drawn-graph z)) m)))))
+        (λ t. (0, accepted s b (subst room (drawn-graph z) (roomy v e k drawn t))))
+        (true-or-false (short? v e k drawn))
+
+    found : (i : ℕ) × Answered c room i
+    found = ⊎-elim
+        (λ s. ⊎-elim
+        (λ t. (11, broad s (broad-decided s .0 t)))
+        (λ t. fitted s (λ b. true≢false (sym (broad-decided s .1 b) ∙ t)))
+        (true-or-false (broad? c)))
+        (λ w. (w .0, failed (w .1)))
+        (first c)
+
+    pub graph-answered : (i : ℕ) → (r .refusal ≡ i) ↔ Answered c room i
+    graph-answered i = ((λ p. let w = found in subst (Answered c room) (sym (number (w .1)) ∙ p) (w .1)), number)
+
+    pub graph-told : Told (Sound c) (Broad c) (room c) (r .refusal)
+    graph-told = record {
+      accepted-exactly = ((λ z. accepted-is (graph-answered 0 .0 z) refl), λ q. number (accepted (q .0) (q .1) (q .2)));
+      broad-exactly = ((λ z. broad-is (graph-answered 11 .0 z) refl), λ q. number (broad (q .0) (q .1)));
+      short-exactly = ((λ z. short-is (graph-answered 8 .0 z) refl), λ q. number (short (q .0) (q .1) (q .2)));
+    }
+
+    -- what is accepted is drawn whole
+    module _ (z : r .refusal ≡ 0) where
+      shown : Sound c × (Broad c → ⊥) × room c
+      shown = graph-told .accepted-exactly .0 z
+
+      whole : drawn .graph ≡ c
+      whole = drawn-graph (whole-number (shown .0) (shown .1))
+
+      pub graph-clear : Faithful c n
+      graph-clear = call-faithful v e k drawn r n h z c whole (shown .0)
+
+      pub graph-least : Smallest c (seen c r n) × Carried c (seen c r n) r
+      graph-least = call-smallest v e k drawn r n h z c whole (shown .0)
+
+      few : length (channelsOf c) ≤ mostLines
+      unfolding broad?
+      few = ⊎-elim (λ t. absurd (shown .1 (broad-decided (shown .0) .0 t))) (ltb-false mostLines (length (channelsOf c)))
+          (true-or-false (broad? c))
+
+      accepted-narrow : Narrow r
+      accepted-narrow =
+          let s = shown .0 in
+          thin c r (call-summary v e k drawn r n h z c whole s)
+          (omega (arith, ap length (plan-channels c s), few)) (λ l m b. tracks-past c s l (omega (arith, few)))
+
+    pub graph-narrow : Narrow r
+    graph-narrow = go (ℕ-discrete (r .refusal) 0)
+      where
+        go : Dec (r .refusal ≡ 0) → Narrow r
+        go (yes z) = accepted-narrow z
+        go (no ne) = refused-narrow v e k drawn ok r n h ne

@@ -1,7 +1,8 @@
 -- THE DEMANDS, proved of the chart that the definitions give of every sound graph, and of what every call leaves. Of a call nothing is
 -- asked but its promise. The statements are in specs/Demands.antt and specs/Refusals.antt, and in specification's specs/Lawful.antt.
 -- Assumes nothing.
-use Rattle.counting.proofs.Prelude.{_≡_, refl, _≢_, _↔_, Bool, true, false, List, ℕ, _/_, _≤_, _<_, arith, length}
+use Rattle.counting.proofs.Prelude.{_≡_, sym, subst, _≢_, _↔_, Bool, true, false, List, ℕ, _/_, _≤_, _<_, arith, length, ltb-true, lt-ltb}
+use Rattle.specification.specs.Limits.{mostLines}
 use Rattle.specification.specs.Channels.{givenLines}
 use Rattle.specification.specs.Given.{Whole}
 use Rattle.specification.specs.Writing.{written, Writable}
@@ -11,11 +12,11 @@ use Rattle.specification.specs.Chart.{channelsOf, planOf, rowCount, reducedEdge
 use Rattle.specification.specs.declared.VertexEntry.{VertexEntry}
 use Rattle.specification.specs.declared.EdgeEntry.{EdgeEntry}
 use Rattle.specification.specs.declared.BundleEntry.{BundleEntry}
-use Rattle.specification.specs.Drawn.{recordDrawn, graphContent, graphDrawn}
+use Rattle.specification.specs.Drawn.{broad?, chartRefusal, judged, recordDrawn, graphContent, graphDrawn, lent}
 use Rattle.chart_plan.proofs.Refusals.{record-sound, graph-sound}
 use Rattle.chart_entries.specs.Promise.{HandedOver}
 use Rattle.chart_entries.proofs.Refusals.{refused-untouched, Refused}
-use Rattle.chart_numbers.specs.Chart.{HandedFlat}
+use Rattle.chart_numbers.specs.Chart.{Left, HandedFlat}
 use Rattle.ceviloneth.proofs.Refusing as flat
 use Rattle.ceviloneth.specs.State.{stateNumbers}
 use Rattle.ceviloneth.specs.Calls.{LentCall, LentAnswer, Calls, Life, Lived, Short}
@@ -23,13 +24,15 @@ use Rattle.ceviloneth.proofs.Sequences.{every-life, every-short}
 use Rattle.demands.specs.Demands.{Entries, entriesIn, entriesOf, oursOf, seen, Faithful, Roomy, Ample, unlined, Smallest, Counted}
 use Rattle.demands.specs.Demands.{Carried}
 use Rattle.demands.specs.Numbers.{entriesFrom}
-use Rattle.demands.specs.Refusals.{Known, Answered}
+use Rattle.demands.specs.Refusals.{Known, Broad, Answered, AnsweredRecord, Told, Narrow}
 use Rattle.demands.proofs.Agreeing.{defined-shown, ours-agrees}
 use Rattle.demands.proofs.Least.{agreed-smallest, agreed-counted}
 use Rattle.demands.proofs.Showing.{shown-faithful}
-use Rattle.demands.proofs.Accepting.{said-fields, said-accepted, said-clear, said-least, graph-accepted, graph-clear, graph-least}
+use Rattle.demands.proofs.Accepting.{Handed}
+use Rattle.demands.proofs.Answering as answering
+use Rattle.demands.proofs.Answering.{sound-parts, broad-decided, roomy-most}
+use Rattle.demands.proofs.Records.{said-fields, said-answered, said-told, said-narrow, said-clear, said-least}
 use Rattle.demands.proofs.Handing.{handed-lists, handed-numbers}
-use Rattle.demands.proofs.Answering.{sound-parts, said-answered, never-short}
 use Rattle.demands.proofs.Unlined.{empty-as-none}
 use Rattle.specification.specs.declared.ChartCounts.{ChartCounts}
 
@@ -58,6 +61,14 @@ pub bare-whole : (c : Content) → c .given ≡ false → (part : ℕ → ℕ) �
 unfolding givenLines
 bare-whole c g part = rw g (none-whole (c .vertices) part)
 
+-- a broad graph is one whose every division that has the given channels whole has more than 31 parts, and ours is one of them: the count of
+-- our channels tells it (13.1)
+pub broad-exactly : (c : Content) → Sound c → Broad c ↔ (mostLines < length (channelsOf c))
+unfolding broad?
+broad-exactly c s =
+    let d = broad-decided c s in
+    ((λ b. ltb-true mostLines (length (channelsOf c)) (d .1 b)), λ l. d .0 (lt-ltb mostLines (length (channelsOf c)) l))
+
 -- ---- every call: the lists vs, es and bs are lent, r is the answer, and vs′, es′ and bs′ are the lists afterwards
 
 module _ (vs vs′ : List VertexEntry) (es es′ : List EdgeEntry) (bs bs′ : List BundleEntry) (r : ChartCounts) where
@@ -65,23 +76,38 @@ module _ (vs vs′ : List VertexEntry) (es es′ : List EdgeEntry) (bs bs′ : L
   abbrev entries : Entries
   entries = entriesIn vs′ es′ bs′
 
+  -- every list has room
+  abbrev listsRoom : Content → Type 0
+  listsRoom c = Roomy c (length vs) (length es) (length bs)
+
   -- of a record b
   module _ (b : List ℕ) (h : HandedOver (recordDrawn b) vs es bs r vs′ es′ bs′) where
-    -- accepted are the sound records with room in every list (15.2)
-    pub record-accepted-exactly : (r .refusal ≡ 0) ↔ (SoundRecord b × Roomy (said b) (length vs) (length es) (length bs))
-    record-accepted-exactly = said-accepted _ _ _ b r entries (handed-lists _ vs vs′ es es′ bs bs′ r h)
+    abbrev of-record : Handed (length vs) (length es) (length bs) (recordDrawn b) r entries
+    of-record = handed-lists _ vs vs′ es es′ bs bs′ r h
+
+    -- 0, 11 and 8, each exactly where it is so (13.1, 15.2)
+    pub record-told : Told (SoundRecord b) (Broad (said b)) (listsRoom (said b)) (r .refusal)
+    record-told = said-told b _ _ _ r entries of-record
+
+    -- and every number, exactly where its check is the first that fails (13.1)
+    pub record-answered-exactly : (k : ℕ) → (r .refusal ≡ k) ↔ AnsweredRecord b listsRoom k
+    record-answered-exactly = said-answered b _ _ _ r entries of-record
 
     -- a refusal changes no list, and every count is 0 then (9.3)
     pub record-refused : (r .refusal ≡ 0 → ⊥) → Refused vs es bs r vs′ es′ bs′
     record-refused = refused-untouched (recordDrawn b) (record-sound b) vs vs′ es es′ bs bs′ r h
 
+    -- no more than 31 lines (9.1)
+    pub record-narrow : Narrow r
+    record-narrow = said-narrow b _ _ _ r entries of-record
+
     -- the entries, by 15.3
     pub record-faithful : r .refusal ≡ 0 → Faithful (said b) entries
-    record-faithful = said-clear _ _ _ b r entries (handed-lists _ vs vs′ es es′ bs bs′ r h)
+    record-faithful = said-clear b _ _ _ r entries of-record
 
     -- the entries, by 10.4 and 10.5
     pub record-smallest : r .refusal ≡ 0 → Smallest (said b) (seen (said b) r entries) × Carried (said b) (seen (said b) r entries) r
-    record-smallest = said-least _ _ _ b r entries (handed-lists _ vs vs′ es es′ bs bs′ r h)
+    record-smallest = said-least b _ _ _ r entries of-record
 
   -- of a graph: n vertices, the bytes of the edges' ends, and the bytes of the given channels, if any are given
   module _ (n : ℕ) (ends : List ℕ) (given : Bool) (field : List ℕ)
@@ -89,55 +115,103 @@ module _ (vs vs′ : List VertexEntry) (es es′ : List EdgeEntry) (bs bs′ : L
     abbrev c : Content
     c = graphContent n ends given field
 
-    pub graph-accepted-exactly : (r .refusal ≡ 0) ↔ (Sound c × Roomy c (length vs) (length es) (length bs))
-    graph-accepted-exactly = graph-accepted _ _ _ n ends given field r entries (handed-lists _ vs vs′ es es′ bs bs′ r h)
+    of-graph : Handed (length vs) (length es) (length bs) (judged (chartRefusal c) c) r entries
+    unfolding graphDrawn
+    of-graph = handed-lists _ vs vs′ es es′ bs bs′ r h
+
+    pub graph-told : Told (Sound c) (Broad c) (listsRoom c) (r .refusal)
+    graph-told = answering.graph-told c _ _ _ r entries of-graph
+
+    pub graph-answered-exactly : (k : ℕ) → (r .refusal ≡ k) ↔ Answered c listsRoom k
+    graph-answered-exactly = answering.graph-answered c _ _ _ r entries of-graph
 
     pub graph-refused : (r .refusal ≡ 0 → ⊥) → Refused vs es bs r vs′ es′ bs′
     graph-refused = refused-untouched (graphDrawn n ends given field) (graph-sound n ends given field) vs vs′ es es′ bs bs′ r h
 
+    pub graph-narrow : Narrow r
+    graph-narrow = answering.graph-narrow c _ _ _ r entries of-graph
+
     pub graph-faithful : r .refusal ≡ 0 → Faithful c entries
-    graph-faithful = graph-clear _ _ _ n ends given field r entries (handed-lists _ vs vs′ es es′ bs bs′ r h)
+    graph-faithful = answering.graph-clear c _ _ _ r entries of-graph
 
     pub graph-smallest : r .refusal ≡ 0 → Smallest c (seen c r entries) × Carried c (seen c r entries) r
-    graph-smallest = graph-least _ _ _ n ends given field r entries (handed-lists _ vs vs′ es es′ bs bs′ r h)
+    graph-smallest = answering.graph-least c _ _ _ r entries of-graph
 
--- ---- the exported call of a record b, `ceviloneth_chart`: the lists ws, es and bs of numbers are lent, and ws′, es′ and bs′ are these
--- afterwards
+-- ---- the calls on numbers: the lists ws, es and bs of numbers are lent, and ws′, es′ and bs′ are these afterwards
 
-module _ (b ws ws′ es es′ bs bs′ : List ℕ) (r : ChartCounts) (h : HandedFlat b ws es bs r ws′ es′ bs′) where
+module _ (ws ws′ es es′ bs bs′ : List ℕ) (r : ChartCounts) where
   -- every list has room, five numbers a vertex or edge and four a bundle
-  abbrev room : Type 0
-  room = Roomy (said b) (length ws / 5) (length es / 5) (length bs / 4)
+  abbrev room : Content → Type 0
+  room c = Roomy c (length ws / 5) (length es / 5) (length bs / 4)
 
   -- what the caller reads then
   abbrev read : Entries
   read = entriesFrom ws′ es′ bs′
 
-  -- accepted are the sound records with room in every list (15.2)
-  pub exported-accepted-exactly : (r .refusal ≡ 0) ↔ (SoundRecord b × room)
-  exported-accepted-exactly = said-accepted _ _ _ b r read (handed-numbers b ws ws′ es es′ bs bs′ r h)
+  -- the exported call of a record b, `ceviloneth_chart`
+  module _ (b : List ℕ) (h : HandedFlat b ws es bs r ws′ es′ bs′) where
+    abbrev exported : Handed (length ws / 5) (length es / 5) (length bs / 4) (recordDrawn b) r read
+    exported = handed-numbers (recordDrawn b) ws ws′ es es′ bs bs′ r h
 
-  -- and every number is answered exactly where its check is the first that fails (13.1)
-  pub exported-answered-exactly : (k : ℕ) → (r .refusal ≡ k) ↔ Answered b room k
-  exported-answered-exactly = said-answered _ _ _ b r read (handed-numbers b ws ws′ es es′ bs bs′ r h)
+    -- accepted are the sound records that are not broad, with room in every list (15.2); 11 and 8 are answered exactly where it is so
+    pub exported-told : Told (SoundRecord b) (Broad (said b)) (room (said b)) (r .refusal)
+    exported-told = said-told b _ _ _ r read exported
 
-  -- lists of the lengths that the header names hold every chart: 8 is not answered
-  pub exported-never-short : Ample ws es bs → r .refusal ≢ 8
-  exported-never-short m p =
-      never-short b _ _ _ (omega (arith, m .words)) (omega (arith, m .arrows)) (omega (arith, m .bundles))
-      (exported-answered-exactly 8 .0 p) refl
+    -- and every number is answered exactly where its check is the first that fails (13.1)
+    pub exported-answered-exactly : (k : ℕ) → (r .refusal ≡ k) ↔ AnsweredRecord b room k
+    exported-answered-exactly = said-answered b _ _ _ r read exported
 
-  -- a refusal changes no list, and every count is 0 then (9.3)
-  pub exported-refused : (r .refusal ≡ 0 → ⊥) → flat.Refused ws es bs r ws′ es′ bs′
-  exported-refused = flat.refused-untouched b ws ws′ es es′ bs bs′ r h
+    -- lists of the lengths that the header names hold every chart: 8 is not answered
+    pub exported-never-short : Ample ws es bs → r .refusal ≢ 8
+    exported-never-short m p =
+        let q = exported-told .short-exactly .0 p in
+        q .2 (subst room (sym (said-fields b (q .0))) (roomy-most _ (q .0 .2) _ _ _ (omega (arith, m .words)) (omega (arith, m .arrows))
+        (omega (arith, m .bundles))))
 
-  -- the numbers, by 15.3
-  pub exported-faithful : r .refusal ≡ 0 → Faithful (said b) read
-  exported-faithful = said-clear _ _ _ b r read (handed-numbers b ws ws′ es es′ bs bs′ r h)
+    -- a refusal changes no list, and every count is 0 then (9.3)
+    pub exported-refused : (r .refusal ≡ 0 → ⊥) → flat.Refused ws es bs r ws′ es′ bs′
+    exported-refused = flat.refused-untouched (recordDrawn b) (record-sound b) ws ws′ es es′ bs bs′ r h
 
-  -- the numbers, by 10.4 and 10.5
-  pub exported-smallest : r .refusal ≡ 0 → Smallest (said b) (seen (said b) r read) × Carried (said b) (seen (said b) r read) r
-  exported-smallest = said-least _ _ _ b r read (handed-numbers b ws ws′ es es′ bs bs′ r h)
+    -- whatever is answered, there are no more than 31 lines, and the side columns of others are 0 (9.1)
+    pub exported-narrow : Narrow r
+    exported-narrow = said-narrow b _ _ _ r read exported
+
+    -- the numbers, by 15.3
+    pub exported-faithful : r .refusal ≡ 0 → Faithful (said b) read
+    exported-faithful = said-clear b _ _ _ r read exported
+
+    -- the numbers, by 10.4 and 10.5
+    pub exported-smallest : r .refusal ≡ 0 → Smallest (said b) (seen (said b) r read) × Carried (said b) (seen (said b) r read) r
+    exported-smallest = said-least b _ _ _ r read exported
+
+  -- the same of a graph, `chart_numbers::of_graph`
+  module _ (n : ℕ) (ends : List ℕ) (given : Bool) (field : List ℕ)
+      (h : Left (lent (length ws / 5) (length es / 5) (length bs / 4) (graphDrawn n ends given field)) ws es bs r ws′ es′ bs′) where
+    abbrev drawn : Content
+    drawn = graphContent n ends given field
+
+    numbers : Handed (length ws / 5) (length es / 5) (length bs / 4) (judged (chartRefusal drawn) drawn) r read
+    unfolding graphDrawn
+    numbers = handed-numbers (graphDrawn n ends given field) ws ws′ es es′ bs bs′ r h
+
+    pub numbers-told : Told (Sound drawn) (Broad drawn) (room drawn) (r .refusal)
+    numbers-told = answering.graph-told drawn _ _ _ r read numbers
+
+    pub numbers-answered-exactly : (k : ℕ) → (r .refusal ≡ k) ↔ Answered drawn room k
+    numbers-answered-exactly = answering.graph-answered drawn _ _ _ r read numbers
+
+    pub numbers-refused : (r .refusal ≡ 0 → ⊥) → flat.Refused ws es bs r ws′ es′ bs′
+    numbers-refused =
+        flat.refused-untouched (graphDrawn n ends given field) (graph-sound n ends given field) ws ws′ es es′ bs bs′ r h
+
+    pub numbers-narrow : Narrow r
+    numbers-narrow = answering.graph-narrow drawn _ _ _ r read numbers
+
+    pub numbers-faithful : r .refusal ≡ 0 → Faithful drawn read
+    numbers-faithful = answering.graph-clear drawn _ _ _ r read numbers
+
+    pub numbers-smallest : r .refusal ≡ 0 → Smallest drawn (seen drawn r read) × Carried drawn (seen drawn r read) r
+    numbers-smallest = answering.graph-least drawn _ _ _ r read numbers
 
 -- ---- the exported calls of a session in a lent list, `ceviloneth_session_start`, `_add` and `_leads`: calls cs in any order, each by a
 -- result that meets its promise, answer out, and is is the list was afterwards

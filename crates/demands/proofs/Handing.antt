@@ -4,7 +4,7 @@ use lib.Arith.{digits-lt, digits-div, digits-mod}
 use Rattle.specification.specs.Count.{indicator}
 use Rattle.specification.specs.Checks.{Content, edgesOf}
 use Rattle.specification.specs.Chart.{planOf, vertexEntry, edgeEntry, bundleEntry}
-use Rattle.specification.specs.Drawn.{Drawn, recordDrawn}
+use Rattle.specification.specs.Drawn.{Drawn, lent}
 use Rattle.specification.specs.Lent.{Filled}
 use Rattle.specification.specs.Numbers.{codeOf, wordNumber, arrowNumber, bundleNumber}
 use Rattle.specification.specs.declared.VertexEntry.{VertexEntry}
@@ -14,7 +14,7 @@ use Rattle.specification.specs.declared.ChartCounts.{ChartCounts}
 use Rattle.kinds.specs.Codes.{kindOf}
 use Rattle.kinds.proofs.Coding.{kind-coded}
 use Rattle.chart_entries.specs.Promise.{HandedOver}
-use Rattle.chart_numbers.specs.Chart.{Numbered, HandedFlat}
+use Rattle.chart_numbers.specs.Chart.{Numbered, Left}
 use Rattle.ceviloneth.proofs.Sequences.{mark-back}
 use Rattle.demands.specs.Demands.{entriesIn}
 use Rattle.demands.specs.Numbers.{numberAt, vertexFrom, edgeFrom, bundleFrom, entriesFrom}
@@ -81,9 +81,10 @@ module _ (c : Content) (ws ws′ es es′ bs bs′ : List ℕ) (r : ChartCounts)
         (number-made 4 (length (planOf c .bundles)) (λ b. bundleNumber (bundleEntry (planOf c) b)) bs bs′ (h .bundle-list) b l);
   }
 
-pub handed-numbers : (b ws ws′ es es′ bs bs′ : List ℕ) (r : ChartCounts) → HandedFlat b ws es bs r ws′ es′ bs′
-    → Handed (length ws / 5) (length es / 5) (length bs / 4) (recordDrawn b) r (entriesFrom ws′ es′ bs′)
-handed-numbers b ws ws′ es es′ bs bs′ r h = record {
+pub handed-numbers : (d : Drawn) (ws ws′ es es′ bs bs′ : List ℕ) (r : ChartCounts)
+    → Left (lent (length ws / 5) (length es / 5) (length bs / 4) d) ws es bs r ws′ es′ bs′
+    → Handed (length ws / 5) (length es / 5) (length bs / 4) d r (entriesFrom ws′ es′ bs′)
+handed-numbers d ws ws′ es es′ bs bs′ r h = record {
   refusal = h .refusal;
   summary = h .numbered .summary;
   shown = numbers-shown _ ws ws′ es es′ bs bs′ r (h .numbered);

@@ -1,5 +1,5 @@
 -- What agrees with our chart is lawful, has its counts, and no lawful chart has fewer. Assumes nothing.
-use Rattle.counting.proofs.Prelude.{_≡_, refl, sym, ap, _∙_, _↔_, _⊎_, inl, inr, ⊎-elim, _≢_, true, ℕ, _≤_, _<_, arith, eqb, length}
+use Rattle.counting.proofs.Prelude.{_≡_, refl, sym, ap, _∙_, _↔_, _≢_, true, ℕ, _≤_, _<_, arith, eqb, length}
 use Rattle.counting.proofs.Sums.{sum-ext, count-ext}
 use Rattle.specification.specs.Graph.{Reaches}
 use Rattle.specification.specs.Given.{Whole}
@@ -8,18 +8,17 @@ use Rattle.specification.specs.Marks.{Linked, linkCount, reducedLink}
 use Rattle.specification.specs.Tracks.{differentIn}
 use Rattle.specification.specs.Chart.{leads?, tailOf, headOf, rowOf, rowCount, reducedEdges, Plan, channelsOf, planOf, bundleIn, trackIn}
 use Rattle.specification.specs.Chart.{tracksIn}
-use Rattle.matching.specs.Division.{Division}
 use Rattle.counting.proofs.Above.{above-ext}
 use Rattle.reduction.proofs.Transitive.{reaches-map}
 use Rattle.tracks.specs.Order.{Apart, Among}
 use Rattle.tracks.proofs.FirstFit.{row-meet, meet-row, meet-fact}
 use Rattle.tracks.proofs.Different.{different-ext}
-use Rattle.chart_laws.proofs.Leading.{leads-decided}
 use Rattle.chart_laws.proofs.Channels.{channels-divide, channel-below, lines-below, channels-whole, channels-least}
+use Rattle.chart_laws.proofs.Broad.{division-decided}
 use Rattle.chart_laws.proofs.Rows.{edge-rises, row-count, rows-fewest}
 use Rattle.chart_laws.proofs.Marks.{chart-links, chart-links-least, chart-links-count}
 use Rattle.chart_laws.proofs.Bundling.{bundle-channel, bundle-ordered, plan-packed, tracks-different}
-use Rattle.specification.specs.Lawful.{Chart, ShareRow, Lawful, rowsOf, linksOf, sideColumns, SameBundles}
+use Rattle.specification.specs.Lawful.{Chart, ShareRow, Divided, Lawful, rowsOf, linksOf, sideColumns, SameBundles}
 use Rattle.demands.specs.Demands.{Smallest, Counted}
 use Rattle.demands.proofs.Agreeing.{Agrees}
 
@@ -41,13 +40,6 @@ module _ (c : Content) (s : Sound c) where
 
   abbrev last : ℕ → ℕ
   last b = bundleIn p b .last
-
-  -- what leads where, by the table
-  by-table : (u v : ℕ) → Leads c u v ⊎ Leads c v u → (leads? c u v ≡ true) ⊎ (leads? c v u ≡ true)
-  by-table u v = ⊎-elim (λ r. inl (leads-decided c s u v .1 r)) (λ r. inr (leads-decided c s v u .1 r))
-
-  from-table : (u v : ℕ) → (leads? c u v ≡ true) ⊎ (leads? c v u ≡ true) → Leads c u v ⊎ Leads c v u
-  from-table u v = ⊎-elim (λ r. inl (leads-decided c s u v .0 r)) (λ r. inr (leads-decided c s v u .0 r))
 
   module _ (x : Chart) (a : Agrees c x) where
     within : (b : ℕ) → b < x .bundles → b < k
@@ -74,12 +66,18 @@ module _ (c : Content) (s : Sound c) where
         (omega (arith, a .first j kj), omega (arith, a .last j kj)))
         (sym (a .side i ki) ∙ t ∙ a .side j kj)
 
+    agreed-division : Divided c (x .parts) (x .part)
+    agreed-division =
+        let d = division-decided c s _ _ .1 (channels-divide c s .division) in
+        record {
+          below = λ v l. omega (arith, a .part v l, a .parts, channel-below c s v l);
+          related = λ u v hu hv ne e. d .related u v hu hv ne (sym (a .part u hu) ∙ e ∙ a .part v hv);
+        }
+
     pub agreed-lawful : Lawful c x
     agreed-lawful = record {
       rises = λ e l. let b = s .ends e l in omega (arith, a .row (tailOf c e) (b .0), a .row (headOf c e) (b .1), edge-rises c s e l);
-      divided = λ v l. omega (arith, a .part v l, a .parts, channel-below c s v l);
-      related =
-          λ u v hu hv ne e. from-table u v (channels-divide c s .division .related u v hu hv ne (sym (a .part u hu) ∙ e ∙ a .part v hv));
+      division = agreed-division;
       descent = agreed-descent;
       lined = λ b l. omega (arith, a .line b (within b l), a .parts, bundle-channel c s b (within b l));
       apart = agreed-apart;
@@ -124,9 +122,6 @@ module _ (c : Content) (s : Sound c) where
     -- ---- none has fewer
 
     module _ (y : Chart) (h : Lawful c y) where
-      other-division : Division (leads? c) n (y .parts) (y .part)
-      other-division = record { below = h .divided; related = λ u v hu hv ne e. by-table u v (h .related u v hu hv ne e) }
-
       module _ (same : SameBundles c x y) where
         -- bundles of the other begin no higher than they end, since ours do
         other-ordered : (b : ℕ) → b < y .bundles → y .first b ≤ y .last b
@@ -180,7 +175,7 @@ module _ (c : Content) (s : Sound c) where
       filled = λ l h. let u = channels-divide c s .used l (omega (arith, a .parts)) in (u .0, u .1, a .part (u .0) (u .1) ∙ u .2);
       rows = λ y h. omega (arith, rows-counted, rows-fewest c s (y .row) (h .rises));
       whole = agreed-whole;
-      lines = λ y h w. omega (arith, a .parts, channels-least c s (y .parts) (y .part) (other-division y h) w);
+      lines = λ y h w. omega (arith, a .parts, channels-least c s (y .parts) (y .part) (division-decided c s _ _ .0 (h .division)) w);
       links = λ y h. omega (arith, links-counted, chart-links-least c s (y .link) (h .descent));
       sides = λ y h lines rows same i j v hv e f. omega (arith, fewest-sides y h same i j v hv e f);
     }

@@ -5,12 +5,12 @@ use mathlib.Core.List.{map, flatten}
 use Rattle.specification.specs.Count.{choose}
 use Rattle.specification.specs.Channels.{linesOf, givenLines, every, unknown?, repeats?, broken?}
 use Rattle.specification.specs.Checks.{Content, content, edgesOf, size?, stranger?, double?, ring?, repeated?, unled?, looseChecks}
-use Rattle.specification.specs.Checks.{laterChecks, firstOf, refusalOf, contentOf, contentIn, refusalIn, recordRefusal, said, nothing}
+use Rattle.specification.specs.Checks.{laterChecks, firstOf, contentOf, contentIn, refusalIn, nothing}
 use Rattle.specification.specs.declared.Layout.{Layout}
 use Rattle.specification.specs.Writing.{Draft, lineBytes, channelField, field, written, Writable, fieldsOf}
 use Rattle.specification.specs.Chart.{leads?, descendantsOf, rowOf, rowCount, transitiveEdge?, reducedEdges, Plan, channelsOf, bundled}
 use Rattle.specification.specs.Chart.{planOf, kindBetween, vertexEntry, edgeEntry}
-use Rattle.specification.specs.Drawn.{judged, recordDrawn, short?, refusedBy, lent}
+use Rattle.specification.specs.Drawn.{broad?, chartChecks, chartRefusal, judged, recordDrawn, short?, refusedBy, lent}
 use Rattle.specification.specs.declared.ChartCounts.{ChartCounts}
 use Rattle.specification.proofs.Written.{written-length, written-reads-back}
 use Rattle.chart_numbers.specs.Chart.{Numbered, Left, HandedFlat}
@@ -78,8 +78,9 @@ module _ (n : ℕ) (tails heads : List ℕ) (g h : Bool) (f k : List ℕ) (same 
 -- ---- no given channel: no check of them fails
 
 module _ (n : ℕ) (tails heads f k : List ℕ) (none : linesOf f ≡ []) where
-  empty-refusal : refusalOf (content n tails heads true f) ≡ refusalOf (content n tails heads false k)
-  unfolding refusalOf firstOf looseChecks laterChecks size? stranger? double? ring? repeated? unled? unknown? repeats? broken? every flatten
+  empty-refusal : chartRefusal (content n tails heads true f) ≡ chartRefusal (content n tails heads false k)
+  unfolding chartRefusal firstOf looseChecks laterChecks chartChecks size? stranger? double? ring? repeated? unled? broad? unknown?
+      repeats? broken? every flatten channelsOf leads? givenLines
   empty-refusal = rw none refl
 
 -- ---- records
@@ -93,13 +94,10 @@ module _ (x : Draft) (w : Writable x) where
   meant = contentOf (written x) (fieldsOf x)
 
   -- what is drawn of a record that is written
-  drawn-written : recordDrawn (written x) ≡ judged (refusalOf meant) meant
-  unfolding recordDrawn judged recordRefusal said
+  drawn-written : recordDrawn (written x) ≡ judged (chartRefusal meant) meant
+  unfolding recordDrawn
   drawn-written =
-      ap (λ (l : Layout). record {
-        refusal = refusalIn refusalOf (written x) l;
-        graph = choose (eqb (refusalIn refusalOf (written x) l) 0) (λ _. contentIn (written x) l) (λ _. nothing);
-      }) (written-reads-back x w .laid)
+      ap (λ (l : Layout). judged (refusalIn chartRefusal (written x) l) (contentIn (written x) l)) (written-reads-back x w .laid)
 
   meant-is : meant ≡ content (x .vertices) (map (λ e. e .0) (x .edges)) (map (λ e. e .1) (x .edges)) (x .given) (meant .field)
   meant-is = let r = written-reads-back x w in same-content meant _ _ _ _ (r .vertices) (r .tails) (r .heads) (r .given)
@@ -127,18 +125,18 @@ module _ (n : ℕ) (edges : List (ℕ × ℕ)) (w : Writable (unlined n edges tr
   fieldIn g = contentOf (written (unlined n edges g)) (fieldsOf (unlined n edges g)) .field
 
   abbrev number : ℕ
-  number = refusalOf (content n tails heads true (fieldIn true))
+  number = chartRefusal (content n tails heads true (fieldIn true))
 
   no-lines : linesOf (fieldIn true) ≡ []
   no-lines = written-reads-back (unlined n edges true) w .channels
 
   drawn-empty : recordDrawn (written (unlined n edges true)) ≡ judged number (content n tails heads true (fieldIn true))
-  drawn-empty = drawn-written (unlined n edges true) w ∙ ap (λ c. judged (refusalOf c) c) (meant-is (unlined n edges true) w)
+  drawn-empty = drawn-written (unlined n edges true) w ∙ ap (λ c. judged (chartRefusal c) c) (meant-is (unlined n edges true) w)
 
   drawn-bare : recordDrawn (written (unlined n edges false)) ≡ judged number (content n tails heads false (fieldIn false))
   drawn-bare =
       drawn-written (unlined n edges false) bare-writable
-      ∙ ap (λ c. judged (refusalOf c) c) (meant-is (unlined n edges false) bare-writable)
+      ∙ ap (λ c. judged (chartRefusal c) c) (meant-is (unlined n edges false) bare-writable)
       ∙ ap (λ k. judged k (content n tails heads false (fieldIn false)))
       (sym (empty-refusal n tails heads (fieldIn true) (fieldIn false) no-lines))
 

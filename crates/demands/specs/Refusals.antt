@@ -1,11 +1,18 @@
--- The number that bytes are answered with is that of the first check that fails (SPECIFICATION.md, 13.1). Assumes nothing.
+-- The number that is answered is that of the first check that fails (SPECIFICATION.md, 13.1). Assumes nothing.
 use mathlib.Core.Path.{_≡_}
+use mathlib.Core.Logic.{_↔_}
 use mathlib.Core.List.{List}
-use Prim.Native.Nat.{ℕ}
+use Prim.Native.Nat.{ℕ, _≤_, _<_}
+use lib.ListN.{length, getD}
+use Rattle.specification.specs.Limits.{mostVertices, mostLines}
 use Rattle.specification.specs.Layout.{layoutOf}
 use Rattle.specification.specs.declared.Fields.{Fields}
 use Rattle.specification.specs.declared.Layout.the-variants.{Good}
-use Rattle.specification.specs.Checks.{Content, contentOf, Sized, EndsKnown, GivenKnown, Distinct, Acyclic, Once, Led, SoundRecord}
+use Rattle.specification.specs.Checks.{Content, contentOf, Sized, EndsKnown, GivenKnown, Distinct, Acyclic, Once, Led, Sound}
+use Rattle.specification.specs.Checks.{givenOf}
+use Rattle.specification.specs.Lawful.{Divided}
+use Rattle.specification.specs.Given.{Whole}
+use Rattle.specification.specs.declared.ChartCounts.{ChartCounts}
 
 -- not 3, of edges and of given channels
 abbrev pub Known : Content → Type 0
@@ -22,9 +29,33 @@ pub data Fails (c : Content) : ℕ → Type 0 where
   cover : Sized c → Known c → Distinct c → Acyclic c → (Once c → ⊥) → Fails c 6
   broken : Sized c → Known c → Distinct c → Acyclic c → Once c → (Led c → ⊥) → Fails c 7
 
--- of bytes, into lists of which `room` says that they have room: 0 where none fails
-pub data Answered (b : List ℕ) (room : Type 0) : ℕ → Type 0 where
-  accepted : SoundRecord b → room → Answered b room 0
-  layout : ((f : Fields) → layoutOf b ≡ Good f → ⊥) → Answered b room 1
-  graph : {k : ℕ} (f : Fields) → layoutOf b ≡ Good f → Fails (contentOf b f) k → Answered b room k
-  short : SoundRecord b → (room → ⊥) → Answered b room 8
+-- 11: every division of the graph that has its given channels whole has more parts than a chart may have lines. A part may be empty, which
+-- makes no difference
+abbrev pub Broad : Content → Type 0
+Broad c = (parts : ℕ) (part : ℕ → ℕ) → Divided c parts part → Whole (c .vertices) (givenOf c) part → mostLines < parts
+
+-- of a graph that is to be drawn into lists of which `room` says whether they have room for it: 0 where none fails
+pub data Answered (c : Content) (room : Content → Type 0) : ℕ → Type 0 where
+  accepted : Sound c → (Broad c → ⊥) → room c → Answered c room 0
+  failed : {k : ℕ} → Fails c k → Answered c room k
+  broad : Sound c → Broad c → Answered c room 11
+  short : Sound c → (Broad c → ⊥) → (room c → ⊥) → Answered c room 8
+
+-- of a record's bytes
+pub data AnsweredRecord (b : List ℕ) (room : Content → Type 0) : ℕ → Type 0 where
+  layout : ((f : Fields) → layoutOf b ≡ Good f → ⊥) → AnsweredRecord b room 1
+  graph : {k : ℕ} (f : Fields) → layoutOf b ≡ Good f → Answered (contentOf b f) room k → AnsweredRecord b room k
+
+-- ---- the numbers that say whether a chart can be shown
+
+-- 0, 11 'broad' and 8 'short' are each answered exactly where the graph or record is sound and this is so
+pub record Told (sound broad room : Type 0) (answer : ℕ) : Type 0 where
+  pub accepted-exactly : (answer ≡ 0) ↔ (sound × (broad → ⊥) × room)
+  pub broad-exactly : (answer ≡ 11) ↔ (sound × broad)
+  pub short-exactly : (answer ≡ 8) ↔ (sound × (broad → ⊥) × (room → ⊥))
+
+-- whatever is answered: no more lines than a chart may have, and of the 128 numbers of side columns those past that are 0
+pub record Narrow (r : ChartCounts) : Type 0 where
+  pub lines : r .lines ≤ mostLines
+  pub side-columns : (l : ℕ) → mostLines ≤ l → getD (r .«side_columns») l 0 ≡ 0
+  pub long : length (r .«side_columns») ≡ mostVertices

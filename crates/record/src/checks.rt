@@ -1,4 +1,4 @@
-// The checks 2 to 7 of a graph with given channels, in their order (SPECIFICATION.md, 13.1): the one place that refuses.
+// The checks 2 to 7 of a graph with given channels, in their order (SPECIFICATION.md, 13.1): the one place that refuses a graph.
 ghost use mathlib.Core.Path.{_≡_};
 ghost use mathlib.Core.Bool.{_&&_};
 ghost use lib.Dec.{leb};

@@ -1,16 +1,33 @@
 -- What a call draws into lists of given lengths (SPECIFICATION.md, 9 and 13). Assumes nothing.
 use mathlib.Core.Path.{_≡_}
 use mathlib.Core.Bool.{Bool, _||_}
-use mathlib.Core.List.{List}
+use mathlib.Core.List.{List, [], _∷_}
 use Prim.Native.Nat.{ℕ, _<_}
 use lib.Dec.{eqb, ltb}
 use lib.ListN.{length, getD}
-use Rattle.specification.specs.Limits.{mostVertices}
+use Rattle.specification.specs.Limits.{mostVertices, mostLines}
 use Rattle.specification.specs.Count.{choose}
 use Rattle.specification.specs.Graph.{tailsOf, headsOf}
-use Rattle.specification.specs.Checks.{Content, content, edgesOf, refusalOf, nothing, recordRefusal, said}
-use Rattle.specification.specs.Chart.{Plan, planOf, rowCount, reducedEdges, widthOf, tracksIn}
+use Rattle.specification.specs.Layout.{layoutOf}
+use Rattle.specification.specs.Checks.{Content, content, edgesOf, Check, check, looseChecks, laterChecks, firstOf, nothing, refusalIn}
+use Rattle.specification.specs.Checks.{contentIn}
+use Rattle.specification.specs.Chart.{Plan, channelsOf, planOf, rowCount, reducedEdges, widthOf, tracksIn}
 use Rattle.specification.specs.declared.ChartCounts.{ChartCounts}
+
+-- ---- 11 'broad'
+
+-- there are more channels than a chart may have
+unfoldable pub broad? : Content → Bool
+broad? c = ltb mostLines (length (channelsOf c))
+
+-- what is asked of a graph that is to be drawn, after what is asked of every graph
+unfoldable pub chartChecks : List Check
+chartChecks = check 11 broad? ∷ []
+
+unfoldable pub chartRefusal : Content → ℕ
+chartRefusal c = firstOf looseChecks c (firstOf laterChecks c (firstOf chartChecks c 0))
+
+-- ---- what is drawn, of a record or of a graph
 
 pub record Drawn : Type 0 where
   pub refusal : ℕ
@@ -21,14 +38,14 @@ unfoldable pub judged : ℕ → Content → Drawn
 judged k c = record { refusal = k; graph = choose (eqb k 0) (λ _. c) (λ _. nothing) }
 
 unfoldable pub recordDrawn : List ℕ → Drawn
-recordDrawn b = record { refusal = recordRefusal b; graph = said b }
+recordDrawn b = judged (refusalIn chartRefusal b (layoutOf b)) (contentIn b (layoutOf b))
 
 -- a neutral graph: so many vertices, the bytes of its edges' ends, two an edge, and the bytes of its given channels, if any are given
 unfoldable pub graphContent : ℕ → List ℕ → Bool → List ℕ → Content
 graphContent n ends given field = content n (tailsOf ends) (headsOf ends) given field
 
 unfoldable pub graphDrawn : ℕ → List ℕ → Bool → List ℕ → Drawn
-graphDrawn n ends given field = judged (refusalOf (graphContent n ends given field)) (graphContent n ends given field)
+graphDrawn n ends given field = judged (chartRefusal (graphContent n ends given field)) (graphContent n ends given field)
 
 -- ---- 8 'short'
 

@@ -32,13 +32,17 @@ pub record Chart : Type 0 where
 abbrev pub ShareRow : Chart → ℕ → ℕ → Type 0
 ShareRow x a b = (r : ℕ) × (x .first a ≤ r) × (r ≤ x .last a) × (x .first b ≤ r) × (r ≤ x .last b)
 
+-- a division into so many parts: every vertex is in one of them, and of two in the same part one reaches the other. A part may be empty
+pub record Divided (c : Content) (parts : ℕ) (part : ℕ → ℕ) : Type 0 where
+  pub below : (v : ℕ) → v < c .vertices → part v < parts
+  pub related : (u v : ℕ) → u < c .vertices → v < c .vertices → u ≢ v → part u ≡ part v → Leads c u v ⊎ Leads c v u
+
 -- the five rules (10.1)
 pub record Lawful (c : Content) (x : Chart) : Type 0 where
   -- the head of every edge is in a higher row than its tail
   pub rises : (e : ℕ) → e < edgesOf c → x .row (tailOf c e) < x .row (headOf c e)
-  -- every vertex is in a part, and of two in the same part one reaches the other
-  pub divided : (v : ℕ) → v < c .vertices → x .part v < x .parts
-  pub related : (u v : ℕ) → u < c .vertices → v < c .vertices → u ≢ v → x .part u ≡ x .part v → Leads c u v ⊎ Leads c v u
+  -- the parts are a division
+  pub division : Divided c (x .parts) (x .part)
   -- links have the reachability of the edges
   pub descent : (u v : ℕ) → Reaches (Linked (c .vertices) (x .link)) u v ↔ Leads c u v
   -- every bundle has a part

@@ -8,8 +8,7 @@ use lib.ListN.{length}
 use Rattle.specification.specs.Limits.{mostVertices}
 use Rattle.specification.specs.Count.{choose}
 use Rattle.counting.specs.Quads.{quad}
-use Rattle.specification.specs.Checks.{refusalOf}
-use Rattle.specification.specs.Drawn.{graphContent, graphDrawn, lent}
+use Rattle.specification.specs.Drawn.{chartRefusal, graphContent, graphDrawn, lent}
 use Rattle.chart_plan.specs.Laid.{lists, Laid}
 use Rattle.chart_plan.specs.declared.Plan.{Plan}
 use Rattle.prefixes.specs.Prefixes.{lastSet, Prefixes}
@@ -24,7 +23,7 @@ module _ (n : ℕ) (ends : List ℕ) (p : Plan) (below longer places spans numbe
   pub record Planned (given : Bool) (field : List ℕ) : Type 0 where
     pub edges : List ℕ
     pub table : List ℕ
-    pub answer : p .refusal ≡ refusalOf (graphContent n ends given field)
+    pub answer : p .refusal ≡ chartRefusal (graphContent n ends given field)
     pub laid : p .refusal ≡ 0 → Laid (graphContent n ends given field) p (lists edges below table longer places spans number used column)
 
   -- .. of some graph with these ends, there are 128 side columns, and there is room for the sets left of channels

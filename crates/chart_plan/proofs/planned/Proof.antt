@@ -1,6 +1,6 @@
-use Rattle.counting.proofs.Prelude.{not-true, not-false, needs}
+use Rattle.counting.proofs.Prelude.{not-true, not-false, arith, needs}
 use Rattle.chart_plan.specs.Laid.{Lists, lists}
-use Rattle.chart_plan.proofs.Planning.{tested-so, cramped-plan, refused-plan, passed, laid-plan}
+use Rattle.chart_plan.proofs.Planning.{tested-so, cramped-plan, refused-plan, passed, broad-plan, laid-plan}
 use Rattle.chart_plan.proofs.planned.Statement.{statement}
 use Rattle.chart_plan.proofs.planned.Tie as tie
 
@@ -14,8 +14,8 @@ check-of c = c .before .before .before .before .before .before .before .before .
 abbrev else1-of : tie.After-check → tie.Else1
 else1-of c = c .before .before .before .before .before .before
 
-abbrev else2-of : tie.After-filled-arg6 → tie.Else2
-else2-of c = c .before .before .before .before .before .before
+abbrev else3-of : tie.After-filled-arg6 → tie.Else3
+else3-of c = c .before .before .before .before .before .before
 
 returns : tie.Need-returns
 returns c =
@@ -36,24 +36,36 @@ returns-2 c =
     let fine = tested-so (a .n) t (capped .capped .ensures) (room .is-roomy .ensures) (not-false _ (cut .if1 .left)) in
     refused-plan t fine (k .check .ensures) (if2 .if2 .taken) _ (c .unplanned2 .ensures)
 
+returns-3 : tie.Need-returns-3
+returns-3 c =
+    let if3 = c .before in let past = if3 .before .before in let k = check-of past in
+    let cut = else1-of k in let room = cut .before in let capped = room .before in
+    let a = start-of capped .args in
+    let t : Lists = lists (a .edges .now) (a .below .now) (a .table .now) (a .longer .now) (a .places .now) (a .spans .now) (a .number .now)
+    (a .used .now) (a .column .now) in
+    let fine = tested-so (a .n) t (capped .capped .ensures) (room .is-roomy .ensures) (not-false _ (cut .if1 .left)) in
+    broad-plan t fine (k .check .ensures) (past .if2 .left) (omega (arith, if3 .if3 .taken)) _ (c .unplanned3 .ensures)
+
 filled-requires : tie.Need-filled-requires
 filled-requires c κs =
-    let past = else2-of c in let k = check-of past in let cut = else1-of k in let room = cut .before in let capped = room .before in
+    let past = else3-of c .before .before in let k = check-of past in
+    let cut = else1-of k in let room = cut .before in let capped = room .before in
     let a = start-of capped .args in
     let t : Lists = lists (a .edges .now) (a .below .now) (a .table .now) (a .longer .now) (a .places .now) (a .spans .now) (a .number .now)
     (a .used .now) (a .column .now) in
     let fine = tested-so (a .n) t (capped .capped .ensures) (room .is-roomy .ensures) (not-false _ (cut .if1 .left)) in
     passed t fine (k .check .ensures) (past .if2 .left)
 
-returns-3 : tie.Need-returns-3
-returns-3 c =
-    let f = c .before .before .before .before .before .before .before .before in let past = else2-of (f .before) in let k = check-of past in
+returns-4 : tie.Need-returns-4
+returns-4 c =
+    let f = c .before .before .before .before .before .before .before .before in
+    let few = else3-of (f .before) in let past = few .before .before in let k = check-of past in
     let cut = else1-of k in let room = cut .before in let capped = room .before in
     let a = start-of capped .args in
     let t : Lists = lists (a .edges .now) (a .below .now) (a .table .now) (a .longer .now) (a .places .now) (a .spans .now) (a .number .now)
     (a .used .now) (a .column .now) in
     let fine = tested-so (a .n) t (capped .capped .ensures) (room .is-roomy .ensures) (not-false _ (cut .if1 .left)) in
-    laid-plan t fine (k .check .ensures) (past .if2 .left) (f .filled .ensures)
+    laid-plan t fine (k .check .ensures) (past .if2 .left) (omega (arith, few .if3 .left)) (f .filled .ensures)
 
 pub planned-spec : {M : Type 1} → statement M
 planned-spec =
@@ -71,6 +83,13 @@ planned-spec =
     (λ c. search needs)
     (λ c. search needs)
     returns-2
+    (λ c κs. search needs)
+    (λ c. search needs)
+    (λ c. search needs)
+    (λ c. search needs)
+    (λ c. search needs)
+    (λ c. search needs)
+    returns-3
     filled-requires
     (λ c. search needs)
     (λ c. search needs)
@@ -81,4 +100,4 @@ planned-spec =
     (λ c. search needs)
     (λ c. search needs)
     (λ c. search needs)
-    returns-3)
+    returns-4)
