@@ -97,12 +97,12 @@ edge-up : {u v : ℕ} → Edge tails heads u v → (u < 64) × (64 ≤ v)
 unfolding Edge
 edge-up (i, h, t, d) = let l : i < 4096 = rw edges at h in (omega (arith, tail-at i l), omega (arith, head-at i l))
 
-up : {u v : ℕ} → Reaches (Edge tails heads) u v → (u < 64) × (64 ≤ v)
-up (one e) = edge-up e
-up (more e r) = let a = edge-up e in let b = up r in absurd (omega arith)
+pub full-up : {u v : ℕ} → Reaches (Edge tails heads) u v → (u < 64) × (64 ≤ v)
+full-up (one e) = edge-up e
+full-up (more e r) = let a = edge-up e in let b = full-up r in absurd (omega arith)
 
 no-loop : (u : ℕ) → reachable? 128 tails heads u u ≡ false
-no-loop u = not-true (reachable? 128 tails heads u u) (λ e. let a = up (reachable-decided 128 tails heads u u .1 e .1) in omega arith)
+no-loop u = not-true (reachable? 128 tails heads u u) (λ e. let a = full-up (reachable-decided 128 tails heads u u .1 e .1) in omega arith)
 
 size : size? full ≡ false
 unfolding size? outsized? unsized? full
@@ -120,9 +120,9 @@ ring : ring? full ≡ false
 unfolding ring? full
 ring = some-none 128 (λ u. reachable? 128 tails heads u u) (λ u h. no-loop u)
 
-accepted : refusalOf full ≡ 0
+pub full-accepted : refusalOf full ≡ 0
 unfolding refusalOf firstOf looseChecks laterChecks repeated? unled? full
-accepted = rw (size, stranger, double, ring)
+full-accepted = rw (size, stranger, double, ring)
 
 -- ---- the records
 
@@ -130,20 +130,20 @@ abbrev bytes : List ℕ
 bytes = pairs fullTail fullHead 4096 0
 
 -- 4,096 edges of n vertices, whatever n is
-abbrev fields : ℕ → Fields
-fields n = record { vertices = n; edges = 7; count = 4096; given = false; lines = 0; size = 0 }
+abbrev pub full-fields : ℕ → Fields
+full-fields n = record { vertices = n; edges = 7; count = 4096; given = false; lines = 0; size = 0 }
 
-laid-out-with : (n : ℕ) (s : List ℕ) → length s ≡ 8192 → layoutOf (1 ∷ 0 ∷ 1 ∷ n ∷ 2 ∷ 32 ∷ 0 ∷ s) ≡ Good (fields n)
+laid-out-with : (n : ℕ) (s : List ℕ) → length s ≡ 8192 → layoutOf (1 ∷ 0 ∷ 1 ∷ n ∷ 2 ∷ 32 ∷ 0 ∷ s) ≡ Good (full-fields n)
 unfolding layoutOf withVertices withEdges afterEdges fieldAt sizeAt
 laid-out-with n s h = simp h
 
-laid-out : (n : ℕ) → layoutOf (recordWith n) ≡ Good (fields n)
+pub full-laid-out : (n : ℕ) → layoutOf (recordWith n) ≡ Good (full-fields n)
 unfolding recordWith
-laid-out n = laid-out-with n bytes (pairs-long fullTail fullHead 4096 0)
+full-laid-out n = laid-out-with n bytes (pairs-long fullTail fullHead 4096 0)
 
-says : (n : ℕ) → contentOf (recordWith n) (fields n) ≡ content n tails heads false []
+pub full-says : (n : ℕ) → contentOf (recordWith n) (full-fields n) ≡ content n tails heads false []
 unfolding contentOf tailsOf headsOf recordWith
-says n = rw (pairs-whole fullTail fullHead 4096 0, pairs-tails fullTail fullHead 4096 0, pairs-heads fullTail fullHead 4096 0)
+full-says n = rw (pairs-whole fullTail fullHead 4096 0, pairs-tails fullTail fullHead 4096 0, pairs-heads fullTail fullHead 4096 0)
 
 pub full-edges : edgesOf full ≡ 4096
 unfolding full
@@ -151,11 +151,11 @@ full-edges = edges
 
 pub full-passes : recordRefusal (recordWith 128) ≡ 0
 unfolding recordRefusal full
-full-passes = rw (laid-out 128, says 128) accepted
+full-passes = rw (full-laid-out 128, full-says 128) full-accepted
 
 pub full-said : said (recordWith 128) ≡ full
 unfolding said full
-full-said = rw (full-passes, laid-out 128) (says 128)
+full-said = rw (full-passes, full-laid-out 128) (full-says 128)
 
 -- ---- one more
 
@@ -165,7 +165,7 @@ unfolding recordRefusal said
 refused-size b f l r = (rw l r, rw (l, r))
 
 pub more-words : Refused (recordWith 129) 2
-more-words = refused-size (recordWith 129) (fields 129) (laid-out 129) (rw (says 129) (table .more-words _ refl))
+more-words = refused-size (recordWith 129) (full-fields 129) (full-laid-out 129) (rw (full-says 129) (table .more-words _ refl))
 
 abbrev fieldsMore : Fields
 fieldsMore = record { vertices = 128; edges = 7; count = 4097; given = false; lines = 0; size = 0 }

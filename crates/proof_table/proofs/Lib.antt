@@ -1,2 +1,3 @@
 pub mod Full
+pub mod Broad
 pub mod Table

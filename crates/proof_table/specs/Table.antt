@@ -1,10 +1,11 @@
--- The largest record, of 128 vertices and 4,096 edges, and records of one more. Assumes nothing.
+-- The largest record, of 128 vertices and 4,096 edges, and records of one more; the broadest charts, and broader ones. Assumes nothing.
 use mathlib.Core.Path.{_≡_}
-use mathlib.Core.Bool.{false}
+use mathlib.Core.Bool.{Bool, true, false}
 use mathlib.Core.List.{List, [], _∷_}
 use Prim.Native.Nat.{ℕ, zero, suc, _+_, _/_, _%_}
 use Rattle.specification.specs.Limits.{mostVertices, mostEdges}
 use Rattle.specification.specs.Checks.{Content, content, edgesOf}
+use Rattle.specification.specs.Drawn.{recordDrawn, refusedBy}
 use Rattle.specification.specs.Table.{Says, Refused}
 
 -- f i, f (i + 1) and so on, n of them
@@ -41,3 +42,44 @@ pub record Largest : Type 0 where
   -- a vertex more, and an edge more, is 2
   pub more-words : Refused (recordWith 129) 2
   pub more-arrows : Refused recordWithOneMore 2
+
+-- ---- broad
+
+-- so many vertices, and no edge
+unfoldable pub bare : ℕ → Content
+bare n = content n [] [] false []
+
+unfoldable pub bareRecord : ℕ → List ℕ
+bareRecord n = 1 ∷ 0 ∷ 1 ∷ n ∷ 2 ∷ 0 ∷ 0 ∷ []
+
+-- 32 vertices and the edge 0→1
+unfoldable pub joined : Content
+joined = content 32 (0 ∷ []) (1 ∷ []) false []
+
+unfoldable pub joinedRecord : List ℕ
+joinedRecord = 1 ∷ 0 ∷ 1 ∷ 32 ∷ 2 ∷ 0 ∷ 2 ∷ 0 ∷ 1 ∷ []
+
+-- the same with given channels that part its ends: 0; 1
+unfoldable pub parted : Content
+parted = content 32 (0 ∷ []) (1 ∷ []) true (1 ∷ 0 ∷ 1 ∷ 1 ∷ [])
+
+unfoldable pub partedRecord : List ℕ
+partedRecord = 1 ∷ 0 ∷ 1 ∷ 32 ∷ 2 ∷ 0 ∷ 2 ∷ 0 ∷ 1 ∷ 3 ∷ 0 ∷ 4 ∷ 1 ∷ 0 ∷ 1 ∷ 1 ∷ []
+
+-- the record is accepted, says this graph, and it is drawn where there is room
+abbrev pub Draws : List ℕ → Content → Type 0
+Draws b c = Says b c × (recordDrawn b ≡ record { refusal = 0; graph = c })
+
+-- it is accepted where it is read, and refused with 11 where it is to be drawn
+abbrev pub TooBroad : List ℕ → Content → Type 0
+TooBroad b c = Says b c × (recordDrawn b ≡ refusedBy 11)
+
+pub record Broadest : Type 0 where
+  -- 31 vertices without edges are drawn, 32 are too many
+  pub most : Draws (bareRecord 31) (bare 31)
+  pub more : TooBroad (bareRecord 32) (bare 32)
+  -- one edge makes 31 channels of 32; given channels make it 32 again
+  pub by-edge : Draws joinedRecord joined
+  pub by-given : TooBroad partedRecord parted
+  -- the largest record passes the checks 1 to 7
+  pub full : TooBroad (recordWith 128) full
