@@ -5,7 +5,7 @@ use crate::columns::{track_column, Columns};
 use crate::descent::Reachability;
 use crate::geometry::Place;
 use crate::kinds::{kind, Kind};
-use crate::lines::Channels;
+use crate::lines::{Channels, MAX_CHANNELS};
 use crate::marks::is_transitive;
 use crate::record::{Edge, Record, MAX_EDGES, MAX_VERTICES};
 use crate::refusal::Refusal;
@@ -85,12 +85,15 @@ impl Chart {
         Chart::draw(&Record::parse(bytes)?)
     }
 
-    /// Draws a record that passes the checks 2 to 7.
+    /// Draws a record that passes the checks 2 to 7 and is not broad.
     pub fn draw(record: &Record) -> Result<Chart, Refusal> {
         record.check()?;
         let (vertex_count, edges) = (record.vertex_count, &record.edges);
         let reach = Reachability::of(vertex_count, edges);
         let channels = Channels::of(record, &reach);
+        if channels.lists().len() > MAX_CHANNELS {
+            return Err(Refusal::Broad);
+        }
         let rows = rows::compacted(vertex_count, edges);
         let bundling = Bundling::of(edges, &channels, &rows);
         let columns = Columns::of(&bundling.track_counts);

@@ -216,6 +216,40 @@ pub fn least_parts(record: &Record) -> Option<usize> {
         .min()
 }
 
+/// The fewest parts of any lawful chart that has the given channels whole, for a graph of any size:
+/// these channels, the given ones first, are such a division, and unrelated vertices, one of each
+/// planned channel, stand in different parts of every other. Nothing where that is not so.
+pub fn fewest_parts(record: &Record, channels: &[Vec<usize>]) -> Option<usize> {
+    let planned = channels.strip_prefix(record.given())?;
+    let descent = descent(record);
+    let mut parts = vec![channels.len(); record.vertex_count];
+    for (part, channel) in channels.iter().enumerate() {
+        for &vertex in channel {
+            parts[vertex] = part;
+        }
+    }
+    let divided = distinct(channels.iter().flatten().copied()) == parts.len()
+        && channels.iter().map(Vec::len).sum::<usize>() == parts.len()
+        && parts_are_chains(&descent, &parts);
+    (divided && one_of_each(&descent, planned).is_some()).then_some(channels.len())
+}
+
+/// A vertex of each channel, of which none reaches another, if there are such. One that reaches
+/// another's present vertex reaches all behind that too, so it is passed over for good.
+fn one_of_each(descent: &Relation, channels: &[Vec<usize>]) -> Option<Vec<usize>> {
+    let mut places = vec![0; channels.len()];
+    loop {
+        let chosen = channels.iter().zip(&places);
+        let chosen = chosen.map(|(channel, &place)| channel.get(place).copied());
+        let chosen: Vec<usize> = chosen.collect::<Option<_>>()?;
+        let reaches = |&u: &usize| chosen.iter().any(|&v| descent.has(u, v));
+        match chosen.iter().position(reaches) {
+            None => return Some(chosen),
+            Some(channel) => places[channel] += 1,
+        }
+    }
+}
+
 /// Every sound choice of given channels: all lists of chains without a common vertex, of all
 /// vertices, of some and of none, in every order.
 pub fn sound_channels(record: &Record) -> impl Iterator<Item = Vec<Vec<usize>>> {

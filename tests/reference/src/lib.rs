@@ -4,6 +4,7 @@
 //! chart, listing. Each module holds one of these and says, in its head, which word of records and
 //! listings it stands for.
 
+pub mod breadth;
 pub mod bundles;
 pub mod chart;
 pub mod checks;

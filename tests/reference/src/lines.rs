@@ -3,6 +3,9 @@
 use crate::descent::Reachability;
 use crate::record::Record;
 
+/// The largest number of channels of a chart.
+pub const MAX_CHANNELS: usize = 31;
+
 /// Where a vertex stands among the channels.
 #[derive(Clone, Copy, Debug, Default, PartialEq, Eq)]
 pub struct Slot {

@@ -1,5 +1,6 @@
 //! Random records of all sizes and shapes. The same seed gives the same records everywhere.
 
+use crate::breadth::near_limit;
 use crate::damage;
 use crate::descent::Reachability;
 use crate::record::{Edge, Record, MAX_EDGES, MAX_VERTICES};
@@ -102,9 +103,12 @@ pub fn record(generator: &mut Generator) -> Vec<u8> {
     }
 }
 
-/// A random record that passes all checks, a third of them with given channels, of all vertices or
-/// of some.
+/// A random record that passes the checks 1 to 7, a third of them with given channels, of all
+/// vertices or of some. Some are broad, and some have just as many channels as a chart may have.
 pub fn sound_record(generator: &mut Generator) -> Record {
+    if generator.percent(3) {
+        return near_limit(generator);
+    }
     let weighted = [
         Shape::Empty,
         Shape::Sparse,

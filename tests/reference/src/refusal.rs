@@ -1,4 +1,4 @@
-//! Why something is sent back: the ten refusals (13).
+//! Why something is sent back: the eleven refusals (13).
 
 use std::fmt;
 
@@ -25,6 +25,8 @@ pub enum Refusal {
     Full,
     /// 10, "off page": a place lies beyond the page.
     OffPage,
+    /// 11, "broad": the chart has too many channels. Said after 7 and before 8.
+    Broad,
 }
 
 impl Refusal {
@@ -46,6 +48,7 @@ impl Refusal {
             Refusal::Short => "short",
             Refusal::Full => "full",
             Refusal::OffPage => "off page",
+            Refusal::Broad => "broad",
         }
     }
 }

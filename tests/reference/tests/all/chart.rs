@@ -1,6 +1,6 @@
 //! What the chart hands over, and the lists that a caller lends.
 
-use crate::support::{draw, graph, rising, with_channels};
+use crate::support::{draw, graph, layered, rising, with_channels};
 use reference::bundles::Bundle;
 use reference::chart::{draw_into, Chart, Counts, EdgeEntry, Lists, VertexEntry};
 use reference::descent::Reachability;
@@ -129,6 +129,7 @@ fn short_is_said_after_every_other_refusal() {
             with_channels(2, &[], &[&[0, 1]]).to_bytes(),
             Refusal::Broken,
         ),
+        (graph(32, &[]).to_bytes(), Refusal::Broad),
     ];
     for (bytes, refusal) in records {
         for length in [0, 200] {
@@ -190,8 +191,9 @@ fn a_side_arrow_runs_over_its_side_column() {
 
 #[test]
 fn the_largest_chart_is_drawn() {
-    let chart = draw(&graph(128, &rising(128, 4096)));
+    let chart = draw(&layered(31));
     assert_eq!((chart.vertices.len(), chart.edges.len()), (128, 4096));
+    assert_eq!(chart.counts.channels, 31);
     assert!(chart.counts.width <= 640);
 }
 

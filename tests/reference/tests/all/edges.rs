@@ -295,6 +295,7 @@ fn refusals_have_their_numbers_and_words() {
         (Refusal::Short, 8, "short"),
         (Refusal::Full, 9, "full"),
         (Refusal::OffPage, 10, "off page"),
+        (Refusal::Broad, 11, "broad"),
     ];
     for (refusal, number, word) in table {
         assert_eq!((refusal.number(), refusal.word()), (number, word));

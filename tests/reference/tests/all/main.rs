@@ -1,5 +1,6 @@
 //! All tests of the reference, in one program.
 
+mod breadth;
 mod chart;
 mod damage;
 mod edges;

@@ -1,6 +1,6 @@
 //! The programs, run as they are.
 
-use crate::support::{graph, rising};
+use crate::support::{graph, layered, rising};
 use reference::listing::listing;
 use reference::random::{record, Generator};
 use reference::vectors::parse;
@@ -32,7 +32,7 @@ fn text(output: &Output) -> String {
 
 #[test]
 fn reference_prints_the_listing() {
-    for record in [graph(5, &rising(5, 8)), graph(128, &rising(128, 4096))] {
+    for record in [graph(5, &rising(5, 8)), layered(31)] {
         let output = run(REFERENCE, &[], &record.to_bytes());
         assert!(output.status.success());
         assert_eq!(text(&output), listing(&record.to_bytes()));
@@ -46,6 +46,7 @@ fn reference_prints_the_refusal() {
         (vec![0; 70_000], "refused 1\n"),
         (graph(129, &[]).to_bytes(), "refused 2\n"),
         (graph(1, &[(0, 0)]).to_bytes(), "refused 5\n"),
+        (layered(32).to_bytes(), "refused 11\n"),
     ] {
         assert_eq!(text(&run(REFERENCE, &[], &bytes)), expected);
     }

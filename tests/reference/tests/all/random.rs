@@ -38,7 +38,7 @@ fn numbers_stay_below_their_bound_and_reach_it() {
 }
 
 #[test]
-fn sound_records_pass_all_checks() {
+fn sound_records_pass_the_checks_1_to_7() {
     let mut generator = Generator::new(4);
     let mut given = 0;
     for _ in 0..2000 {
@@ -122,14 +122,17 @@ fn every_refusal_and_every_size_is_met() {
     let mut answers: BTreeMap<u8, usize> = BTreeMap::new();
     let mut lengths = BTreeSet::new();
     let mut sizes = BTreeSet::new();
-    for bytes in records(5, 6000) {
+    for bytes in records(5, 8000) {
         let chart = Chart::read(&bytes);
         sizes.extend(chart.as_ref().map(|chart| chart.vertices.len()));
         let number = chart.err().map_or(0, |refusal| refusal.number());
         *answers.entry(number).or_default() += 1;
         lengths.insert(bytes.len());
     }
-    assert!(answers.keys().copied().eq(0..=7), "{answers:?}");
+    assert!(
+        answers.keys().copied().eq((0..=7).chain([11])),
+        "{answers:?}"
+    );
     assert!(answers.values().all(|&count| count >= 60), "{answers:?}");
     assert!(lengths.contains(&MAX_BYTES) && lengths.contains(&(MAX_BYTES + 1)));
     assert!(sizes.len() > 100 && sizes.last() == Some(&MAX_VERTICES));

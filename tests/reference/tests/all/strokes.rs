@@ -1,6 +1,6 @@
 //! Page strokes: exact quarters, and the edge of the page.
 
-use crate::support::{draw, graph, rising, with_channels};
+use crate::support::{draw, layered, with_channels};
 use reference::geometry::Place;
 use reference::refusal::Refusal;
 use reference::strokes::{Point, Polyline};
@@ -108,7 +108,7 @@ fn arrows_become_strokes_of_their_kind() {
 
 #[test]
 fn the_largest_chart_fits_the_page() {
-    let record = graph(128, &rising(128, 4096));
+    let record = layered(31);
     let chart = draw(&record);
     for (number, &edge) in record.edges.iter().enumerate() {
         let stroke = Polyline::through(&chart.route(number, edge));

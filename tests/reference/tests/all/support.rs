@@ -84,3 +84,15 @@ pub fn rising(vertex_count: usize, count: usize) -> Vec<(usize, usize)> {
     let pairs = (0..vertex_count).flat_map(|v| (0..v).map(move |u| (u, v)));
     pairs.take(count).collect()
 }
+
+/// 128 vertices in rows of so many: edges from all of a row to all of the next, then to all of the
+/// one after, as many as a record may have.
+pub fn layered(breadth: usize) -> Record {
+    let row = |vertex: usize| vertex / breadth;
+    let rising = |rise: usize| {
+        let pairs = (0..128).flat_map(|u| (u..128).map(move |v| (u, v)));
+        pairs.filter(move |&(u, v)| row(v) - row(u) == rise)
+    };
+    let pairs: Vec<_> = rising(1).chain(rising(2)).take(4096).collect();
+    graph(128, &pairs)
+}

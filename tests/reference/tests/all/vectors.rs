@@ -1,4 +1,4 @@
-//! The 101 records whose listings are given, byte for byte.
+//! The 110 records whose listings are given, byte for byte.
 
 use reference::listing::listing;
 use reference::record::Record;
@@ -7,21 +7,23 @@ use std::collections::BTreeSet;
 
 const BASE: &str = include_str!("../../vectors/base.txt");
 const HOUSE_LINES: &str = include_str!("../../vectors/a.txt");
+const BREADTH: &str = include_str!("../../vectors/b.txt");
+const FILES: [&str; 3] = [BASE, HOUSE_LINES, BREADTH];
 
 fn vectors(text: &str) -> Vec<Vector> {
     parse(text).expect("a file of vectors")
 }
 
 fn all() -> Vec<Vector> {
-    [vectors(BASE), vectors(HOUSE_LINES)].concat()
+    FILES.map(vectors).concat()
 }
 
 #[test]
 fn all_are_there() {
-    let counts = [BASE, HOUSE_LINES].map(|text| vectors(text).len());
-    assert_eq!(counts, [67, 34]);
+    let counts = FILES.map(|text| vectors(text).len());
+    assert_eq!(counts, [67, 34, 9]);
     let names: BTreeSet<String> = all().into_iter().map(|vector| vector.name).collect();
-    assert_eq!(names.len(), 101);
+    assert_eq!(names.len(), 110);
 }
 
 #[test]
