@@ -9,7 +9,7 @@ from pathlib import Path
 HERE = Path(__file__).resolve().parent
 sys.dont_write_bytecode = True
 sys.path.insert(0, str(HERE.parent / 'tests' / 'compare'))
-from records import build, graph, listing, vectors
+from records import build, graph, layered, listing, vectors
 
 # of the worked examples (docs/SPECIFICATION.md, 16.1), with listings read off the rules
 PAPER = ['P1', 'P5', 'P6', 'P7']
@@ -33,10 +33,13 @@ def editor():
 
 
 def wide():
-    """Rows of 31 words, arrows from all of a row to all of the next, then to all of the one after it, as many as a record may have."""
-    layers = [range(first, min(first + 31, 128)) for first in range(0, 128, 31)]
-    pairs = [(u, v) for rise in (1, 2) for low, high in zip(layers, layers[rise:]) for u in low for v in high]
-    return graph(128, pairs[:4096])
+    """As many lines as a chart may have."""
+    return layered(31)
+
+
+def broad():
+    """One line more."""
+    return layered(32)
 
 
 def deep():
@@ -55,7 +58,7 @@ def main():
         if name in PAPER:
             (folder / f'{name.lower()}.record').write_bytes(record)
             (folder / f'{name.lower()}.listing').write_bytes(lines)
-    for rule in [house, editor, wide, deep, ring]:
+    for rule in [house, editor, wide, broad, deep, ring]:
         record = rule()
         (folder / f'{rule.__name__}.record').write_bytes(record)
         (folder / f'{rule.__name__}.listing').write_bytes(listing(record))

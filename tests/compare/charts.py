@@ -88,7 +88,7 @@ def main():
         compared += 1
         drawn += lines.startswith(b'chart')
     print(f'{compared} listings compared, {drawn} of charts and {compared - drawn} of refusals: all agree')
-    return 0 if compared >= int(count) + len(EDGES) + len(WORST) + VECTORS + 3 * 10 else 1
+    return 0 if compared >= int(count) + len(EDGES) + len(WORST) + VECTORS + 3 * 11 else 1
 
 
 sys.exit(main())

@@ -7,7 +7,7 @@ ROOT = Path(__file__).resolve().parents[2]
 REFERENCE = ROOT / 'tests' / 'reference'
 
 # how many records are given
-VECTORS = 67 + 34
+VECTORS = 67 + 34 + 9
 
 # a name, a record in hexadecimal, its listing
 BLOCK = re.compile(r'^# (.*)\n([0-9A-Fa-f]*)\n((?:chart|refused) .*\n(?:[wab] .*\n)*)', re.M)
@@ -34,9 +34,36 @@ def dense(count):
     return [(u, v) for v in range(128) for u in range(v)][:count]
 
 
-# the limits of what is accepted, and near them (docs/SPECIFICATION.md, 16.2)
+def line(order):
+    """Arrows that make one line of the words in this order."""
+    return list(zip(order, order[1:]))
+
+
+def layered(breadth):
+    """Rows of so many words, arrows from all of a row to all of the next, then to all of the one after it, as many as a record may have."""
+    rows = [range(first, min(first + breadth, 128)) for first in range(0, 128, breadth)]
+    pairs = [(u, v) for rise in (1, 2) for low, high in zip(rows, rows[rise:]) for u in low for v in high]
+    return graph(128, pairs[:4096])
+
+
+def bipartite(half):
+    """Each of so many words to each of as many others."""
+    return [(u, v) for u in range(half) for v in range(half, 2 * half)]
+
+
+def alone(words):
+    """House lines of one word each."""
+    return [[word] for word in range(words)]
+
+
+# the limits of what is accepted, and near them (docs/SPECIFICATION.md, 16.2), with what `verdict` says: it takes broad records too
 EDGES = [
     ('128 words, 4,096 arrows', graph(128, dense(4096)), 'accepted'),
+    ('128 words, 4,096 arrows, 31 lines', layered(31), 'accepted'),
+    ('128 words, 4,096 arrows, 32 lines', layered(32), 'accepted'),
+    ('31 words alone', graph(31, []), 'accepted'),
+    ('32 words alone', graph(32, []), 'accepted'),
+    ('128 words alone', graph(128, []), 'accepted'),
     ('129 words', graph(129, []), 'refused 2'),
     ('4,097 arrows', graph(128, dense(4097)), 'refused 2'),
     ('no words', graph(0, []), 'refused 2'),
@@ -53,7 +80,12 @@ EDGES = [
     ('a break beside a word that lacks', graph(3, [(0, 1)], [[1, 0]]), 'refused 7'),
     ('a word lacks', graph(2, [], [[0]]), 'accepted'),
     ('127 words lack', graph(128, dense(4096), [[64]]), 'accepted'),
-    ('one of 128 words lacks', graph(128, [], [[word] for word in range(127)]), 'accepted'),
+    ('one of 128 words lacks', graph(128, [], alone(127)), 'accepted'),
+    ('31 house lines', graph(31, [], alone(31)), 'accepted'),
+    ('31 house lines and a word', graph(32, line(range(32)), alone(31)), 'accepted'),
+    ('32 house lines where one would do', graph(32, line(range(32)), alone(32)), 'accepted'),
+    ('32 house lines and a repeat', graph(32, [], alone(32) + [[0]]), 'refused 6'),
+    ('32 house lines and a break', graph(33, [], alone(31) + [[31, 32]]), 'refused 7'),
     ('a stranger beside a word that lacks', graph(2, [], [[2]]), 'refused 3'),
     ('a stranger in the last house line before a double', graph(2, [(0, 1), (0, 1)], [[0], [2]]), 'refused 3'),
     ('a line of no word before 129 words', graph(129, [], [[]]), 'refused 1'),
@@ -65,11 +97,6 @@ EDGES = [
     ('a sound record and zeros up to 100,000 bytes', graph(1, []).ljust(100000, b'\0'), 'refused 1'),
     ('nothing', b'', 'refused 1'),
 ]
-
-
-def line(order):
-    """Arrows that make one line of the words in this order."""
-    return list(zip(order, order[1:]))
 
 
 def deepest(held):
@@ -86,13 +113,18 @@ WORST = [
     ('the deepest search beside a house line of one word', deepest(1)),
     ('the deepest search beside a house line of two words', deepest(2)),
     ('a search through 64 words at every step', graph(128, [(u, v) for u in range(64) for v in range(64, 128 - u)])),
+    ('a search through 31 words at every step', graph(62, [(u, v) for u in range(31) for v in range(31, 62 - u)])),
     ('a line from the highest word down', graph(128, line(range(127, -1, -1)))),
     ('a line with arrows up to 32 on', graph(128, [(u, u + step) for step in range(1, 33) for u in range(128 - step)])),
-    ('each word of a half to each of the other', graph(128, [(u, v) for u in range(64) for v in range(64, 128)])),
-    ('the same beside 32 house lines', graph(128, [(u, v) for u in range(64) for v in range(64, 128)], [[u, u + 64] for u in range(32)])),
+    ('each word of a half to each of the other', graph(128, bipartite(64))),
+    ('the same beside 32 house lines', graph(128, bipartite(64), [[u, u + 64] for u in range(32)])),
+    ('each of 31 words to each of 31', graph(62, bipartite(31))),
+    ('the same beside 16 house lines', graph(62, bipartite(31), [[u, u + 31] for u in range(16)])),
     ('4,096 arrows', graph(128, dense(4096))),
+    ('4,096 arrows and 31 lines', layered(31)),
     ('4,096 arrows and a house line', graph(128, line(range(128)) + [(u, v) for v in range(128) for u in range(v - 1)][:3969], [range(128)])),
-    ('128 house lines', graph(128, [], [[word] for word in range(128)])),
+    ('128 house lines', graph(128, [], alone(128))),
+    ('30 house lines and a planned one', graph(128, line(range(128)), alone(30))),
 ]
 
 
@@ -114,7 +146,7 @@ def blocks(text):
 
 def vectors():
     """The given records, with their listings."""
-    for name in ['base', 'a']:
+    for name in ['base', 'a', 'b']:
         yield from blocks((REFERENCE / f'vectors/{name}.txt').read_text())
 
 
