@@ -19,6 +19,7 @@
  *    8 short     a lent list is too short
  *    9 full      the session has 4,096 arrows
  *   10 off page  a column that is not below 640, or a row that is not below 128
+ *   11 broad     the chart has more than 31 lines
  * A call that refuses changes nothing in any list, and every other number that it returns is 0.
  */
 #ifndef CEVILONETH_H
@@ -34,8 +35,9 @@ extern "C" {
 /* ---- the edge */
 
 /* The version of what this header says. It rises by one with every change that an app could notice: of a call, a struct, a list's numbers,
- * a limit or an answer. Since 2 house lines may hold some of the words, and an empty field of them is no longer refused with 6. */
-#define CEVILONETH_VERSION 2
+ * a limit or an answer. Since 2 house lines may hold some of the words, and an empty field of them is no longer refused with 6. Since 3 a
+ * chart of more than 31 lines is refused with 11. */
+#define CEVILONETH_VERSION 3
 
 /* The version that the archive or the shared library was made by: an app goes on only where it is CEVILONETH_VERSION. */
 uint32_t ceviloneth_version(void);
@@ -51,6 +53,9 @@ uint32_t ceviloneth_version(void);
 #define CEVILONETH_ARROWS 20480  /* 4,096 arrows, 5 numbers each */
 #define CEVILONETH_BUNDLES 1024  /* 256 bundles, 4 numbers each */
 
+/* No chart has more lines. A record that needs more is refused by ceviloneth_chart alone: ceviloneth_leads answers for it. */
+#define CEVILONETH_LINES 31
+
 typedef struct {
     uint8_t refusal;
     size_t words;   /* entries written: not numbers */
@@ -60,7 +65,7 @@ typedef struct {
     uint8_t lines;
     uint16_t firm;  /* arrows that are not implied */
     uint16_t width; /* in columns */
-    uint16_t side_columns[128]; /* of each line; 0 past the last */
+    uint16_t side_columns[128]; /* of each line; 0 past the last, so from number CEVILONETH_LINES on */
 } ceviloneth_counts;
 
 /* Draws the record: its bytes are three tagged fields (word count, arrows, house lines), of which the last may be left out or empty. House
@@ -69,7 +74,8 @@ typedef struct {
  *   arrows   arrow i has 5i to 5i+4: its number i; its kind, 0 spine, 1 side, 2 straight, 3 bent; the bundle's number if it is a side
  *            arrow or the bend's column if it is bent, else 0; the bend's row if it is bent, else 0; 1 if it is implied, else 0
  *   bundles  bundle i has 4i to 4i+3: line, the first and the last row, side column
- * Refusals 1 to 7 of the record, then 8 where a list has no room for all its entries. Numbers past the last entry stay as they were. */
+ * Refusals 1 to 7 of the record, then 11 where it has more than 31 lines, then 8 where a list has no room for all its entries. Numbers
+ * past the last entry stay as they were. */
 ceviloneth_counts ceviloneth_chart(const uint8_t *record, size_t record_len,
                                    uint16_t *words, size_t words_len,
                                    uint16_t *arrows, size_t arrows_len,
@@ -82,7 +88,7 @@ typedef struct {
     uint8_t leads; /* 1 if one or more arrows in a row go from the first word to the second, else 0 */
 } ceviloneth_answer;
 
-/* Whether one word of a record leads to another. Refusals 1 to 7 of the record, then 3 where either is no word of it. */
+/* Whether one word of a record leads to another. Refusals 1 to 7 of the record, never 11, then 3 where either is no word of it. */
 ceviloneth_answer ceviloneth_leads(const uint8_t *record, size_t record_len, size_t from, size_t to);
 
 /* ---- sessions: a graph that grows arrow by arrow, in a list that the caller keeps */

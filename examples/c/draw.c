@@ -18,7 +18,7 @@ static uint16_t bundles[CEVILONETH_BUNDLES];
 static const char *const kinds[] = {"spine", "side", "straight", "bent"};
 
 static const char *const reasons[] = {"", "layout", "size", "stranger", "double", "ring",
-                                      "cover", "broken", "short", "full", "off page"};
+                                      "cover", "broken", "short", "full", "off page", "broad"};
 
 static void print_chart(const ceviloneth_counts *chart) {
     size_t i;

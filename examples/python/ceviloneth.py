@@ -15,10 +15,10 @@ import sys
 from pathlib import Path
 
 # What include/ceviloneth.h says: its version, the numbers of lists that hold every chart, the numbers of an entry, the refusals.
-VERSION = 2
+VERSION = 3
 ROOM = [640, 20480, 1024]
 NUMBERS = [5, 5, 4]
-WORDS = ['', 'layout', 'size', 'stranger', 'double', 'ring', 'cover', 'broken', 'short', 'full', 'off page']
+WORDS = ['', 'layout', 'size', 'stranger', 'double', 'ring', 'cover', 'broken', 'short', 'full', 'off page', 'broad']
 
 # One byte more than a record may have, so that a longer file is refused.
 MOST_BYTES = 65536

@@ -1,7 +1,7 @@
 #!/usr/bin/env python3
-"""The example in Python: what it draws is each sample's listing, what it checks is what the program `verdict` says, and errors are told.
+"""The example in Python: what it draws is each sample's listing, what it checks is what the program `chart` says, and errors are told.
 
-Needs target/shared/libceviloneth.so (tools/shared-library.sh) and target/bin/verdict. Exit status 1 where something differs.
+Needs target/shared/libceviloneth.so (tools/shared-library.sh) and target/bin/chart. Exit status 1 where something differs.
 """
 import os
 import shutil
@@ -13,7 +13,7 @@ from pathlib import Path
 ROOT = Path(__file__).resolve().parents[2]
 EXAMPLE = ROOT / 'examples' / 'python' / 'ceviloneth.py'
 RECORDS = sorted((ROOT / 'samples').glob('*.record'))
-WORDS = {'refused 5': 'refused 5 ring', 'refused 1': 'refused 1 layout', 'refused 6': 'refused 6 cover'}
+WORDS = {'refused 5': 'refused 5 ring', 'refused 1': 'refused 1 layout', 'refused 6': 'refused 6 cover', 'refused 11': 'refused 11 broad'}
 # two words with no arrow, word 1 in two house lines
 REPEAT = bytes([1, 0, 1, 2, 2, 0, 0, 3, 0, 4, 1, 1, 1, 1])
 
@@ -42,8 +42,10 @@ def expect_error(what, said, text):
 
 
 def verdict(path):
-    said = subprocess.run([ROOT / 'target' / 'bin' / 'verdict'], stdin=path.open('rb'), capture_output=True, text=True, check=True)
-    return said.stdout.strip()
+    """Accepted where the program draws a chart, else its refusal."""
+    said = subprocess.run([ROOT / 'target' / 'bin' / 'chart'], stdin=path.open('rb'), capture_output=True, text=True, check=True)
+    line = said.stdout.split('\n')[0]
+    return line if line.startswith('refused') else 'accepted'
 
 
 def checked(paths):
@@ -69,6 +71,8 @@ def test_checking(folder):
     (folder / 'none.record').write_bytes(b'')
     (folder / 'repeat.record').write_bytes(REPEAT)
     (folder / 'some.record').write_bytes(REPEAT[:9] + bytes([2, 1, 1]))
+    for words in [31, 32]:
+        (folder / f'{words}-apart.record').write_bytes(bytes([1, 0, 1, words, 2, 0, 0]))
     expect('refused files beside sound ones', run('check', folder), checked(sorted(folder.glob('*.record'))))
 
 
@@ -98,7 +102,7 @@ def main():
     with tempfile.TemporaryDirectory() as folder:
         test_errors(Path(folder))
     print('\n'.join(wrong + [f'{len(RECORDS)} samples, {len(wrong)} faults']))
-    return 1 if wrong or len(RECORDS) < 10 else 0
+    return 1 if wrong or len(RECORDS) < 11 else 0
 
 
 sys.exit(main())

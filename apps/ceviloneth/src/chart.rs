@@ -16,6 +16,8 @@ pub const MOST_WORDS: usize = 128;
 pub const MOST_ARROWS: usize = 4096;
 /// The most bundles of a chart.
 pub const MOST_BUNDLES: usize = 256;
+/// The most lines of a chart.
+pub const MOST_LINES: usize = 31;
 
 /// The counts of a chart.
 #[derive(Clone, Copy, Debug, PartialEq, Eq)]
@@ -28,7 +30,7 @@ pub struct Counts {
     pub bundles: usize,
     /// The number of rows.
     pub rows: usize,
-    /// The number of lines.
+    /// The number of lines, at most [`MOST_LINES`].
     pub lines: usize,
     /// The number of firm arrows.
     pub firm: usize,

@@ -1,4 +1,4 @@
-//! The ten refusals (docs/SPECIFICATION.md, 13).
+//! The eleven refusals (docs/SPECIFICATION.md, 13).
 
 use std::fmt;
 
@@ -26,10 +26,12 @@ pub enum Refusal {
     Full,
     /// A place lies beyond the page.
     OffPage,
+    /// The chart has more than 31 lines.
+    Broad,
 }
 
 /// Each refusal with its word, and when it is given.
-const TABLE: [(Refusal, &str, &str); 10] = [
+const TABLE: [(Refusal, &str, &str); 11] = [
     (
         Refusal::Layout,
         "layout",
@@ -60,6 +62,7 @@ const TABLE: [(Refusal, &str, &str); 10] = [
     (Refusal::Short, "short", "a lent list is too short"),
     (Refusal::Full, "full", "the session has 4,096 arrows"),
     (Refusal::OffPage, "off page", "a place lies beyond the page"),
+    (Refusal::Broad, "broad", "the chart has more than 31 lines"),
 ];
 
 impl Refusal {

@@ -2,7 +2,7 @@
 
 use ceviloneth::{
     chart, chart_into, leads, stroke_bent, stroke_side, stroke_straight, version, Bundle, Kind,
-    Lists, Place, Point, Refusal, Session, Word, VERSION,
+    Lists, Place, Point, Refusal, Session, Word, MOST_LINES, VERSION,
 };
 
 const P5: &[u8] = &[1, 0, 1, 4, 2, 0, 12, 0, 1, 0, 2, 0, 3, 1, 2, 1, 3, 2, 3];
@@ -15,6 +15,8 @@ fn header_wrapper_and_archive_are_of_one_version() {
     let header = include_str!("../../../include/ceviloneth.h");
     let line = format!("#define CEVILONETH_VERSION {VERSION}\n");
     assert!(header.contains(&line), "the header's version");
+    let line = format!("#define CEVILONETH_LINES {MOST_LINES}\n");
+    assert!(header.contains(&line), "the header's most lines");
     assert_eq!(version(), VERSION);
 }
 
@@ -95,7 +97,7 @@ fn a_word_that_house_lines_repeat_is_refused() {
 fn refusals_have_their_numbers_and_words() {
     let words = [
         "layout", "size", "stranger", "double", "ring", "cover", "broken", "short", "full",
-        "off page",
+        "off page", "broad",
     ];
     let all = [
         Refusal::Layout,
@@ -108,6 +110,7 @@ fn refusals_have_their_numbers_and_words() {
         Refusal::Short,
         Refusal::Full,
         Refusal::OffPage,
+        Refusal::Broad,
     ];
     for ((refusal, word), number) in all.into_iter().zip(words).zip(1..) {
         assert_eq!((refusal.number(), refusal.word()), (number, word));
@@ -128,6 +131,27 @@ fn refused_records_and_short_lists() {
     assert_eq!(short, Err(Refusal::Short));
     assert_eq!((words, arrows, bundles), ([7; 20], [7; 30], [7; 7]));
     assert!(chart_into(P5, &mut words, &mut arrows, &mut [0; 8]).is_ok());
+}
+
+/// So many words and no arrows.
+fn apart(words: usize) -> [u8; 7] {
+    [1, 0, 1, words as u8, 2, 0, 0]
+}
+
+#[test]
+fn a_chart_of_more_lines_than_the_most_is_broad() {
+    let most = chart(&apart(MOST_LINES)).expect("a chart");
+    assert_eq!(most.counts.lines, MOST_LINES);
+    let broad = apart(MOST_LINES + 1);
+    assert_eq!(chart(&broad), Err(Refusal::Broad));
+    assert_eq!(Refusal::Broad.reason(), "the chart has more than 31 lines");
+    let (mut words, mut arrows, mut bundles) = ([7; 200], [7; 1], [7; 1]);
+    for length in [0, words.len()] {
+        let refused = chart_into(&broad, &mut words[..length], &mut arrows, &mut bundles);
+        assert_eq!(refused, Err(Refusal::Broad));
+    }
+    assert_eq!((words, arrows, bundles), ([7; 200], [7; 1], [7; 1]));
+    assert_eq!(leads(&broad, 0, MOST_LINES), Ok(false));
 }
 
 #[test]

@@ -83,6 +83,22 @@ fn house_lines_may_lack_words_and_may_not_repeat_them() {
     assert_eq!(text(&output.stdout), expected);
 }
 
+#[test]
+fn a_chart_that_cannot_be_shown_is_broad() {
+    let folder = folder("broad");
+    let apart = |words: u8| [1, 0, 1, words, 2, 0, 0];
+    put(&folder, "most", &apart(31));
+    let broad = put(&folder, "one-more", &apart(32));
+    let output = run(&[&folder]);
+    assert_eq!(status(&output), Some(1));
+    let expected = format!(
+        "{}: refused 11 broad (the chart has more than 31 lines)\n\
+         2 checked: 1 sound, 1 refused; 0 can't be read\n",
+        broad.display()
+    );
+    assert_eq!(text(&output.stdout), expected);
+}
+
 /// So many that several threads share the work; what is said follows the files' order all the same.
 #[test]
 fn many_files_are_told_in_order() {
