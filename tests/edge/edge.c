@@ -21,13 +21,16 @@ static void expect(const char *what, unsigned said, unsigned expected) {
 }
 
 /* One word, also with an empty field of house lines; two words and an arrow, also with a house line of the second, and with two of it;
- * three words in a line with an arrow over it, which makes a bundle; no record at all. */
+ * three words in a line with an arrow over it, which makes a bundle; as many words without arrows as a chart may have lines, and one more;
+ * no record at all. */
 static const uint8_t one[] = {1, 0, 1, 1, 2, 0, 0};
 static const uint8_t empty[] = {1, 0, 1, 1, 2, 0, 0, 3, 0, 0};
 static const uint8_t two[] = {1, 0, 1, 2, 2, 0, 2, 0, 1};
 static const uint8_t some[] = {1, 0, 1, 2, 2, 0, 2, 0, 1, 3, 0, 2, 1, 1};
 static const uint8_t twice[] = {1, 0, 1, 2, 2, 0, 2, 0, 1, 3, 0, 4, 1, 1, 1, 1};
 static const uint8_t three[] = {1, 0, 1, 3, 2, 0, 6, 0, 1, 1, 2, 0, 2};
+static const uint8_t most[] = {1, 0, 1, CEVILONETH_LINES, 2, 0, 0};
+static const uint8_t broad[] = {1, 0, 1, CEVILONETH_LINES + 1, 2, 0, 0};
 static const uint8_t broken[] = {9};
 
 static uint16_t words[CEVILONETH_WORDS], arrows[CEVILONETH_ARROWS], bundles[CEVILONETH_BUNDLES];
@@ -55,12 +58,17 @@ static void try_charts(void) {
         chart("a house line of some words", some, sizeof some, lent, lent[0] && lent[1] ? 0 : 8);
         chart("a repeated word", twice, sizeof twice, lent, 6);
         chart("a bundle", three, sizeof three, lent, lent[0] && lent[1] && lent[2] ? 0 : 8);
+        chart("as many lines as a chart may have", most, sizeof most, lent, lent[0] ? 0 : 8);
+        chart("a line more", broad, sizeof broad, lent, 11);
     }
 }
 
 static void try_questions(void) {
     ceviloneth_answer a = ceviloneth_leads(NULL, 0, 0, 0);
     expect("a question about no record", a.refusal, 1);
+    expect("its answer", a.leads, 0);
+    a = ceviloneth_leads(broad, sizeof broad, 0, CEVILONETH_LINES);
+    expect("a question about a broad record", a.refusal, 0);
     expect("its answer", a.leads, 0);
 }
 

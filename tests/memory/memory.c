@@ -89,9 +89,12 @@ static void unchanged(struct region r, const uint8_t *place, size_t written) {
 /* ---- charts */
 
 static struct region record_pages, lists[3];
-static unsigned long answers[9]; /* how often each was given, 0 being a chart */
+static unsigned long answers[12]; /* how often each was given, 0 being a chart */
 static const size_t most[3] = {CEVILONETH_WORDS, CEVILONETH_ARROWS, CEVILONETH_BUNDLES};
 static const size_t numbers[3] = {5, 5, 4};
+
+/* Whether a chart call can answer so: a chart, a refusal of the record, one of the lists, or broad. */
+static int is_answer(unsigned refusal) { return refusal <= 8 || refusal == 11; }
 
 /* One call with lists of these lengths; all that isn't needed must stay. */
 static ceviloneth_counts draw(const uint8_t *record, size_t size, const size_t length[3], int upper) {
@@ -111,8 +114,13 @@ static ceviloneth_counts draw(const uint8_t *record, size_t size, const size_t l
         for (int i = 0; i < 128; i++) {
             sum += c.side_columns[i];
         }
-        if (sum != 0 || c.refusal > 8) {
+        if (sum != 0 || !is_answer(c.refusal)) {
             fail("a refusal with counts, or one that isn't a chart's");
+        }
+    }
+    for (int i = c.lines; i < 128; i++) {
+        if (c.lines > CEVILONETH_LINES || c.side_columns[i] != 0) {
+            fail("too many lines, or a side column past the last");
         }
     }
     answers[c.refusal]++;
@@ -146,16 +154,17 @@ static void draw_fitting(const uint8_t *record, size_t size, const size_t needed
     }
 }
 
-/* All calls for one record. */
-static void try_record(const uint8_t *bytes, size_t size) {
+/* All calls for one record; gives its answer with long lists. */
+static unsigned try_record(const uint8_t *bytes, size_t size) {
     static const size_t none[3] = {0, 0, 0};
+    ceviloneth_counts c = {0};
     for (int upper = 0; upper < 2; upper++) {
         uint8_t *record = placed(record_pages, size, upper);
         protect(record_pages, PROT_READ | PROT_WRITE);
         memcpy(record, bytes, size);
         protect(record_pages, PROT_READ);
         doing = "a chart into long lists";
-        ceviloneth_counts c = draw(record, size, most, upper);
+        c = draw(record, size, most, upper);
         if (c.refusal != 0) {
             doing = "a refused record and no lists";
             expect(draw(record, size, none, upper), c.refusal);
@@ -164,6 +173,7 @@ static void try_record(const uint8_t *bytes, size_t size) {
         size_t needed[3] = {5 * c.words, 5 * c.arrows, 4 * c.bundles};
         draw_fitting(record, size, needed, upper);
     }
+    return c.refusal;
 }
 
 /* ---- records */
@@ -234,6 +244,20 @@ static size_t damage(size_t size) {
     return size;
 }
 
+/* Words without arrows are as many lines; and a few arrows and house lines about as many lines as a chart may have. */
+static void try_broad(void) {
+    for (size_t words = 1; words <= 128; words++) {
+        put_length(0, 1, 1);
+        record[3] = (uint8_t)words;
+        if (try_record(record, put_length(4, 2, 0)) != (words > CEVILONETH_LINES ? 11 : 0)) {
+            fail("broad too early or too late");
+        }
+    }
+    for (int i = 0; i < 400; i++) {
+        try_record(record, make(CEVILONETH_LINES - 3 + below(12), below(6)));
+    }
+}
+
 static void try_records(void) {
     for (int i = 0; i < 12000; i++) {
         size_t size = make(1 + below(12), below(256));
@@ -261,9 +285,9 @@ static void try_records(void) {
 /* A run that leaves out an answer tests too little. */
 static void all_answers_given(void) {
     doing = "all records";
-    for (int i = 0; i <= 8; i++) {
-        if (answers[i] == 0) {
-            fail("one of the answers 0 to 8 was never given");
+    for (unsigned i = 0; i < sizeof answers / sizeof *answers; i++) {
+        if (is_answer(i) && answers[i] == 0) {
+            fail("one of a chart's answers was never given");
         }
     }
 }
@@ -333,7 +357,7 @@ static void try_sessions(void) {
 static void try_questions(void) {
     doing = "a question about a record";
     for (int i = 0; i < 6000; i++) {
-        size_t made = make(1 + below(12), below(256));
+        size_t made = make(1 + below(below(9) ? 12 : 128), below(256));
         size_t size = below(3) ? made : damage(made);
         uint8_t *place = placed(record_pages, size, i % 2);
         protect(record_pages, PROT_READ | PROT_WRITE);
@@ -341,7 +365,7 @@ static void try_questions(void) {
         protect(record_pages, PROT_READ);
         ceviloneth_answer told = ceviloneth_leads(place, size, word(), word());
         calls++;
-        if (told.leads > 1 || (told.refusal != 0 && told.leads != 0)) {
+        if (told.refusal > 7 || told.leads > 1 || (told.refusal != 0 && told.leads != 0)) {
             fail("an answer that is none");
         }
     }
@@ -393,6 +417,7 @@ int main(void) {
         lists[i] = region(2 * most[i] + 2);
     }
     try_records();
+    try_broad();
     all_answers_given();
     try_sessions();
     try_questions();

@@ -1,5 +1,6 @@
 /* The stack test: every call of the header is made on a thread whose whole stack has CEVILONETH_STACK_BYTES bytes, with pages below it that
- * can't be touched. Records are those whose searches for lines go deepest, the largest charts, refused ones, and the files that are named.
+ * can't be touched. Records are those whose searches for lines go deepest, the largest charts, broad ones and others that are refused, and
+ * the files that are named.
  * Every answer must be the one that is given on the main thread's large stack.
  *
  *     rt staticlib ceviloneth
@@ -18,7 +19,7 @@
 #include <sys/mman.h>
 #include <unistd.h>
 
-enum { WORDS = 128, MOST = 4096, LONGEST = 65536, GUARD = 131072, PAINT = 0xA5 };
+enum { WORDS = 128, MOST = 4096, LINES = CEVILONETH_LINES, LONGEST = 65536, GUARD = 131072, PAINT = 0xA5 };
 
 static const char *doing = "starting", *of = "no record";
 
@@ -267,12 +268,30 @@ static void chain(size_t longest) {
     }
 }
 
-/* Each of the lower 64 words to all of the upper, or to ever fewer of them, so that every search goes through all. */
-static void bipartite(int fewer) {
+/* Each of the lowest so many words to all of as many above them, or to ever fewer of these, so that every search goes through all. The
+ * words that are left follow the last of them in one line. So there are just as many lines. */
+static void bipartite(size_t half, int fewer) {
     begin();
-    for (size_t u = 0; u < WORDS / 2; u++) {
-        for (size_t v = WORDS / 2; v < (fewer ? WORDS - u : WORDS); v++) {
+    for (size_t u = 0; u < half; u++) {
+        for (size_t v = half; v < 2 * half - (fewer ? u : 0); v++) {
             put_arrow(u, v);
+        }
+    }
+    for (size_t v = 2 * half; v < WORDS; v++) {
+        put_arrow(v - 1, v);
+    }
+}
+
+/* Each word to all that stand in the next row, of rows of so many words, and then to all in the one after. */
+static void layered(size_t breadth) {
+    begin();
+    for (size_t rise = 1; rise <= 2; rise++) {
+        for (size_t u = 0; u < WORDS; u++) {
+            for (size_t v = u; v < WORDS && v / breadth <= u / breadth + rise; v++) {
+                if (v / breadth == u / breadth + rise) {
+                    put_arrow(u, v);
+                }
+            }
         }
     }
 }
@@ -320,8 +339,8 @@ static void try_sound(void) {
     try_record("the deepest search beside a house line of two words", 0);
     deepest_search(64);
     try_record("the deepest search beside a house line of 64 words", 0);
-    dense();
-    try_record("4,096 arrows", 0);
+    layered(LINES);
+    try_record("4,096 arrows and as many lines as a chart may have", 0);
     chain(32);
     try_record("a line with arrows up to 32 on", 0);
     chain(WORDS);
@@ -331,19 +350,42 @@ static void try_sound(void) {
     chain(WORDS);
     put_house_lines(WORDS / 4, WORDS / 2, 1);
     try_record("a house line of 32 words and 4,096 arrows", 0);
-    bipartite(0);
-    try_record("each word of a half to each of the other", 0);
-    put_house_lines(0, WORDS, 0);
-    try_record("128 house lines and 4,096 arrows", 0);
-    bipartite(1);
-    try_record("a search through 64 words at every step", 0);
-    put_house_lines(0, 1, 1);
-    try_record("a search through 63 words beside a house line", 0);
-    begin();
-    try_record("no arrows", 0);
+    chain(WORDS);
+    put_house_lines(1, LINES, 0);
+    try_record("house lines, as many as a chart may have beside a planned one", 0);
+    bipartite(LINES, 0);
+    try_record("each of 31 words to each of 31", 0);
+    bipartite(LINES, 1);
+    try_record("a search through 31 words at every step", 0);
     put_field(3, 0);
-    try_record("an empty field of house lines", 0);
+    try_record("the same with an empty field of house lines", 0);
+    bipartite(LINES - 1, 1);
+    put_house_lines(0, 1, 1);
+    try_record("a search through 29 words beside a house line", 0);
     try_random_lines();
+}
+
+/* Charts of too many lines, with the same searches and more of them. */
+static void try_broad(void) {
+    dense();
+    try_record("4,096 arrows", 11);
+    layered(LINES + 1);
+    try_record("4,096 arrows and a line more than a chart may have", 11);
+    bipartite(WORDS / 2, 0);
+    try_record("each word of a half to each of the other", 11);
+    put_house_lines(0, WORDS, 0);
+    try_record("128 house lines and 4,096 arrows", 11);
+    bipartite(WORDS / 2, 1);
+    try_record("a search through 64 words at every step", 11);
+    put_house_lines(0, 1, 1);
+    try_record("a search through 63 words beside a house line", 11);
+    deepest_search(0);
+    put_house_lines(0, LINES + 1, 0);
+    try_record("a deep search beside house lines, one more than a chart may have", 11);
+    begin();
+    try_record("no arrows", 11);
+    put_field(3, 0);
+    try_record("no arrows and an empty field of house lines", 11);
 }
 
 static void try_refused(void) {
@@ -390,6 +432,7 @@ int main(int count, char **arguments) {
     sigaction(SIGILL, &action, NULL);
     make_stack();
     try_sound();
+    try_broad();
     try_refused();
     for (int i = first; i < count; i++) {
         try_file(arguments[i]);

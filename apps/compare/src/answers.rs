@@ -129,7 +129,11 @@ impl Second {
         let most = self.own.lengths();
         let (mut refusal, mut counts) = self.own.draw(record, most);
         let sizes = sizes(record, refusal, &counts);
-        let entries = if refusal.is_none() { sizes } else { [2; 3] };
+        let entries = match refusal {
+            None => sizes,
+            Some(Refusal::Broad) => most_entries(record),
+            Some(_) => [2; 3],
+        };
         let before = room.lists([0, 1, 2].map(|list| entries[list] * NUMBERS[list]));
         let fitting = [0, 1, 2].map(|list| before[list].len() / NUMBERS[list]);
         if refusal.is_none() && (0..3).any(|list| fitting[list] < sizes[list]) {
@@ -182,6 +186,14 @@ fn sizes(record: &[u8], refusal: Option<Refusal>, counts: &Counts) -> [usize; 3]
         }
         _ => [0; 3],
     }
+}
+
+/// As many words, arrows and bundles as a broad chart's lists would need, so that one that is drawn all
+/// the same is noticed.
+fn most_entries(record: &[u8]) -> [usize; 3] {
+    let (words, arrows) =
+        Record::parse(record).map_or((0, 0), |record| (record.vertex_count, record.edges.len()));
+    [words, arrows, 2 * words]
 }
 
 fn write<const N: usize>(list: &mut [u16], entries: impl Iterator<Item = [usize; N]>) {

@@ -4,6 +4,10 @@ use crate::answers::Room;
 use crate::tester::{Outcome, Tester};
 use reference::record::{Edge, Record};
 
+/// As many words and arrows as a record may have, with as many lines as a chart may, and with one more.
+const WIDE: &[u8] = include_bytes!("../../../samples/wide.record");
+const BROAD: &[u8] = include_bytes!("../../../samples/broad.record");
+
 /// The limits, each with its number.
 pub fn edges(tester: &mut Tester) -> Outcome {
     for (name, bytes, expected) in cases() {
@@ -21,19 +25,42 @@ type Case = (&'static str, Vec<u8>, usize);
 fn cases() -> Vec<Case> {
     let empty = |n: u8| fields(n, &[], &[]);
     let mut cases = vec![
-        ("128 words, 4,096 arrows", rising(128, 4096).to_bytes(), 0),
+        ("128 words, 4,096 arrows", rising(128, 4096).to_bytes(), 11),
+        ("the same in 31 lines", WIDE.to_vec(), 0),
+        ("the same in 32 lines", BROAD.to_vec(), 11),
         ("4,097 arrows", rising(128, 4097).to_bytes(), 2),
         ("129 words", empty(129), 2),
         ("no words", empty(0), 2),
         ("one word", empty(1), 0),
-        ("128 words alone", empty(128), 0),
+        ("31 words alone", empty(31), 0),
+        ("32 words alone", empty(32), 11),
+        ("128 words alone", empty(128), 11),
         ("a ring of 128", ring(128), 5),
         ("a ring of 65", ring(65), 5),
         ("an arrow to itself", ring(1), 5),
     ];
     cases.extend(layouts());
     cases.extend(lines());
+    cases.extend(many_lines());
     cases
+}
+
+/// House lines of one word each, up to too many; a fault of the record goes before that.
+fn many_lines() -> Vec<Case> {
+    let given = |words: usize, alone: usize, last: &[usize]| {
+        let mut channels: Vec<Vec<usize>> = (0..alone).map(|word| vec![word]).collect();
+        channels.extend((!last.is_empty()).then(|| last.to_vec()));
+        let rising = rising(words, words * (words - 1) / 2);
+        rising.with_given(channels).to_bytes()
+    };
+    vec![
+        ("30 house lines and a planned one", given(90, 30, &[]), 0),
+        ("31 house lines of all words", given(31, 31, &[]), 0),
+        ("31 house lines and a word", given(32, 31, &[]), 11),
+        ("32 house lines", given(32, 32, &[]), 11),
+        ("32 house lines and a repeat", given(32, 32, &[0]), 6),
+        ("32 house lines and a break", given(40, 31, &[39, 38]), 7),
+    ]
 }
 
 /// House lines of some words, of none, with a word twice, and broken.

@@ -2,6 +2,7 @@
 //! over.
 
 mod answers;
+mod broad;
 mod edges;
 mod least;
 mod questions;
@@ -18,9 +19,9 @@ const HELP: &str = "usage: compare [--quick] [--seed NUMBER]
 
 Compares the proved library with the second implementation: all small graphs with all house lines,
 the limits, damaged and random records, lists of every length, sessions, strokes; and tries by
-brute force whether a small graph has a smaller lawful chart that has the house lines whole. Every
-chart is also drawn by the peer (tests/peer), which must agree. --quick does less of what chance
-makes.
+brute force whether a small graph has a smaller lawful chart that has the house lines whole, and
+whether every division into lines of a broad one has too many. Every chart is also drawn by the peer
+(tests/peer), which must agree. --quick does less of what chance makes.
 
 Exit status: 0 all agree; 1 a difference, printed with the smallest record found; 2 wrong use.
 ";
@@ -120,6 +121,10 @@ fn by_chance(stages: &mut Stages, sized: impl Fn(usize, usize) -> usize) -> Outc
     stages.run("damaged records", |t, g| records::damaged(t, g, count))?;
     let count = sized(3, 40);
     stages.run("largest records", |t, g| records::largest(t, g, count))?;
+    let count = sized(250, 5_000);
+    stages.run("about as many lines as a chart may have", |t, g| {
+        broad::broad(t, g, count)
+    })?;
     let count = sized(2_000, 30_000);
     stages.run("session scripts", |t, g| sessions::sessions(t, g, count))?;
     let count = sized(8_000, 60_000);
@@ -132,9 +137,9 @@ fn by_chance(stages: &mut Stages, sized: impl Fn(usize, usize) -> usize) -> Outc
 
 /// Prints what was seen; a run that met too little is no proof of anything.
 fn summary(tester: &Tester) -> Outcome {
-    let seen = &tester.seen[..=8];
-    println!("answers by number, 0 a chart: {seen:?}");
-    if let Some(number) = seen.iter().position(|&count| count == 0) {
+    println!("answers by number, 0 a chart: {:?}", tester.seen);
+    // 9 and 10 are no answers of a chart.
+    if let Some(number) = (0..=8).chain([11]).find(|&number| tester.seen[number] == 0) {
         return Err(format!("no record was answered with {number}"));
     }
     println!("{} comparisons agree", tester.compared);

@@ -15,13 +15,19 @@ pub fn leads(tester: &mut Tester, generator: &mut Generator, count: usize) -> Ou
     for _ in 0..count {
         let bytes = random::record(generator);
         let far = generator.pick(&[128, 255, 256, usize::MAX]).unwrap_or(128);
-        tester.compared += 1;
-        if !agree(&bytes, far) {
-            let small = shrink(&bytes, |bytes| !agree(bytes, far));
-            return Err(format!("leads differs on record {}", to_hex(&small)));
-        }
+        leads_of(tester, &bytes, far)?;
     }
     Ok(())
+}
+
+/// Asks of one record, also from and to a far word.
+pub fn leads_of(tester: &mut Tester, bytes: &[u8], far: usize) -> Outcome {
+    tester.compared += 1;
+    if agree(bytes, far) {
+        return Ok(());
+    }
+    let small = shrink(bytes, |bytes| !agree(bytes, far));
+    Err(format!("leads differs on record {}", to_hex(&small)))
 }
 
 /// Whether both sides answer alike for all pairs of some words.

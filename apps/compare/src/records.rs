@@ -9,9 +9,10 @@ use reference::record::{Edge, Record, MAX_VERTICES};
 use reference::vectors::{self, Vector};
 use std::collections::BTreeSet;
 
-const VECTORS: [&str; 2] = [
+const VECTORS: [&str; 3] = [
     include_str!("../../../tests/reference/vectors/base.txt"),
     include_str!("../../../tests/reference/vectors/a.txt"),
+    include_str!("../../../tests/reference/vectors/b.txt"),
 ];
 
 /// Every set of arrows over up to four words, rings too.

@@ -11,7 +11,7 @@ pub struct Tester {
     /// How many records were compared.
     pub compared: usize,
     /// How often each answer came, 0 for a chart.
-    pub seen: [usize; 11],
+    pub seen: [usize; 12],
 }
 
 /// The first difference, for a person to read.
@@ -23,7 +23,7 @@ impl Tester {
         Tester {
             second: Second::new(),
             compared: 0,
-            seen: [0; 11],
+            seen: [0; 12],
         }
     }
 
