@@ -4,7 +4,7 @@
     check.py listed [ROOT]      every folder under crates/ is in crates.txt
     check.py promises [ROOT]    every public call keeps the rules of a promise
     check.py named [ROOT]       docs/PROMISES.md names files, must-fail edits and names that are there, and every edit
-    check.py sizes [ROOT]       the lengths of lists that the header names are those of the theorem that 8 is not answered
+    check.py sizes [ROOT]       the lengths of lists that the header names are those of the theorem that 8 is not answered, its most lines the limit
     check.py lines [ROOT]       no line of a definition or a proof (.antt) has more than 140 characters
     check.py logs [ROOT]        after rt ci: every must-fail edit was refused by the fact that its comment names
 
@@ -204,13 +204,15 @@ def check_logs(root):
 def check_sizes(root):
     header = (root / 'include' / 'ceviloneth.h').read_text()
     stated = (root / 'crates' / 'demands' / 'specs' / 'Demands.antt').read_text()
+    limits = (root / 'crates' / 'specification' / 'specs' / 'Limits.antt').read_text()
+    proved = {name: re.findall(rf'pub {name} : (\d+) ≤ length', stated) for name in ('words', 'arrows', 'bundles')}
+    proved['lines'] = re.findall(r'^mostLines = (\d+)$', limits, re.M)
     wrong = []
-    for name in ('words', 'arrows', 'bundles'):
+    for name, numbers in proved.items():
         defined = re.findall(rf'#define CEVILONETH_{name.upper()} (\d+)', header)
-        proved = re.findall(rf'pub {name} : (\d+) ≤ length', stated)
-        if len(defined) != 1 or defined != proved:
-            wrong.append(f'{name}: the header has {defined}, the theorem {proved}')
-    print('\n'.join(wrong + [f'3 sizes, {len(wrong)} faults']))
+        if len(defined) != 1 or defined != numbers:
+            wrong.append(f'{name}: the header has {defined}, the theorem {numbers}')
+    print('\n'.join(wrong + [f'{len(proved)} sizes, {len(wrong)} faults']))
     return not wrong
 
 

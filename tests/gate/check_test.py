@@ -7,7 +7,7 @@ from pathlib import Path
 
 CHECK = Path(__file__).with_name('check.py')
 
-SIZES = '#define CEVILONETH_WORDS 640\n#define CEVILONETH_ARROWS 20480\n#define CEVILONETH_BUNDLES 1024\n'
+SIZES = '#define CEVILONETH_WORDS 640\n#define CEVILONETH_ARROWS 20480\n#define CEVILONETH_BUNDLES 1024\n#define CEVILONETH_LINES 31\n'
 STATED = 'pub words : 640 ≤ length ws\npub arrows : 20480 ≤ length es\npub bundles : 1024 ≤ length bs\n'
 
 KEEPS = 'pub fn f(a: &mut [u8]) -> u8\n    ensures { λ r. ⌜ (r ≡ 0) × (now (a .exit) ≡ now (a .entry)) ⌝ }\n{ 0 }\n'
@@ -58,6 +58,7 @@ CASES = [
     ('a call that is not there', 'named', 'one:\n', '`one/wrong`, `one::g`', 'names g in one::g'),
     ("the header's sizes", 'sizes', 'one:\n', SIZES, None),
     ('a size of another number', 'sizes', 'one:\n', SIZES.replace('20480', '20475'), "arrows: the header has ['20475'], the theorem ['20480']"),
+    ('a limit of another number', 'sizes', 'one:\n', SIZES.replace('31', '32'), "lines: the header has ['32'], the theorem ['31']"),
     ('a size that is not there', 'sizes', 'one:\n', SIZES.replace('#define CEVILONETH_WORDS 640\n', ''), 'words: the header has []'),
     ('lines that fit', 'lines', 'one:\n', 'ab\n' + 'λ' * 140 + '\n', None),
     ('a long line', 'lines', 'one:\n', 'ab\n' + 'λ' * 141 + '\n', 'crates/one/specs/Lines.antt:2: 141 characters'),
@@ -100,6 +101,8 @@ def run(check, crates, source):
         if check == 'sizes':
             Path(folder, 'crates/demands/specs').mkdir(parents=True)
             Path(folder, 'crates/demands/specs/Demands.antt').write_text(STATED)
+            Path(folder, 'crates/specification/specs').mkdir(parents=True)
+            Path(folder, 'crates/specification/specs/Limits.antt').write_text('mostLines = 31\n')
         if check == 'lines':
             Path(folder, 'crates/one/specs/Lines.antt').write_text(source)
         if check == 'logs':
