@@ -15,20 +15,32 @@ pub struct Curve {
     pub points: Vec<(usize, [f64; 2])>,
 }
 
-/// As the words grow, and as the arrows between the most words do.
-pub fn curves() -> [Curve; 2] {
+/// Words and arrows of what is timed: as the words grow, and as the arrows between the most words do.
+/// With fewer arrows some would be broad.
+pub fn sizes() -> [Vec<(usize, usize)>; 2] {
     let words = [8, 16, 24, 32, 48, 64, 80, 96, 112, MAX_VERTICES];
-    let arrows = [0, 256, 512, 1024, 1536, 2048, 2560, 3072, 3584, MAX_EDGES];
+    let arrows = [512, 768, 1024, 1536, 2048, 2560, 3072, 3584, MAX_EDGES];
+    [
+        words.map(|n| (n, 4 * n)).to_vec(),
+        arrows.map(|m| (MAX_VERTICES, m)).to_vec(),
+    ]
+}
+
+/// Times every size.
+pub fn curves() -> [Curve; 2] {
+    let [by_words, by_arrows] = sizes();
+    let by_words = by_words.into_iter().map(|(n, m)| (n, micros(n, m)));
+    let by_arrows = by_arrows.into_iter().map(|(n, m)| (m, micros(n, m)));
     [
         Curve {
-            title: "random charts with two arrows a word",
+            title: "random charts with four arrows a word",
             axis: "words",
-            points: words.map(|n| (n, micros(n, 2 * n))).to_vec(),
+            points: by_words.collect(),
         },
         Curve {
             title: "random charts of 128 words",
             axis: "arrows",
-            points: arrows.map(|m| (m, micros(MAX_VERTICES, m))).to_vec(),
+            points: by_arrows.collect(),
         },
     ]
 }

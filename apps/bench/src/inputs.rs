@@ -3,6 +3,7 @@
 use ceviloneth::{
     ARROW_NUMBERS, BUNDLE_NUMBERS, MOST_ARROWS, MOST_BUNDLES, MOST_WORDS, WORD_NUMBERS,
 };
+use reference::breadth::is_broad;
 use reference::random::{give_channels, graph, Generator, Shape};
 use reference::record::{Edge, Record, MAX_BYTES, MAX_EDGES, MAX_VERTICES};
 
@@ -52,6 +53,12 @@ impl Input {
         }
     }
 
+    /// A record that is refused for the lines that its chart would have.
+    fn broad(shape: &str, record: &Record) -> Input {
+        let why = format!("broad, {}", sized(shape, record));
+        Input::refused(&why, record.to_bytes())
+    }
+
     fn refused(why: &str, record: Vec<u8>) -> Input {
         Input {
             name: format!("refused: {why}"),
@@ -85,9 +92,40 @@ pub fn grouped(number: usize) -> String {
 }
 
 /// The first entries of the dictionary: nine of ten have 2 to 20 words, a few up to 128; a tenth
-/// of them has house lines.
-pub fn dictionary(entries: usize) -> Input {
+/// of them has house lines, and none is broad. After it the broad ones that were met on the way.
+pub fn dictionary(entries: usize) -> [Input; 2] {
     let mut generator = Generator::new(1);
+    let (mut drawn, mut broad) = (Vec::new(), Vec::new());
+    while drawn.len() < entries {
+        let record = entry(&mut generator);
+        let kind = if is_broad(&record) {
+            &mut broad
+        } else {
+            &mut drawn
+        };
+        kind.push(record.to_bytes());
+    }
+    let broad_name = format!(
+        "refused: broad, dictionary, {} entries",
+        grouped(broad.len())
+    );
+    [
+        (
+            format!("dictionary, {} entries", grouped(entries)),
+            Class::Dictionary,
+            drawn,
+        ),
+        (broad_name, Class::Refused, broad),
+    ]
+    .map(|(name, class, records)| Input {
+        name,
+        class,
+        records,
+        room: ROOM,
+    })
+}
+
+fn entry(generator: &mut Generator) -> Record {
     let shapes = [
         Shape::Forest,
         Shape::Forest,
@@ -96,32 +134,51 @@ pub fn dictionary(entries: usize) -> Input {
         Shape::Chain,
         Shape::Bipartite,
     ];
-    let entry = |_| {
-        let words = match generator.below(1000) {
-            0..=899 => generator.between(2, 20),
-            900..=979 => generator.between(21, 48),
-            980..=998 => generator.between(49, 96),
-            _ => generator.between(97, MAX_VERTICES),
-        };
-        let shape = generator.pick(&shapes).unwrap_or(Shape::Forest);
-        let mut record = graph(&mut generator, shape, words);
-        if generator.percent(10) {
-            give_channels(&mut record, &mut generator);
-        }
-        record.to_bytes()
+    let words = match generator.below(1000) {
+        0..=899 => generator.between(2, 20),
+        900..=979 => generator.between(21, 48),
+        980..=998 => generator.between(49, 96),
+        _ => generator.between(97, MAX_VERTICES),
     };
-    Input {
-        name: format!("dictionary, {} entries", grouped(entries)),
-        class: Class::Dictionary,
-        records: (0..entries).map(entry).collect(),
-        room: ROOM,
+    let shape = generator.pick(&shapes).unwrap_or(Shape::Forest);
+    let mut record = graph(generator, shape, words);
+    if generator.percent(10) {
+        give_channels(&mut record, generator);
     }
+    record
+}
+
+/// A shape, by the number of its words.
+type Grown = fn(usize) -> Record;
+
+/// The shapes whose records of the most words are broad.
+const BROADENING: [(&str, Grown); 6] = [
+    ("no arrows", |words| scattered(words, 0)),
+    ("sparse", |words| {
+        scattered(words, 190 * words / MAX_VERTICES)
+    }),
+    ("bipartite by halves", |words| bipartite(words, |_| words)),
+    ("worst matching", |words| bipartite(words, |u| words - u)),
+    ("house lines", |words| house_lines(medium(words))),
+    ("house lines of some words", |words| {
+        some_house_lines(medium(words))
+    }),
+];
+
+/// The largest record of a shape that is not broad: as wide as a chart may be.
+fn widest(shape: Grown) -> Record {
+    let mut records = (1..=MAX_VERTICES).rev().map(shape);
+    records
+        .find(|record| !is_broad(record))
+        .expect("one word is not broad")
 }
 
 /// Everything that is timed.
 pub fn all() -> Vec<Input> {
-    let mut inputs = vec![dictionary(ENTRIES)];
+    let [drawn, broad] = dictionary(ENTRIES);
+    let mut inputs = vec![drawn];
     inputs.extend(alone());
+    inputs.push(broad);
     inputs
 }
 
@@ -140,7 +197,7 @@ fn growing() -> Vec<Input> {
         .iter()
         .map(|&(words, arrows)| Input::chart("random", &scattered(words, arrows)))
         .collect();
-    let shapes: [(&str, fn(usize) -> Record); 3] = [
+    let shapes: [(&str, Grown); 3] = [
         ("chain", |words| chain(words, 1)),
         ("reversed chain", reversed_chain),
         ("chain with arrows two on", |words| chain(words, 2)),
@@ -148,47 +205,45 @@ fn growing() -> Vec<Input> {
     for (name, shape) in shapes {
         inputs.extend(sizes.map(|words| Input::chart(name, &shape(words))));
     }
-    inputs.extend([8, MAX_VERTICES].map(|words| Input::chart("no arrows", &scattered(words, 0))));
+    inputs.push(Input::chart("no arrows", &scattered(8, 0)));
     inputs.extend([8, 64, MAX_VERTICES].map(|words| Input::chart("layered", &layered(words))));
-    inputs.extend([some_house_lines(8, 16), some_house_lines(64, 256)]);
+    let some = [(8, 16), (64, 256)].map(|(n, m)| some_house_lines(scattered(n, m)));
+    inputs.extend(some.map(|record| Input::chart("house lines of some words", &record)));
     inputs
 }
 
-/// The largest records of each shape, one each.
+/// The largest chart of each shape, one each.
 fn largest() -> Vec<Input> {
     let dense = Input::chart("dense", &scattered(MAX_VERTICES, MAX_EDGES));
-    let house_lines = house_lines(scattered(MAX_VERTICES, 1200));
-    vec![
-        Input::chart("sparse", &scattered(MAX_VERTICES, 190)),
-        Input::chart("medium", &scattered(MAX_VERTICES, 1200)),
+    let mut inputs = vec![
+        Input::chart("medium", &medium(MAX_VERTICES)),
         Input {
             class: Class::Dense,
             ..dense
         },
         Input::chart("chain with arrows up to 32 on", &chain(MAX_VERTICES, 32)),
-        Input::chart("bipartite by halves", &bipartite(|_| MAX_VERTICES)),
-        Input::chart("worst matching", &bipartite(|u| MAX_VERTICES - u)),
         Input::chart("deepest search", &deepest_search(0)),
         Input::chart("deepest search beside a house line", &deepest_search(1)),
-        Input::chart("house lines", &house_lines),
-        some_house_lines(MAX_VERTICES, 1200),
-    ]
+    ];
+    inputs.extend(BROADENING.map(|(name, shape)| Input::chart(name, &widest(shape))));
+    inputs
 }
 
-/// Records that are refused late, and one that is at once.
+/// Records that are refused late, one that is at once, and broad ones.
 fn refused() -> Vec<Input> {
     let mut ring = chain(MAX_VERTICES, 32);
     let _ = ring.edges.pop();
     ring.edges.push(Edge::new(MAX_VERTICES - 1, 0));
     let ring = Input::refused("a ring at the last of 3,568 arrows", ring.to_bytes());
     let no_layout = Input::refused("65,535 bytes of no layout", vec![0; MAX_BYTES]);
-    let medium = scattered(MAX_VERTICES, 1200);
+    let medium = medium(MAX_VERTICES);
     let mut short = Input::refused(
         "a list one number too short for 1,200 arrows",
         medium.to_bytes(),
     );
-    short.room[1] = ARROW_NUMBERS * 1200 - 1;
-    vec![ring, no_layout, short]
+    short.room[1] = ARROW_NUMBERS * medium.edges.len() - 1;
+    let broad = BROADENING.map(|(name, shape)| Input::broad(name, &shape(MAX_VERTICES)));
+    [ring, no_layout, short].into_iter().chain(broad).collect()
 }
 
 fn record(words: usize, pairs: impl Iterator<Item = (usize, usize)>) -> Record {
@@ -208,6 +263,11 @@ pub fn scattered(words: usize, arrows: usize) -> Record {
     generator.shuffle(&mut pairs);
     pairs.truncate(arrows);
     record(words, pairs.into_iter())
+}
+
+/// Arrows anywhere, 1,200 for the most words.
+fn medium(words: usize) -> Record {
+    scattered(words, 1200 * words / MAX_VERTICES)
 }
 
 /// One line: each word to the next, and to those up to `longest` on.
@@ -251,11 +311,11 @@ fn layered(words: usize) -> Record {
     )
 }
 
-/// Each of the lower 64 words to the upper ones below a limit.
-fn bipartite(limit: fn(usize) -> usize) -> Record {
-    let half = MAX_VERTICES / 2;
+/// Each word of the lower half to those of the upper one below a limit.
+fn bipartite(words: usize, limit: impl Fn(usize) -> usize) -> Record {
+    let half = words / 2;
     let pairs = (0..half).flat_map(|u| (half..limit(u)).map(move |v| (u, v)));
-    record(MAX_VERTICES, pairs)
+    record(words, pairs)
 }
 
 fn house_lines(mut record: Record) -> Record {
@@ -264,9 +324,8 @@ fn house_lines(mut record: Record) -> Record {
 }
 
 /// Every second one of house lines that hold all words; the words of the others are planned.
-fn some_house_lines(words: usize, arrows: usize) -> Input {
-    let all = house_lines(scattered(words, arrows));
+fn some_house_lines(record: Record) -> Record {
+    let all = house_lines(record);
     let kept = all.given().iter().step_by(2).cloned();
-    let record = all.with_given(kept.collect());
-    Input::chart("house lines of some words", &record)
+    all.with_given(kept.collect())
 }

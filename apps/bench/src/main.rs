@@ -33,7 +33,8 @@ The proved library, the peer (`tests/peer`, C++ written for speed) and the secon
 (`tests/reference`, Rust written for clarity) run in one process, in turn, on the same inputs, all as
 release builds. The lists are made once, with room for every chart, and lent again and again: caches are
 warm. Records are in memory. A figure is the best of fifteen turns of 0.06 s or more. A ratio below 1 says
-that the proved library is faster. With `--check` the exit status tells whether all ratios are as asked,
+that the proved library is faster. A shape whose largest record is broad is timed as a chart of 31 lines,
+the most there are, and that record as a refusal. With `--check` the exit status tells whether all ratios are as asked,
 with `--others` Graphviz and networkx are timed too.
 ";
 

@@ -1,12 +1,14 @@
 //! The stack of the exported chart call, measured on the archive that is linked; and the picture.
 
-use bench::growth::Curve;
-use bench::inputs::{alone, dictionary, ROOM};
+use bench::growth::{sizes, Curve};
+use bench::inputs::{alone, dictionary, scattered, Class, ROOM};
 use bench::memory::peak_stack;
 use bench::plot::svg;
 use bench::sides::Side;
+use ceviloneth::{chart_into, Refusal, MOST_LINES};
 use reference::random::{give_channels, give_some_channels, graph, Generator, SHAPES};
 use reference::record::{Edge, Record, MAX_VERTICES};
+use std::collections::BTreeSet;
 
 /// What a chart call may take, in bytes.
 const STACK: usize = 48 * 1024;
@@ -20,6 +22,42 @@ fn assert_small(what: &str, records: &[Vec<u8>], room: [usize; 3]) {
     assert!(used <= STACK, "{what}: {used} bytes of stack");
 }
 
+/// What is timed as a chart is drawn, and what is timed as a refusal is refused, where it says so as
+/// broad. Of each shape that is broad a chart with as many lines as can be is timed too.
+#[test]
+fn timed_records_are_what_they_are_called() {
+    let (mut broad, mut widest) = (BTreeSet::new(), BTreeSet::new());
+    for input in alone().into_iter().chain(dictionary(5000)) {
+        let (name, [mut words, mut arrows, mut bundles]) =
+            (input.name, input.room.map(|length| vec![0; length]));
+        let shape = name.split(", ").next().map(str::to_string);
+        let broad_shape = name.strip_prefix("refused: broad, ");
+        for record in &input.records {
+            let drawn = chart_into(record, &mut words, &mut arrows, &mut bundles);
+            assert_eq!(drawn.is_err(), input.class == Class::Refused, "{name}");
+            let is_broad = drawn == Err(Refusal::Broad);
+            assert_eq!(is_broad, broad_shape.is_some(), "{name}");
+            if drawn.is_ok_and(|counts| counts.lines == MOST_LINES) {
+                widest.extend(shape.clone());
+            }
+        }
+        let broad_shape = broad_shape.and_then(|name| name.split(", ").next());
+        broad.extend(broad_shape.map(str::to_string));
+    }
+    assert!(
+        !broad.is_empty() && broad.is_subset(&widest),
+        "{broad:?} {widest:?}"
+    );
+}
+
+#[test]
+fn growing_charts_are_drawn() {
+    for (words, arrows) in sizes().concat() {
+        let drawn = ceviloneth::chart(&scattered(words, arrows).to_bytes());
+        assert!(drawn.is_ok(), "{words} words, {arrows} arrows");
+    }
+}
+
 /// Each largest record of a shape, and that whose search for lines is the deepest.
 #[test]
 fn every_timed_record_takes_little_stack() {
@@ -30,8 +68,9 @@ fn every_timed_record_takes_little_stack() {
 
 #[test]
 fn the_dictionary_takes_little_stack() {
-    let input = dictionary(5000);
-    assert_small(&input.name, &input.records, input.room);
+    for input in dictionary(5000) {
+        assert_small(&input.name, &input.records, input.room);
+    }
 }
 
 #[test]
