@@ -1,5 +1,5 @@
 -- The number that is answered of a graph is that of the first check that fails, with 'broad' before 'short'. Assumes nothing.
-use Rattle.counting.proofs.Prelude.{_≡_, refl, sym, ap, _∙_, subst, _↔_, _≢_, _⊎_, inl, inr, ⊎-elim, Bool, true, false, true≢false}
+use Rattle.counting.proofs.Prelude.{_≡_, refl, sym, ap, _∙_, subst, _↔_, _⊎_, inl, inr, ⊎-elim, Bool, true, false, true≢false}
 use Rattle.counting.proofs.Prelude.{ℕ, _≤_, _<_, arith, length, eq-eqb, ltb-false, List·getD-eq-default}
 use native.Mathlib.Decide.{ℕ-discrete}
 use Rattle.counting.proofs.Truth.{true-or-false, lt-or-le}
@@ -7,7 +7,7 @@ use Rattle.specification.specs.Limits.{mostVertices, mostEdges, mostBundles, mo
 use Rattle.specification.specs.Checks.{Content, size?, stranger?, double?, ring?, repeated?, unled?, looseChecks, laterChecks}
 use Rattle.specification.specs.Checks.{firstOf, refusalOf, Sized, Distinct, Acyclic, Once, Led, Sound}
 use Rattle.specification.specs.Chart.{channelsOf, planOf, tracksIn}
-use Rattle.specification.specs.Drawn.{broad?, chartRefusal, Drawn, judged, short?, lent, Summary}
+use Rattle.specification.specs.Drawn.{broad?, chartRefusal, Drawn, judged, short?, Summary}
 use Rattle.specification.specs.declared.ChartCounts.{ChartCounts}
 use Rattle.record.proofs.Soundness.{size-says, stranger-says, double-says, ring-says, cover-says, led-says, sound-accepted}
 use Rattle.chart_laws.proofs.Broad.{too-many, broad-so, chart-refused, chart-broad, chart-whole}

@@ -1,6 +1,6 @@
 -- Which charts are broad, by divisions: 32 vertices no two of which may share a part need as many parts, and 31 parts are enough where one
 -- edge joins two of them. Nothing is planned here. Assumes nothing.
-use Rattle.counting.proofs.Prelude.{_≡_, refl, sym, ap, _∙_, subst, _≢_, _⊎_, inl, inr, ⊎-elim, Bool, true, false, true≢false, List, []}
+use Rattle.counting.proofs.Prelude.{_≡_, refl, sym, ap, _∙_, _≢_, _⊎_, inl, inr, ⊎-elim, Bool, true, false, true≢false, List, []}
 use Rattle.counting.proofs.Prelude.{_∷_, ap₂, ℕ, zero, suc, _+_, _-_, _≤_, _<_, arith, eqb, length, getD, ne-eqb}
 use native.Mathlib.Decide.{ℕ-discrete}
 use mathlib.Core.List.{flatten}

@@ -1,6 +1,6 @@
 -- The largest record, of 128 vertices and 4,096 edges, and records of one more; the broadest charts, and broader ones. Assumes nothing.
 use mathlib.Core.Path.{_≡_}
-use mathlib.Core.Bool.{Bool, true, false}
+use mathlib.Core.Bool.{true, false}
 use mathlib.Core.List.{List, [], _∷_}
 use Prim.Native.Nat.{ℕ, zero, suc, _+_, _/_, _%_}
 use Rattle.specification.specs.Limits.{mostVertices, mostEdges}
