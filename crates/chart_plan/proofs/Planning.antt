@@ -13,12 +13,12 @@ use Rattle.record.specs.declared.checks.Checked.{Checked}
 use Rattle.specification.specs.Drawn.{graphContent, broad?}
 use Rattle.chart_laws.proofs.Broad.{chart-refused, chart-broad, chart-whole}
 use Rattle.chart_plan.proofs.Laying as laying
-use Rattle.chart_plan.specs.Laid.{Lists, lists, Roomy, Plans, unplannedBy}
+use Rattle.chart_plan.specs.Laid.{Lists, lists, Roomy, Long, Plans, unplannedBy}
 use Rattle.chart_plan.specs.Steps.{roomy?, Passed, Filled}
 use Rattle.chart_plan.specs.declared.Plan.{Plan}
 
 -- the test of the lists that are not of masks
-abbrev tested : ℕ → Lists → Bool
+abbrev pub tested : ℕ → Lists → Bool
 tested n t = roomy? (min n 128) (length (t .spans)) (length (t .number)) (length (t .used)) (length (t .column))
 
 module _ (n : ℕ) (t : Lists) where
@@ -103,6 +103,19 @@ module _ {n : ℕ} {ends : List ℕ} {given : Bool} {field : List ℕ} (t : List
   abbrev masked : Lists
   masked = lists e′ b′ t′ l′ p′ (t .spans) (t .number) (t .used) (t .column)
 
+  masked-long : Long t masked
+  masked-long = record {
+    edges = p .long .0;
+    below = p .long .1;
+    table = p .long .2;
+    longer = p .long .3;
+    places = p .long .4;
+    spans = refl;
+    number = refl;
+    used = refl;
+    column = refl;
+  }
+
   untouched : (e′ ≡ t .edges) × (b′ ≡ t .below) × (t′ ≡ t .table) × (l′ ≡ t .longer) × (p′ ≡ t .places) → masked ≡ t
   untouched s = rw (s .0, s .1, s .2, s .3, s .4) refl
 
@@ -122,17 +135,7 @@ module _ {n : ℕ} {ends : List ℕ} {given : Bool} {field : List ℕ} (t : List
         cleared = λ h e _. p .cleared (h .masks) e ne;
         places-past = p .past;
         column-past = λ v h. refl;
-        long = record {
-          edges = p .long .0;
-          below = p .long .1;
-          table = p .long .2;
-          longer = p .long .3;
-          places = p .long .4;
-          spans = refl;
-          number = refl;
-          used = refl;
-          column = refl;
-        };
+        long = masked-long;
       }
 
   -- nothing is refused
@@ -202,17 +205,7 @@ module _ {n : ℕ} {ends : List ℕ} {given : Bool} {field : List ℕ} (t : List
           cleared = λ h _ ne. absurd (ne (sym (answer h) ∙ z));
           places-past = p .past;
           column-past = λ v h. refl;
-          long = record {
-            edges = p .long .0;
-            below = p .long .1;
-            table = p .long .2;
-            longer = p .long .3;
-            places = p .long .4;
-            spans = refl;
-            number = refl;
-            used = refl;
-            column = refl;
-          };
+          long = masked-long;
         }
 
     pub laid-plan : k .channels ≤ mostLines → {r : Plan} {spans′ number′ used′ column′ : List ℕ}
