@@ -206,7 +206,7 @@ def check_sizes(root):
     stated = (root / 'crates' / 'demands' / 'specs' / 'Demands.antt').read_text()
     limits = (root / 'crates' / 'specification' / 'specs' / 'Limits.antt').read_text()
     proved = {name: re.findall(rf'pub {name} : (\d+) ≤ length', stated) for name in ('words', 'arrows', 'bundles')}
-    proved['lines'] = re.findall(r'^mostLines = (\d+)$', limits, re.M)
+    proved['lines'] = re.findall(r'^mostChannels = (\d+)$', limits, re.M)
     wrong = []
     for name, numbers in proved.items():
         defined = re.findall(rf'#define CEVILONETH_{name.upper()} (\d+)', header)

@@ -102,7 +102,7 @@ def run(check, crates, source):
             Path(folder, 'crates/demands/specs').mkdir(parents=True)
             Path(folder, 'crates/demands/specs/Demands.antt').write_text(STATED)
             Path(folder, 'crates/specification/specs').mkdir(parents=True)
-            Path(folder, 'crates/specification/specs/Limits.antt').write_text('mostLines = 31\n')
+            Path(folder, 'crates/specification/specs/Limits.antt').write_text('mostChannels = 31\n')
         if check == 'lines':
             Path(folder, 'crates/one/specs/Lines.antt').write_text(source)
         if check == 'logs':

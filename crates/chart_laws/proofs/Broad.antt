@@ -2,7 +2,7 @@
 -- number it then gets. Assumes nothing.
 use Rattle.counting.proofs.Prelude.{_≡_, refl, _∙_, _↔_, _⊎_, inl, inr, ⊎-elim, Bool, true, false, ℕ, _<_, arith, eqb, length, eq-eqb}
 use Rattle.counting.proofs.Prelude.{ne-eqb, ltb-true, lt-ltb}
-use Rattle.specification.specs.Limits.{mostLines}
+use Rattle.specification.specs.Limits.{mostChannels}
 use Rattle.specification.specs.Count.{choose}
 use Rattle.specification.specs.Channels.{channelOf}
 use Rattle.specification.specs.Given.{Whole}
@@ -14,6 +14,10 @@ use Rattle.specification.specs.Lawful.{Divided}
 use Rattle.matching.specs.Division.{Division}
 use Rattle.chart_laws.proofs.Leading.{leads-decided}
 use Rattle.chart_laws.proofs.Channels.{channels-divide, channels-whole, channels-least}
+
+-- every division that has the given channels whole has more parts than a chart may have channels
+abbrev pub Crowded : Content → Type 0
+Crowded c = (m : ℕ) (part : ℕ → ℕ) → Divided c m part → Whole (c .vertices) (givenOf c) part → mostChannels < m
 
 module _ (c : Content) (s : Sound c) where
   -- what leads where, by the table
@@ -34,16 +38,16 @@ module _ (c : Content) (s : Sound c) where
   pub ours-divided : Divided c (length (channelsOf c)) (channelOf (channelsOf c))
   ours-divided = division-decided _ _ .1 (channels-divide c s .division)
 
-  -- too many channels is too many parts of every division that has the given ones whole
-  pub too-many : broad? c ≡ true → (m : ℕ) (part : ℕ → ℕ) → Divided c m part → Whole (c .vertices) (givenOf c) part → mostLines < m
+  -- too many channels is too many parts of every such division
+  pub too-many : broad? c ≡ true → Crowded c
   unfolding broad?
   too-many t m part d w =
-      omega (arith, ltb-true mostLines (length (channelsOf c)) t, channels-least c s m part (division-decided m part .0 d) w)
+      omega (arith, ltb-true mostChannels (length (channelsOf c)) t, channels-least c s m part (division-decided m part .0 d) w)
 
   -- .. and the other way round, ours being one of them
-  pub broad-so : ((m : ℕ) (part : ℕ → ℕ) → Divided c m part → Whole (c .vertices) (givenOf c) part → mostLines < m) → broad? c ≡ true
+  pub broad-so : Crowded c → broad? c ≡ true
   unfolding broad?
-  broad-so b = lt-ltb mostLines (length (channelsOf c)) (b _ _ ours-divided (channels-whole c s))
+  broad-so b = lt-ltb mostChannels (length (channelsOf c)) (b _ _ ours-divided (channels-whole c s))
 
 -- ---- the number: as the graph is refused, else 11 where it is broad
 

@@ -4,7 +4,7 @@ use Rattle.counting.proofs.Prelude.{length, leb-true, le-leb, lt-ltb, le-ltb}
 use native.Mathlib.Decide.{decLt}
 use Rattle.counting.proofs.Truth.{and-intro, and-elim}
 use Rattle.descent.specs.Promise.{Sized}
-use Rattle.specification.specs.Limits.{mostLines}
+use Rattle.specification.specs.Limits.{mostChannels}
 use Rattle.specification.specs.Checks.{Content, refusalOf}
 use Rattle.specification.specs.Chart.{channelsOf}
 use Rattle.planning.specs.Arranged.{Arranged}
@@ -189,12 +189,12 @@ module _ {n : ℕ} {ends : List ℕ} {given : Bool} {field : List ℕ} (t : List
     count = length (channelsOf c)
 
     -- there are too many
-    pub broad-plan : mostLines < k .channels → (r : Plan) → r ≡ unplannedBy 11 → Plans n ends given field t r masked
+    pub broad-plan : mostChannels < k .channels → (r : Plan) → r ≡ unplannedBy 11 → Plans n ends given field t r masked
     unfolding broad?
     broad-plan l r made =
         let eleven : r .refusal ≡ 11 = ap (λ (x : Plan). x .refusal) made in
         record {
-          answer = λ h. eleven ∙ sym (chart-broad c (sym (answer h) ∙ z) (lt-ltb mostLines count (omega (arith, arranged .counted))));
+          answer = λ h. eleven ∙ sym (chart-broad c (sym (answer h) ∙ z) (lt-ltb mostChannels count (omega (arith, arranged .counted))));
           short = λ h. absurd (h roomy);
           laid = λ h. absurd (omega arith);
           none = λ h. made ∙ ap unplannedBy (sym eleven);
@@ -208,12 +208,12 @@ module _ {n : ℕ} {ends : List ℕ} {given : Bool} {field : List ℕ} (t : List
           long = masked-long;
         }
 
-    pub laid-plan : k .channels ≤ mostLines → {r : Plan} {spans′ number′ used′ column′ : List ℕ}
+    pub laid-plan : k .channels ≤ mostChannels → {r : Plan} {spans′ number′ used′ column′ : List ℕ}
         → Filled n k e′ p′ (t .spans) (t .number) (t .used) (t .column) r spans′ number′ used′ column′
         → Plans n ends given field t r (lists e′ b′ t′ l′ p′ spans′ number′ used′ column′)
     unfolding passed broad?
     laid-plan few f = record {
-      answer = λ h. f .refusal ∙ sym (chart-whole c (sym (answer h) ∙ z) (le-ltb mostLines count (omega (arith, arranged .counted))));
+      answer = λ h. f .refusal ∙ sym (chart-whole c (sym (answer h) ∙ z) (le-ltb mostChannels count (omega (arith, arranged .counted))));
       short = λ h. absurd (h roomy);
       laid = λ _. f .laid passed;
       none = λ h. absurd (h (f .refusal));

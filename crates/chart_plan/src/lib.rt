@@ -17,7 +17,7 @@ use record::checks::check;
 const MOST: usize = 128;
 
 // The most channels of a chart.
-const MOST_LINES: u8 = 31;
+const MOST_CHANNELS: u8 = 31;
 
 // Why a graph is refused, or 0; how many rows, channels and bundles it has, and the columns of all channels.
 pub struct Plan {
@@ -138,7 +138,7 @@ pub fn planned<'a, 'f, 'e, 'b, 't, 'l, 'p, 's, 'n, 'u, 'c>(
     if k.refusal != 0 {
         return unplanned(k.refusal);
     }
-    if MOST_LINES < k.channels {
+    if MOST_CHANNELS < k.channels {
         return unplanned(11);
     }
     filled(n, k, edges, places, spans, number, used, column)

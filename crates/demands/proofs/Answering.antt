@@ -3,7 +3,8 @@ use Rattle.counting.proofs.Prelude.{_≡_, refl, sym, ap, _∙_, subst, _↔_, 
 use Rattle.counting.proofs.Prelude.{ℕ, _≤_, _<_, arith, length, eq-eqb, ltb-false, List·getD-eq-default}
 use native.Mathlib.Decide.{ℕ-discrete}
 use Rattle.counting.proofs.Truth.{true-or-false, lt-or-le}
-use Rattle.specification.specs.Limits.{mostVertices, mostEdges, mostBundles, mostLines}
+use Rattle.counting.proofs.Falsity.{not-true}
+use Rattle.specification.specs.Limits.{mostVertices, mostEdges, mostBundles, mostChannels}
 use Rattle.specification.specs.Checks.{Content, size?, stranger?, double?, ring?, repeated?, unled?, looseChecks, laterChecks}
 use Rattle.specification.specs.Checks.{firstOf, refusalOf, Sized, Distinct, Acyclic, Once, Led, Sound}
 use Rattle.specification.specs.Chart.{channelsOf, planOf, tracksIn}
@@ -105,8 +106,8 @@ roomy-most c s v e k hv he hk = record {
 
 -- ---- no more lines than a chart may have
 
-thin : (c : Content) (r : ChartCounts) → Summary c (planOf c) r → length (planOf c .channels) ≤ mostLines
-    → ((l : ℕ) → mostLines ≤ l → l < mostVertices → tracksIn (planOf c) l ≡ 0) → Narrow r
+thin : (c : Content) (r : ChartCounts) → Summary c (planOf c) r → length (planOf c .channels) ≤ mostChannels
+    → ((l : ℕ) → mostChannels ≤ l → l < mostVertices → tracksIn (planOf c) l ≡ 0) → Narrow r
 thin c r q few past = record {
   lines = omega (arith, q .lines);
   side-columns = λ l m. ⊎-elim
@@ -132,9 +133,7 @@ module _ (c : Content) where
   broad-decided s = (too-many c s, broad-so c s)
 
   whole-number : Sound c → (Broad c → ⊥) → chartRefusal c ≡ 0
-  whole-number s ne =
-      chart-whole c (sound-accepted c s)
-      (⊎-elim (λ t. absurd (ne (broad-decided s .0 t))) (λ t. t) (true-or-false (broad? c)))
+  whole-number s ne = chart-whole c (sound-accepted c s) (not-true (broad? c) (λ t. ne (broad-decided s .0 t)))
 
   broad-number : Sound c → Broad c → chartRefusal c ≡ 11
   broad-number s b = chart-broad c (sound-accepted c s) (broad-decided s .1 b)
@@ -212,10 +211,9 @@ module _ (c : Content) where
       pub graph-least : Smallest c (seen c r n) × Carried c (seen c r n) r
       graph-least = call-smallest v e k drawn r n h z c whole (shown .0)
 
-      few : length (channelsOf c) ≤ mostLines
+      few : length (channelsOf c) ≤ mostChannels
       unfolding broad?
-      few = ⊎-elim (λ t. absurd (shown .1 (broad-decided (shown .0) .0 t))) (ltb-false mostLines (length (channelsOf c)))
-          (true-or-false (broad? c))
+      few = ltb-false mostChannels (length (channelsOf c)) (not-true (broad? c) (λ t. shown .1 (broad-decided (shown .0) .0 t)))
 
       accepted-narrow : Narrow r
       accepted-narrow =

@@ -2,7 +2,7 @@
 -- asked but its promise. The statements are in specs/Demands.antt and specs/Refusals.antt, and in specification's specs/Lawful.antt.
 -- Assumes nothing.
 use Rattle.counting.proofs.Prelude.{_≡_, sym, subst, _≢_, _↔_, Bool, true, false, List, ℕ, _/_, _≤_, _<_, arith, length, ltb-true, lt-ltb}
-use Rattle.specification.specs.Limits.{mostLines}
+use Rattle.specification.specs.Limits.{mostChannels}
 use Rattle.specification.specs.Channels.{givenLines}
 use Rattle.specification.specs.Given.{Whole}
 use Rattle.specification.specs.Writing.{written, Writable}
@@ -63,11 +63,11 @@ bare-whole c g part = rw g (none-whole (c .vertices) part)
 
 -- a broad graph is one whose every division that has the given channels whole has more than 31 parts, and ours is one of them: the count of
 -- our channels tells it (13.1)
-pub broad-exactly : (c : Content) → Sound c → Broad c ↔ (mostLines < length (channelsOf c))
+pub broad-exactly : (c : Content) → Sound c → Broad c ↔ (mostChannels < length (channelsOf c))
 unfolding broad?
 broad-exactly c s =
     let d = broad-decided c s in
-    ((λ b. ltb-true mostLines (length (channelsOf c)) (d .1 b)), λ l. d .0 (lt-ltb mostLines (length (channelsOf c)) l))
+    ((λ b. ltb-true mostChannels (length (channelsOf c)) (d .1 b)), λ l. d .0 (lt-ltb mostChannels (length (channelsOf c)) l))
 
 -- ---- every call: the lists vs, es and bs are lent, r is the answer, and vs′, es′ and bs′ are the lists afterwards
 

@@ -4,7 +4,7 @@ use mathlib.Core.Logic.{_↔_}
 use mathlib.Core.List.{List}
 use Prim.Native.Nat.{ℕ, _≤_, _<_}
 use lib.ListN.{length, getD}
-use Rattle.specification.specs.Limits.{mostVertices, mostLines}
+use Rattle.specification.specs.Limits.{mostVertices, mostChannels}
 use Rattle.specification.specs.Layout.{layoutOf}
 use Rattle.specification.specs.declared.Fields.{Fields}
 use Rattle.specification.specs.declared.Layout.the-variants.{Good}
@@ -32,7 +32,7 @@ pub data Fails (c : Content) : ℕ → Type 0 where
 -- 11: every division of the graph that has its given channels whole has more parts than a chart may have lines. A part may be empty, which
 -- makes no difference
 abbrev pub Broad : Content → Type 0
-Broad c = (parts : ℕ) (part : ℕ → ℕ) → Divided c parts part → Whole (c .vertices) (givenOf c) part → mostLines < parts
+Broad c = (parts : ℕ) (part : ℕ → ℕ) → Divided c parts part → Whole (c .vertices) (givenOf c) part → mostChannels < parts
 
 -- of a graph that is to be drawn into lists of which `room` says whether they have room for it: 0 where none fails
 pub data Answered (c : Content) (room : Content → Type 0) : ℕ → Type 0 where
@@ -56,6 +56,6 @@ pub record Told (sound broad room : Type 0) (answer : ℕ) : Type 0 where
 
 -- whatever is answered: no more lines than a chart may have, and of the 128 numbers of side columns those past that are 0
 pub record Narrow (r : ChartCounts) : Type 0 where
-  pub lines : r .lines ≤ mostLines
-  pub side-columns : (l : ℕ) → mostLines ≤ l → getD (r .«side_columns») l 0 ≡ 0
+  pub lines : r .lines ≤ mostChannels
+  pub side-columns : (l : ℕ) → mostChannels ≤ l → getD (r .«side_columns») l 0 ≡ 0
   pub long : length (r .«side_columns») ≡ mostVertices

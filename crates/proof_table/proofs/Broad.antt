@@ -4,7 +4,7 @@ use Rattle.counting.proofs.Prelude.{_≡_, refl, sym, ap, _∙_, _≢_, _⊎_, 
 use Rattle.counting.proofs.Prelude.{_∷_, ap₂, ℕ, zero, suc, _+_, _-_, _≤_, _<_, arith, eqb, length, getD, ne-eqb}
 use native.Mathlib.Decide.{ℕ-discrete}
 use mathlib.Core.List.{flatten}
-use Rattle.specification.specs.Limits.{mostLines}
+use Rattle.specification.specs.Limits.{mostChannels}
 use Rattle.specification.specs.Count.{indicator, count}
 use Rattle.specification.specs.Graph.{Reaches, one, more, Edge, alternate, tailsOf, headsOf}
 use Rattle.specification.specs.Channels.{times, has, front, lines, filled, linesOf, givenLines, verticesOf}
@@ -17,17 +17,14 @@ use Rattle.specification.specs.Checks.{GivenKnown, Once, Led}
 use Rattle.specification.specs.Drawn.{broad?, chartRefusal, judged, recordDrawn}
 use Rattle.specification.specs.Lawful.{Divided}
 use Rattle.specification.specs.Table.{Says}
-use Rattle.counting.proofs.Truth.{indicator-le, true-or-false, lt-or-le}
+use Rattle.counting.proofs.Truth.{indicator-le, lt-or-le}
+use Rattle.counting.proofs.Falsity.{not-true}
 use Rattle.counting.proofs.Classes.{sum-one, apart-fit}
 use Rattle.matching.proofs.Beside.{none-whole}
 use Rattle.record.proofs.Soundness.{sound-accepted, accepted-sound}
-use Rattle.chart_laws.proofs.Broad.{too-many, broad-so, chart-broad, chart-whole}
+use Rattle.chart_laws.proofs.Broad.{Crowded, too-many, broad-so, chart-broad, chart-whole}
 use Rattle.proof_table.specs.Table.{full, recordWith, bare, bareRecord, joined, joinedRecord, parted, partedRecord, Draws, TooBroad}
 use Rattle.proof_table.proofs.Full.{full-accepted, full-fields, full-laid-out, full-says, full-up}
-
--- every division has too many parts
-abbrev Broad : Content → Type 0
-Broad c = (m : ℕ) (part : ℕ → ℕ) → Divided c m part → Whole (c .vertices) (givenOf c) part → mostLines < m
 
 -- ---- a record with a sound graph
 
@@ -45,13 +42,13 @@ module _ (b : List ℕ) (f : Fields) (c : Content) (laid : layoutOf b ≡ Good f
   drawn = rw (laid, same) refl
 
   -- a division into few parts shows it
-  draws : (m : ℕ) (part : ℕ → ℕ) → Divided c m part → Whole (c .vertices) (givenOf c) part → m ≤ mostLines → Draws b c
+  draws : (m : ℕ) (part : ℕ → ℕ) → Divided c m part → Whole (c .vertices) (givenOf c) part → m ≤ mostChannels → Draws b c
   unfolding judged
   draws m part d w few =
-      let narrow = ⊎-elim (λ t. absurd (omega (arith, too-many c s t m part d w))) (λ t. t) (true-or-false (broad? c)) in
+      let narrow = not-true (broad? c) (λ t. omega (arith, too-many c s t m part d w)) in
       (says, drawn ∙ rw (chart-whole c (sound-accepted c s) narrow) refl)
 
-  too-broad : Broad c → TooBroad b c
+  too-broad : Crowded c → TooBroad b c
   unfolding judged
   too-broad w = (says, drawn ∙ rw (chart-broad c (sound-accepted c s) (broad-so c s w)) refl)
 
@@ -99,7 +96,7 @@ bare-says : (n : ℕ) → contentOf (bareRecord n) (bareFields n) ≡ bare n
 unfolding contentOf tailsOf headsOf alternate bareRecord bare
 bare-says n = refl
 
-bare-broad : Broad (bare 32)
+bare-broad : Crowded (bare 32)
 unfolding bare
 bare-broad parts part d w = needs (bare 32) 32 (omega arith) parts part d (λ u v hu hv e r. no-edge r)
 
@@ -222,7 +219,7 @@ parted-sound =
     once (suc v) = omega (arith, ap indicator (ne-eqb 0 (suc v) (λ e. omega arith)), indicator-le (eqb 1 (suc v)))
 
 -- the part of 0 has 0 alone
-parted-broad : Broad parted
+parted-broad : Crowded parted
 unfolding parted givenLines has
 parted-broad parts part d w =
     needs parted 32 (omega arith) parts part d (λ u v hu hv e r. let a = the-route r in absurd (true≢false (sym (whole u v a e))))
@@ -249,7 +246,7 @@ by-given = too-broad partedRecord partedFields parted parted-laid parted-says pa
 
 -- ---- the largest: of the vertices below 64 none leads to another
 
-full-broad : Broad full
+full-broad : Crowded full
 unfolding full
 full-broad parts part d w =
     let k = needs full 64 (omega arith) parts part d (λ u v hu hv e r. let a = full-up r in omega arith) in omega arith

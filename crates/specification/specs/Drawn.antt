@@ -5,7 +5,7 @@ use mathlib.Core.List.{List, [], _∷_}
 use Prim.Native.Nat.{ℕ, _<_}
 use lib.Dec.{eqb, ltb}
 use lib.ListN.{length, getD}
-use Rattle.specification.specs.Limits.{mostVertices, mostLines}
+use Rattle.specification.specs.Limits.{mostVertices, mostChannels}
 use Rattle.specification.specs.Count.{choose}
 use Rattle.specification.specs.Graph.{tailsOf, headsOf}
 use Rattle.specification.specs.Layout.{layoutOf}
@@ -18,7 +18,7 @@ use Rattle.specification.specs.declared.ChartCounts.{ChartCounts}
 
 -- there are more channels than a chart may have
 unfoldable pub broad? : Content → Bool
-broad? c = ltb mostLines (length (channelsOf c))
+broad? c = ltb mostChannels (length (channelsOf c))
 
 -- what is asked of a graph that is to be drawn, after what is asked of every graph
 unfoldable pub chartChecks : List Check

@@ -9,9 +9,9 @@ mostVertices = 128
 abbrev pub mostEdges : ℕ
 mostEdges = 4096
 
--- lines of a chart: an app has room for no more beside each other
-abbrev pub mostLines : ℕ
-mostLines = 31
+-- channels (lines) of a chart: an app has room for no more beside each other
+abbrev pub mostChannels : ℕ
+mostChannels = 31
 
 -- bytes of a record
 abbrev pub mostBytes : ℕ
