@@ -24,7 +24,10 @@ use Rattle.specification.specs.Chart.{leads?, descendantsOf, rowOf, rowC
 use Rattle.specification.specs.Chart.{bundled, planOf, tracksIn, columnIn, widthOf, kindBetween, vertexEntry, edgeEntry, bundleEntry}
 use Rattle.specification.specs.Chart.{polylineOf}
 use Rattle.specification.specs.Table.{graph1, graph5, housed, graph6, graph7, graph8, graph11, graph12, moving, meeting, touching}
-use Rattle.specification.specs.Table.{detour, record1, record5, record6, record7, record8, record9, record10, record11, Table}
+use Rattle.specification.specs.Numbers.{codeOf, arrowNumber}
+use Rattle.specification.specs.Pass.{stored, next, after}
+use Rattle.specification.specs.Table.{detour, early, alone, earlyAfter, record1, record5, record6, record7, record8, record9}
+use Rattle.specification.specs.Table.{record10, record11, Table}
 use Rattle.specification.specs.Bundles as bundling
 
 -- ---- too many
@@ -50,7 +53,8 @@ more-arrows c m = outsized-refused c (or-right (unsized? (c .vertices)) (ltb 409
 pub table : Table
 unfolding leads? descendantsOf rowOf rowCount transitiveEdge? reducedEdges channelsOf tracked bundled planOf tracksIn columnIn widthOf
     kindBetween vertexEntry edgeEntry bundleEntry polylineOf graph1 graph5 housed graph6 graph7 graph8 graph11 graph12 moving meeting
-    touching detour record1 record5 record6 record7 record8 record9 record10 record11 sum count some edge? reaches? outsized? unsized?
+    touching detour early alone earlyAfter after next stored codeOf arrowNumber record1 record5 record6 record7 record8 record9 record10
+    record11 sum count some edge? reaches? outsized? unsized?
     strange? verdict refusal reachable? predecessorOf none? is? candidate marked taken answered freed scan augment asks matchingTo
     successorFrom successor chain begins begun plannedTo planned has placeFrom linked every channelFrom channelOf positionOf front lines
     filled linesOf unknown? repeats? broken? flatten givenLines heldIn masked unheld without beside withGiven sizeAt fieldAt lined
@@ -106,4 +110,7 @@ table = record {
   by-routes = refl;
   shared = (refl, refl, refl);
   longer = (refl, refl, refl);
+  whole-graph = (refl, refl);
+  one-more = refl;
+  at-last = refl;
 }

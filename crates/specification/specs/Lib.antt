@@ -16,6 +16,7 @@ pub mod Page
 pub mod Checks
 pub mod Chart
 pub mod Numbers
+pub mod Pass
 pub mod Lent
 pub mod Drawn
 pub mod Lawful

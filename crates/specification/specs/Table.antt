@@ -12,6 +12,7 @@ use Rattle.specification.specs.Geometry.{Point, point}
 use Rattle.specification.specs.Chart.{leads?, descendantsOf, tailOf, headOf, rowOf, rowCount, transitiveEdge?, reducedEdges}
 use Rattle.specification.specs.Chart.{channelsOf, planOf, tracksIn, columnIn, widthOf, vertexEntry, edgeEntry, bundleEntry}
 use Rattle.specification.specs.Chart.{polylineOf}
+use Rattle.specification.specs.Pass.{State, state, after, asNumbers}
 use Rattle.specification.specs.declared.Kind.{Kind}
 use Rattle.specification.specs.declared.Kind.the-variants.{Path, PathTransitive, Straight, Bent}
 
@@ -64,6 +65,18 @@ touching = content 5 (0 ∷ 1 ∷ 2 ∷ 3 ∷ 0 ∷ 2 ∷ []) (1 ∷ 2 ∷ 3 ∷
 -- wrong reading 4: 0→1, 1→2, 2→3, 0→3
 unfoldable pub detour : Content
 detour = content 4 (0 ∷ 1 ∷ 2 ∷ 0 ∷ []) (1 ∷ 2 ∷ 3 ∷ 3 ∷ []) false []
+
+-- wrong reading 5: 0→2, 0→1, 1→2
+unfoldable pub early : Content
+early = content 3 (0 ∷ 0 ∷ 1 ∷ []) (2 ∷ 1 ∷ 2 ∷ []) false []
+
+-- its first edge alone
+unfoldable pub alone : Content
+alone = content 3 (0 ∷ []) (2 ∷ []) false []
+
+-- the state after its first k edges, in a list of sixteen sevens, one more than its numbers
+unfoldable pub earlyAfter : ℕ → State ℕ
+earlyAfter = after asNumbers (edgeEntry early (planOf early)) (7 ∷ 7 ∷ 7 ∷ 7 ∷ 7 ∷ 7 ∷ 7 ∷ 7 ∷ 7 ∷ 7 ∷ 7 ∷ 7 ∷ 7 ∷ 7 ∷ 7 ∷ 7 ∷ [])
 
 -- ---- records
 
@@ -215,3 +228,8 @@ pub record Table : Type 0 where
   -- edge 3 is transitive by a route of three edges; no route of two goes along it
   pub longer : (transitiveEdge? detour 3 ≡ true) × (reducedEdges detour ≡ 3)
       × (transitive? (edge? (detour .tails) (detour .heads)) 4 0 3 ≡ false)
+  -- edge 0 is marked in the state after it, by the two edges that follow; by the first edge alone it would count as reduced
+  pub whole-graph : (earlyAfter 1 ≡ state (0 ∷ 1 ∷ 0 ∷ 0 ∷ 1 ∷ 7 ∷ 7 ∷ 7 ∷ 7 ∷ 7 ∷ 7 ∷ 7 ∷ 7 ∷ 7 ∷ 7 ∷ 7 ∷ []) 0)
+      × (transitiveEdge? alone 0 ≡ false)
+  pub one-more : earlyAfter 2 ≡ state (0 ∷ 1 ∷ 0 ∷ 0 ∷ 1 ∷ 1 ∷ 0 ∷ 0 ∷ 0 ∷ 0 ∷ 7 ∷ 7 ∷ 7 ∷ 7 ∷ 7 ∷ 7 ∷ []) 1
+  pub at-last : earlyAfter 3 ≡ state (0 ∷ 1 ∷ 0 ∷ 0 ∷ 1 ∷ 1 ∷ 0 ∷ 0 ∷ 0 ∷ 0 ∷ 2 ∷ 0 ∷ 0 ∷ 0 ∷ 0 ∷ 7 ∷ []) 2
