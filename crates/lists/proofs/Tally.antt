@@ -2,9 +2,10 @@
 -- `fn fill(out: &mut [T], part: &[u8], d: S, top: usize) -> u16`, whose loop makes `entry_at(part, d, i)`, `i` from 0 to `top`, takes the
 -- count on by it (`counted(before, entry, i)`) and stores it, for any declared types T and S.
 --     function             the MIR of such a fill, which the generated one is by computation
---     Tally, Entry, Count  the contract of the fill, and those of its two callees
+--     Tally, Entry, Count  the contract of the fill, and those of its two callees; what the fill says is the caller's to choose
 --     tallies              a call of the fill, as a step of the calculus
 --     tally-meets          it meets `Tally`, whose `closing ..` the generated `spec` is by computation, if each callee meets its contract
+--                          and what it says is so of the list written to `top` (`written`) and the count up to there (`tally`)
 -- `out`'s borrow is opened once, before the loop, and closed once, after it; the loop is that of every fill (`Filling.antt`). The struct
 -- that is passed by value is made anew for each call, and of the part a copy is passed. The bound N keeps the count within a u16.
 -- Assumes nothing.
@@ -50,18 +51,18 @@ use denote.Triple.Walked.{says, needs, Stays, stay-slice, stay-dropped, walkOf, 
 use denote.Exit.{yes}
 use Rattle.specification.specs.Count.{indicator, sum, count}
 use Rattle.counting.proofs.Classes.{count-le}
-use Rattle.specification.specs.Lent.{Filled}
 use Rattle.lists.proofs.Fill.{Source}
 use Rattle.lists.proofs.Filling.{word, at, Numbers, size, entryTy, outTy, turn, Stand, At, Makes, Ends, Left, fill-loop}
 use Rattle.lists.proofs.Steps.{and-local, answers, answers-with, freed, meets-by-walk}
-use Rattle.lists.proofs.Written.{written, as-long, filled}
+use Rattle.lists.proofs.Written.{written, as-long}
 
 abbrev short : Ty
 short = tyInt w16
 
 -- ---- the contracts: T is the element's type, g what the first callee makes of the struct, the part and i, N the bound on i, and the test
--- says which entries are counted
-module _ (O : Source) (T : declared.Declared) (g : O .the .D → List ℕ → ℕ → T .D) (test : T .D → Bool) (N : ℕ) where
+-- says which entries are counted. `Says was d bs top is n` is what the fill says of the list and of the count that it leaves
+module _ (O : Source) (T : declared.Declared) (g : O .the .D → List ℕ → ℕ → T .D) (test : T .D → Bool) (N : ℕ)
+    (Says : List (T .D) → O .the .D → List ℕ → ℕ → List (T .D) → ℕ → Type 0) where
   abbrev R : RattleType
   R = declared.row T
 
@@ -114,9 +115,7 @@ module _ (O : Source) (T : declared.Declared) (g : O .the .D → List ℕ → �
       ghost = Unit {0};
       requires = λ _. fact 𝓤 ((a .1 .1 .1 .0 ≤ length (now (a .0))) × (a .1 .1 .1 .0 ≤ N));
       ensures =
-          λ _ r e. fact 𝓤
-          (Filled (now (a .0)) (g (a .1 .1 .0) (now (a .1 .0))) (a .1 .1 .1 .0) (now (e .0))
-          × (r ≡ tally (a .1 .1 .0) (now (a .1 .0)) (a .1 .1 .1 .0)));
+          λ _ r e. fact 𝓤 (Says (now (a .0)) (a .1 .1 .0) (now (a .1 .0)) (a .1 .1 .1 .0) (now (e .0)) r);
     }
 
     abbrev pub entryClauses : Clauses 𝓤 entryEnded
@@ -182,24 +181,22 @@ module _ (O : Source) (T : declared.Declared) (g : O .the .D → List ℕ → �
     pub tallies : (𝓣 : Tables 𝓤 H) (key : Name) → Triple 𝓤 (𝓣 .C key) (Tally 𝓤 H A)
         → {Γ : List (Item 𝓤)} {E : Env 𝓤 H} {xs : List Opd} {to : Place} {rest : Body} {Q : After 𝓤 H}
         → Opds (Go {0}) W (raw (Tally 𝓤 H A .pre to-tally) ∷ Γ) E xs (Tally 𝓤 H A .args to-tally)
-        → ((zs : List (T .D)) → Filled (now x) (g d (now y)) top zs → length zs ≡ length (now x) → tally d (now y) top < 2 ^ 16
-        → Sq W (‵ (flft κ q) ∷ ‵ (finally R (x .name) zs) ∷ ‵ (flft κ′ q′) ∷ Γ)
-        (lands (𝓣 .C) (𝓣 .Λ) E to (vint w16 (tally d (now y) top)) rest Q))
+        → ((zs : List (T .D)) (n : ℕ) → Says (now x) d (now y) top zs n → length zs ≡ length (now x) → n < 2 ^ 16
+        → Sq W (‵ (flft κ q) ∷ ‵ (finally R (x .name) zs) ∷ ‵ (flft κ′ q′) ∷ Γ) (lands (𝓣 .C) (𝓣 .Λ) E to (vint w16 n) rest Q))
         → Sq W (‵ (flft κ q) ∷ ‵ lent ∷ ‵ (flft κ′ q′) ∷ ‵ part ∷ Γ) (runs (𝓣 .C) (𝓣 .Λ) E (seq (call key xs to) rest) Q)
     tallies 𝓣 key known {Γ} {E} {xs} {to} {rest} {Q} operands k =
         move ! (2 ∷ 3 ∷ []) $ join ! $ move ! (2 ∷ 0 ∷ []) $ join ! $ move ! (1 ∷ 0 ∷ []) $ join ! $
         use1 W (raw (Tally 𝓤 H A .pre to-tally)) goes-tally $
         calls-at ! (fmOf 𝓤 H (W .laws) 𝓣) (Tally 𝓤 H A) known to-tally operands (λ u.
         answers-with ! tt u16 (‵ (flft κ q) ⊛ ‵ (flft κ′ q′) ⊛ ‵ ftrue) (lasts tallyEnded (κ, (κ′, tt)) passed)
-        (λ n zs. Filled (now x) (g d (now y)) top (zs .0) × (n ≡ tally d (now y) top)) u
+        (λ n zs. Says (now x) d (now y) top (zs .0) n) u
         (λ n zs e is. drop ! $ move ! (1 ∷ []) $ fsplit ! $ fsplit ! $ move ! (1 ∷ []) $ feqL ! (λ len.
         -- [the last list; …; the tokens; …]
         move ! (2 ∷ []) $ split ! $ move ! (1 ∷ []) $ split ! $ move ! (1 ∷ []) $ drop ! $
         -- [the second token; the first; the last list; …]
         move ! (3 ∷ []) $ drop ! $ move ! (1 ∷ 2 ∷ []) $
         subst (λ (w : Val). Sq W (‵ (flft κ q) ∷ ‵ (finally R (x .name) (zs .0)) ∷ ‵ (flft κ′ q′) ∷ Γ) (lands (𝓣 .C) (𝓣 .Λ) E to w rest Q))
-        (sym (ap only (uint-tells w16 n _ is) ∙ ap (vint w16) (e .1)))
-        (k (zs .0) (e .0) len (subst (λ (m : ℕ). m < 2 ^ 16) (e .1) (is .1))))))
+        (sym (ap only (uint-tells w16 n _ is))) (k (zs .0) n e len (is .1)))))
 
   -- ---- the walk: the laws of T, the callees, and the struct's type as the function spells it
   module _ (L : LL.Laws T) (callee counter : Name) (sourceTy : Ty) where
@@ -249,6 +246,7 @@ module _ (O : Source) (T : declared.Declared) (g : O .the .D → List ℕ → �
 
     module _ {M : Type 1} (𝓤 : URA M) (H : Heap 𝓤) (A : Atoms 𝓤) (W : Given 𝓤 H A) (size-small : Holds (ltb (size T) (2 ^ 64)))
         (N-small : N < 2 ^ 16) (pl : Plains (declared.fields T))
+        (said : (was : List (T .D)) (d : O .the .D) (bs : List ℕ) (top : ℕ) → Says was d bs top (written was (g d bs) top) (tally d bs top))
         (κ κ′ : Lft) (q q′ : Share) (b o : ℕ) (γ : GName) (ys : List (T .D)) (y : RefT (List ℕ)) (d : O .the .D) (top : ℕ)
         (room : Room R (length ys)) (is-y : Is (ShrSlice (named 1) κ′ u8) y (slice-vals y))
         (is-d : Is source d (LL.vals (O .the) (O .laws) d))
@@ -330,7 +328,7 @@ module _ (O : Source) (T : declared.Declared) (g : O .the .D → List ℕ → �
           suffices ! _
           (ends-at 𝓤 H A tallyEnded stayed (tallyClauses 𝓤) W bound (vint w16 (firm i)) (firm i) (ws i, (tt, (O .last d, (tt, tt))))
           (as-long ys (g d (now y)) i, (tt, (tt, (tt, tt))))) $
-          says ! (filled ys (g d (now y)) i top e top≤, ap firm e) $
+          says ! (subst (λ (k : ℕ). Says ys d (now y) top (ws k) (firm k)) (sym e) (said ys d (now y) top)) $
           move ! (4 ∷ []) $ drop ! $ nothing ! $ move ! (4 ∷ 0 ∷ []) $ join ! $ move ! (3 ∷ 0 ∷ []) $ join ! $ frame ! $
           fjoin ! $ pureI ! (at-slice R (x (ws i)) (s ∷ [])) (tt, (tt, tt)) (
             ap (λ (m : ℕ). sliceVal (b, o) m ∷ []) (sym (as-long ys (g d (now y)) i)),
@@ -465,10 +463,11 @@ module _ (O : Source) (T : declared.Declared) (g : O .the .D → List ℕ → �
         (drops partSlot (λ κs x f. refl), (drops sourceSlot (λ κs x f. O .silent x f), (drops topSlot (λ κs x f. refl), tt))),
       )
 
-      pub tally-meets : Holds (ltb (size T) (2 ^ 64)) → N < 2 ^ 16 → Plains (declared.fields T) → Typed
-          → (𝓣 : Tables 𝓤 H) → Triple 𝓤 (𝓣 .C callee) (Entry 𝓤 H A) → Triple 𝓤 (𝓣 .C counter) (Count 𝓤 H A)
+      pub tally-meets : Holds (ltb (size T) (2 ^ 64)) → N < 2 ^ 16 → Plains (declared.fields T)
+          → ((was : List (T .D)) (d : O .the .D) (bs : List ℕ) (top : ℕ) → Says was d bs top (written was (g d bs) top) (tally d bs top))
+          → Typed → (𝓣 : Tables 𝓤 H) → Triple 𝓤 (𝓣 .C callee) (Entry 𝓤 H A) → Triple 𝓤 (𝓣 .C counter) (Count 𝓤 H A)
           → Meets 𝓤 H A (tallyEnded .signature) (WpFn 𝓤 H (𝓣 .C) (𝓣 .Λ) function) (closing 𝓤 H A tallyEnded (tallyClauses 𝓤))
-      tally-meets size-small N-small pl typed-d 𝓣 known counts =
+      tally-meets size-small N-small pl said typed-d 𝓣 known counts =
           meets-by-walk 𝓤 H A W tallyEnded stayed (tallyClauses 𝓤) 𝓣 function goes
           (λ κs. (slice-vals, (slice-vals, (LL.vals (O .the) (O .laws), (uint-vals w64, tt)))))
           (λ κs. (
@@ -476,7 +475,7 @@ module _ (O : Source) (T : declared.Declared) (g : O .the .D → List ℕ → �
             (shr-slice-tells (named 1) (κs .1 .0) u8, (LL.tells (O .the) (O .laws), (uint-tells w64, tt))),
           ))
           (λ κs qs bounds a g are. needs 𝓤 _ _ (λ le.
-          walk 𝓤 H A W size-small N-small pl (κs .0) (κs .1 .0) (qs .0) (qs .1 .0) (a .0 .ptr .0) (a .0 .ptr .1) (a .0 .name) (a .0 .now)
-          (a .1 .0) (a .1 .1 .0) (a .1 .1 .1 .0)
+          walk 𝓤 H A W size-small N-small pl said (κs .0) (κs .1 .0) (qs .0) (qs .1 .0) (a .0 .ptr .0) (a .0 .ptr .1) (a .0 .name)
+          (a .0 .now) (a .1 .0) (a .1 .1 .0) (a .1 .1 .1 .0)
           (are .0 .0 .1) (are .1 .0) (are .1 .1 .0) (typed-d (a .1 .1 .0) (are .1 .1 .0)) (are .1 .1 .1 .0 .1) (le .0) (le .1) 𝓣 known
           counts))

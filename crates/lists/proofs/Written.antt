@@ -1,8 +1,10 @@
 -- A list whose first entries are written one after the other. Assumes nothing.
-use Rattle.counting.proofs.Prelude.{_≡_, refl, _∙_, ⊎-elim, List, ℕ, zero, suc, _<_, _≤_, arith, length, getD, set, length-set}
-use native.Mathlib.Nat.{eq-or-lt-of-le}
-use lib.Seq.{getD-set-same, getD-set-other, ext-getD}
+use Rattle.counting.proofs.Prelude.{_≡_, refl, sym, _∙_, ⊎-elim, List, ℕ, zero, suc, _+_, _<_, _≤_, arith, length, set, length-set}
+use native.Mathlib.Numerals.{add-one}
+use lib.Seq.{ext-getD}
+use Rattle.counting.proofs.Truth.{lt-or-le}
 use Rattle.specification.specs.Lent.{Filled}
+use Rattle.lists.proofs.Stores.{filled-none, filled-more, filled-to}
 
 -- ---- the list with its first i entries written, by what g says
 module _ {E : Type 0} (ys : List E) (g : ℕ → E) where
@@ -15,24 +17,15 @@ module _ {E : Type 0} (ys : List E) (g : ℕ → E) where
   as-long zero = refl
   as-long (suc i) = length-set (written i) i (g i) ∙ as-long i
 
-  made : (i k : ℕ) (d : E) → i ≤ length ys → k < i → getD (written i) k d ≡ g k
+  so-far : (i : ℕ) → i ≤ length ys → Filled ys g i (written i)
   unfolding written
-  made zero k d le l = absurd (omega arith)
-  made (suc i) k d le below =
-      let le′ : i ≤ length ys = omega arith in
-      let k≤ : k ≤ i = omega arith in
-      let in-it : i < length (written i) = omega (arith, as-long i) in
-      ⊎-elim (λ (e : k ≡ i). rw e (getD-set-same (written i) i (g i) d in-it))
-      (λ (l : k < i). getD-set-other (written i) i k (g i) d (λ e. omega arith) ∙ made i k d le′ l) (eq-or-lt-of-le k≤)
-
-  kept : (i k : ℕ) (d : E) → i ≤ k → getD (written i) k d ≡ getD ys k d
-  unfolding written
-  kept zero k d le = refl
-  kept (suc i) k d le = getD-set-other (written i) i k (g i) d (λ e. omega arith) ∙ kept i k d (omega arith)
+  so-far zero le = filled-none ys g
+  so-far (suc i) le =
+      filled-to ys g (i + 1) (suc i) (set (written i) i (g i)) (add-one i)
+      (filled-more ys g i (written i) (g i) (omega arith) refl (so-far i (omega arith)))
 
   pub filled : (i top : ℕ) → i ≡ top → top ≤ length ys → Filled ys g top (written i)
-  filled i top e le =
-      record { as-long = as-long i; made = λ k d l. made i k d (omega arith) (omega arith); kept = λ k d h. kept i k d (omega arith) }
+  filled i top e le = filled-to ys g i top (written i) e (so-far i (omega arith))
 
 -- ---- of a list that is filled
 
@@ -48,3 +41,10 @@ refilled was is g h top top′ e same f = record {
   made = λ k d l. f .made k d (omega arith) ∙ same k l;
   kept = λ k d l. f .kept k d (omega arith);
 }
+
+-- there is only one list that is filled so
+pub filled-once : {E : Type 0} (was is it : List E) (g : ℕ → E) (top : ℕ) → Filled was g top is → Filled was g top it → is ≡ it
+filled-once was is it g top h j =
+    ext-getD (g 0) is it (h .as-long ∙ sym (j .as-long)) (λ k _. ⊎-elim
+    (λ (l : k < top). h .made k (g 0) l ∙ sym (j .made k (g 0) l))
+    (λ (l : top ≤ k). h .kept k (g 0) l ∙ sym (j .kept k (g 0) l)) (lt-or-le k top))
