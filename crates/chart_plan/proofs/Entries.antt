@@ -3,7 +3,7 @@ use Rattle.counting.proofs.Prelude.{_≡_, refl, sym, ap, ap₂, _∙_, subst, 
 use Rattle.counting.proofs.Prelude.{arith, eqb, length, getD, take, eqb-true}
 use lib.Seq.{getD-take, length-take-le}
 use Rattle.specification.specs.Count.{choose}
-use Rattle.specification.specs.Sets.{member?, at}
+use Rattle.specification.specs.Sets.{at}
 use Rattle.specification.specs.Channels.{channelOf, positionOf}
 use Rattle.specification.specs.Checks.{Content, edgesOf}
 use Rattle.specification.specs.Bundles.{bundleOf, adjacent?}
@@ -20,6 +20,8 @@ use Rattle.counting.specs.Quads.{quad}
 use Rattle.counting.proofs.Somes.{some-ext}
 use Rattle.reach.proofs.Ends.{ends-counted}
 use Rattle.geometry.specs.Segment.{pointOf, vertexCount}
+use Rattle.reduction.specs.Reduction.{transitiveIn?}
+use Rattle.reduction.proofs.Marks.{transitive-member}
 use Rattle.chart_laws.proofs.Leading.{edge-there}
 use Rattle.chart_laws.proofs.Channels.{channels-few, channel-below}
 use Rattle.chart_laws.proofs.Rows.{row-counted}
@@ -199,9 +201,9 @@ module _ (c : Content) (p : Plan) (t : Lists) (l : Laid c p t) where
         (kind-picked (eqb (channelOf ls u) (channelOf ls v)) (adjacent? (positionOf ls u) (positionOf ls v)) _ _ _ _ side-same
         (λ f. ap crossing course-drawn))
 
-    pub mark-drawn : member? (t .longer) (2 * u) v ≡ transitiveEdge? c e
+    pub mark-drawn : transitiveIn? (t .longer) u v ≡ transitiveEdge? c e
     unfolding transitiveEdge?
-    mark-drawn = l .longer-pairs u v (ends-known e h .0) (ends-known e h .1)
+    mark-drawn = transitive-member (t .longer) u v ∙ l .longer-pairs u v (ends-known e h .0) (ends-known e h .1)
 
     -- the kind by candidates is the chart's
     pub kind-among : (size : ℕ) (left : List ℕ) → 2 * n + 2 ≤ size → LeftOf size left

@@ -1,13 +1,24 @@
--- Reduced edges as a relation, links with the graph's reachability, and what the theorems ask of a graph. Which edge is transitive is
--- defined in specification/specs/Marks. Assumes nothing.
+-- Transitive edges by a table, reduced edges as a relation, links with the graph's reachability, and what the theorems ask of a graph.
+-- Which edge is transitive is defined in specification/specs/Marks. Assumes nothing.
 use mathlib.Core.Path.{_≡_}
 use mathlib.Core.Logic.{_↔_}
 use mathlib.Core.Bool.{Bool, true, false}
 use mathlib.Core.List.{List}
-use Prim.Native.Nat.{ℕ, _≤_, _<_}
+use Prim.Native.Nat.{ℕ, _*_, _%_, _≤_, _<_}
+use lib.Dec.{eqb}
 use lib.ListN.{getD}
 use Rattle.specification.specs.Graph.{Reaches, edgeCount, Edge}
+use Rattle.specification.specs.Limits.{maskBits}
+use Rattle.specification.specs.Sets.{bit, maskOf}
 use Rattle.specification.specs.Marks.{transitive?, Linked, linkCount}
+
+-- an edge to v is transitive, by the mask that holds v of its tail's set in the table of the pairs with a vertex between
+unfoldable pub marked? : ℕ → ℕ → Bool
+marked? mask v = eqb (bit mask (v % maskBits)) 1
+
+-- .. an edge from u to v, by the table: the set of u has two masks, from mask 2 u on
+unfoldable pub transitiveIn? : List ℕ → ℕ → ℕ → Bool
+transitiveIn? longer u v = marked? (getD longer (maskOf (2 * u) v) 0) v
 
 -- there is a reduced edge from u to v
 abbrev pub Reduced : (leads : ℕ → ℕ → Bool) → (n : ℕ) → (tails heads : List ℕ) → ℕ → ℕ → Type 0
