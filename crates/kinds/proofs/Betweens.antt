@@ -1,14 +1,15 @@
 -- The candidates of a cross edge, as two masks. Assumes nothing.
-use Rattle.counting.proofs.Prelude.{_≡_, refl, ap, ap₂, _∙_, _⊎_, inl, inr, ⊎-elim, not, _&&_, List, ℕ, _+_, _-_, _*_, _^_, _<_, min, max}
-use Rattle.counting.proofs.Prelude.{arith, eqb, getD, lt-ltb, le-ltb}
-use Rattle.counting.proofs.Truth.{lt-or-le, two-cases}
+use Rattle.counting.proofs.Prelude.{_≡_, refl, ap, ap₂, _∙_, _⊎_, inl, inr, ⊎-elim, Bool, true, false, not, _&&_, List, ℕ, _+_, _-_, _*_}
+use Rattle.counting.proofs.Prelude.{_^_, _<_, min, max, arith, eqb, ltb, getD, lt-ltb, le-ltb, false≢true}
+use Rattle.counting.proofs.Truth.{lt-or-le, two-cases, and-elim}
 use Rattle.specification.specs.Sets.{at, has?}
 use Rattle.specification.specs.Geometry.{Point, courseAmong}
+use Rattle.specification.specs.declared.Course.the-variants.{Straight}
 use Rattle.masks.specs.Pairs.{inPair}
 use Rattle.masks.proofs.Bits.{without}
 use Rattle.masks.proofs.Tables.{at-lt}
 use Rattle.masks.proofs.Pairing.{pair-and, pair-without, pair-at}
-use Rattle.geometry.proofs.Among.{pair-past, among-same}
+use Rattle.geometry.proofs.Among.{pair-past, among-free, among-same}
 use Rattle.kinds.specs.Kinds.{strictly?, candidate?}
 use Rattle.kinds.specs.Steps.{between}
 
@@ -80,3 +81,21 @@ pub course-masked : (below left : List ℕ) → ((x : ℕ) → getD below x 0 < 
     → courseAmong (λ w. eqb (inPair first second w) 1) at n u v ≡ courseAmong (candidate? below left a b c d) at n u v
 course-masked below left fb fl a b c d ra rb x y first second ea eb ex ey p q at n u v =
     among-same _ _ at n u v (λ w _. masked-candidate below left fb fl ra rb x y first second (p, q) c d ex ey w ∙ rw (ea, eb) refl)
+
+-- ---- channels next to each other
+
+never-both : (b : Bool) → (b && not b) ≡ true → ⊥
+never-both true e = false≢true e
+never-both false e = false≢true e
+
+-- have no vertex strictly between, by any sets
+no-candidate : (below left : List ℕ) (a b c d w : ℕ) → max c d ≡ min c d + 1 → candidate? below left a b c d w ≡ true → ⊥
+unfolding candidate?
+no-candidate below left a b c d w next h =
+    let q = and-elim (strictly? below a b w) (strictly? left (min c d) (max c d) w) (and-elim (ltb w 128) _ h .1) .1 in
+    never-both (has? 2 left (min c d + 1) w) (rw next at q)
+
+pub course-next : (below left : List ℕ) (a b c d : ℕ) (at : ℕ → Point) (n u v : ℕ) → max c d ≡ min c d + 1
+    → courseAmong (candidate? below left a b c d) at n u v ≡ Straight
+course-next below left a b c d at n u v next =
+    among-free (candidate? below left a b c d) at n u v (λ k. no-candidate below left a b c d (k .blocked .vertex) next (k .among))

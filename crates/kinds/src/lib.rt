@@ -89,16 +89,19 @@ fn course_between<'a>(
 {
     let a = row_at(places, u);
     let b = row_at(places, v);
-    // Nothing lies strictly between rows next to each other: no set is read.
+    // Nothing lies strictly between rows next to each other, nor between such channels: no set is read.
     if geometry::low_rise(a, b) {
         return Course::Straight;
     }
-    let high = 2 * wide(b);
-    let low = 2 * (wide(a) + 1);
     let p = wide(c);
     let q = wide(d);
     let to = 2 * largest(p, q);
     let from = 2 * (least(p, q) + 1);
+    if to == from {
+        return Course::Straight;
+    }
+    let high = 2 * wide(b);
+    let low = 2 * (wide(a) + 1);
     let first = inner(below, left, high, low, to, from);
     let second = inner(below, left, high + 1, low + 1, to + 1, from + 1);
     geometry::course_among(first, second, columns, places, wide(u), wide(v))

@@ -6,7 +6,7 @@ use Rattle.specification.specs.Geometry.{courseAmong}
 use Rattle.specification.proofs.Cases.{same-course}
 use Rattle.geometry.proofs.Among.{among-low}
 use Rattle.kinds.specs.Kinds.{candidate?}
-use Rattle.kinds.proofs.Betweens.{course-masked}
+use Rattle.kinds.proofs.Betweens.{course-masked, course-next}
 use Rattle.kinds.proofs.course_between.Statement.{statement}
 use Rattle.kinds.proofs.course_between.Tie as tie
 
@@ -21,18 +21,26 @@ returns c =
 
 returns-2 : tie.Need-returns-2
 returns-2 c =
-    let ends = c .before in let wide5 = ends .before in let sets = wide5 .before in let inner = sets .before in let least = inner .before in
-    let largest = least .before in let w = largest .before in let wide3 = w .before in let wide2 = wide3 .before in
-    let wide = wide2 .before in let r = wide .before .before .before in let row-at = r .before in let s = row-at .before .before .before in
+    let least = c .before in let largest = least .before in let w = largest .before in let wide = w .before in
+    let a = wide .before .before .before .before .before .before .before .before .before .args in
+    sym (course-next _ _ _ _ (a .c) (a .d) _ _ _ _
+    (omega (arith, c .if2 .taken, least .least .ensures, largest .largest .ensures, wide .wide .ensures .0, w .wide2 .ensures .0)))
+
+returns-3 : tie.Need-returns-3
+returns-3 c =
+    let ends = c .before in let wide5 = ends .before in let sets = wide5 .before in let inner = sets .before in
+    let wide4 = inner .before in let wide3 = wide4 .before in
+    let least = wide3 .before .before in let largest = least .before in let w = largest .before in let wide = w .before in
+    let r = wide .before .before .before in let row-at = r .before in let s = row-at .before .before .before in
     let shared = s .before in
     let a = shared .before .args in
     same-course _ _ (c .course-among .ensures) ∙ course-masked (a .below .now) (a .left .now)
     (λ x. shared .shared-slice-known .given x .fits) (λ x. s .shared-slice-known2 .given x .fits)
     _ _ _ _ _ _ _ _ _ _
-    (wide2 .wide2 .ensures .0 ∙ row-at .row-at .ensures)
-    (wide .wide .ensures .0 ∙ r .row-at2 .ensures)
-    (least .least .ensures ∙ ap₂ min (wide3 .wide3 .ensures .0) (w .wide4 .ensures .0))
-    (largest .largest .ensures ∙ ap₂ max (wide3 .wide3 .ensures .0) (w .wide4 .ensures .0))
+    (wide4 .wide4 .ensures .0 ∙ row-at .row-at .ensures)
+    (wide3 .wide3 .ensures .0 ∙ r .row-at2 .ensures)
+    (least .least .ensures ∙ ap₂ min (wide .wide .ensures .0) (w .wide2 .ensures .0))
+    (largest .largest .ensures ∙ ap₂ max (wide .wide .ensures .0) (w .wide2 .ensures .0))
     (inner .inner .ensures) (sets .inner2 .ensures) _ _ _ _
     ∙ ap₂
     (courseAmong
@@ -49,17 +57,18 @@ course-between-spec =
     (λ c κs. search needs)
     returns
     (λ c κs. search needs)
-    (λ c. search needs)
-    (λ c κs. search needs)
-    (λ c. search needs)
-    (λ c. search needs)
-    (λ c κs. search needs)
     (λ c κs. search needs)
     (λ c κs. search needs)
     (λ c. search needs)
     (λ c κs. search needs)
     (λ c. search needs)
     (λ c. search needs)
+    returns-2
+    (λ c κs. search needs)
+    (λ c. search needs)
+    (λ c κs. search needs)
+    (λ c. search needs)
+    (λ c. search needs)
     (λ c κs. search needs)
     (λ c. search needs)
     (λ c. search needs)
@@ -69,4 +78,4 @@ course-between-spec =
     (λ c κs. search needs)
     (λ c κs. search needs)
     (λ c κs. search needs)
-    returns-2)
+    returns-3)
