@@ -1,18 +1,13 @@
 -- From what the fills leave to the chart: over a plan's lists the entries are the chart's. Cites drawing's laws. Assumes nothing.
-use Rattle.counting.proofs.Prelude.{_≡_, refl, sym, ap, ap₂, _∙_, Bool, not, List, ℕ, _+_, _*_, _/_, _%_, _<_, _≤_, min, arith, length}
+use Rattle.counting.proofs.Prelude.{_≡_, refl, sym, ap, ap₂, _∙_, Bool, List, ℕ, _+_, _*_, _/_, _%_, _<_, _≤_, min, arith, length}
 use Rattle.counting.proofs.Prelude.{getD, take}
-use Rattle.specification.specs.Count.{count}
-use Rattle.counting.proofs.Sums.{count-ext}
 use Rattle.specification.specs.Lent.{Filled}
 use Rattle.lists.proofs.Written.{refilled}
-use Rattle.specification.specs.Sets.{member?}
 use Rattle.reach.proofs.Ends.{tail-at, head-at}
-use Rattle.specification.specs.Marks.{reducedCount}
 use Rattle.specification.specs.Checks.{Content, edgesOf}
-use Rattle.specification.specs.Chart.{planOf, transitiveEdge?, reducedEdges, vertexEntry, edgeEntry, bundleEntry, tailOf, headOf}
+use Rattle.specification.specs.Chart.{planOf, transitiveEdge?, vertexEntry, edgeEntry, bundleEntry, tailOf, headOf}
 use Rattle.specification.specs.Chart.{kindBetween}
 use Rattle.specification.specs.declared.VertexEntry.{VertexEntry}
-use Rattle.specification.specs.declared.EdgeEntry.{EdgeEntry}
 use Rattle.specification.specs.declared.BundleEntry.{BundleEntry}
 use Rattle.specification.specs.Drawn.{graphContent}
 use Rattle.chart_plan.specs.Laid.{Lists, Laid}
@@ -21,10 +16,13 @@ use Rattle.chart_plan.proofs.Entries.{edges-counted, small, edges-few, bundles-
 use Rattle.chart_plan.proofs.Entries.{mark-drawn}
 use Rattle.chart_numbers.specs.declared.Counts.{Counts}
 use Rattle.chart_numbers.specs.Chart.{Numbered}
-use Rattle.specification.specs.Numbers.{wordNumber, arrowNumber, bundleNumber, words, bundles}
-use Rattle.chart_numbers.specs.Steps.Numbers.{implied?, kindAt, wordFrom, arrowFrom, bundleFrom}
+use Rattle.specification.specs.Numbers.{wordNumber, bundleNumber, words, bundles}
+use Rattle.specification.specs.Pass.{asNumbers, state, after}
+use Rattle.reduction.specs.Reduction.{transitiveIn?}
+use Rattle.lists.specs.Marking.{Marking}
+use Rattle.lists.proofs.Marking.{numbers-legible, after-same, marking, marked-filled, marked-reduced}
+use Rattle.chart_numbers.specs.Steps.Numbers.{kindAt, wordFrom, arrowFrom, bundleFrom, Ready}
 use Rattle.chart_numbers.specs.Steps.Numbers as numbers
-use Rattle.chart_numbers.specs.Steps.Pass.{Ready, Passed}
 use Rattle.chart_numbers.specs.Steps.Hand.{LeftFor, whole}
 
 -- the counts of what is planned of n vertices and m edges
@@ -95,7 +93,7 @@ module _ (n : ℕ) (ends : List ℕ) (given : Bool) (field : List ℕ) (p : Plan
       let k = ends-known c p t l e (omega (arith, counted)) in
       (omega (arith, tail-same e), omega (arith, head-same e))
 
-  pub arrows-few : m ≤ 4096
+  arrows-few : m ≤ 4096
   arrows-few = omega (arith, edges-few c p t l, counted)
 
   module _ (left : List ℕ) where
@@ -113,21 +111,15 @@ module _ (n : ℕ) (ends : List ℕ) (given : Bool) (field : List ℕ) (p : Plan
           few = omega (arith, arrows-few);
           ends = omega arith;
           low = (omega arith, omega arith);
-          longer = omega (arith, r .masks .longer);
+          longer = (omega (arith, r .masks .longer), omega (arith, r .masks .longer));
           places = (omega (arith, r .masks .places), omega (arith, r .masks .places));
           number = (omega (arith, r .number), omega (arith, r .number));
         }
 
-    mark-same : (e : ℕ) → e < m → implied? here e ≡ transitiveEdge? c e
-    unfolding implied?
+    -- the table says of each edge what the whole graph does
+    mark-same : (e : ℕ) → e < m → transitiveIn? (t .longer) (getD ends (2 * e) 0) (getD ends (2 * e + 1) 0) ≡ transitiveEdge? c e
     mark-same e h =
-        ap₂ (λ (x y : ℕ). member? (t .longer) (2 * x) y) (tail-same e) (head-same e) ∙ mark-drawn c p t l e (omega (arith, counted))
-
-    firm-same : (x : ℕ) → x ≡ count m (λ e. not (implied? here e)) → x ≡ reducedEdges c
-    unfolding reducedEdges reducedCount transitiveEdge?
-    firm-same x q =
-        q ∙ count-ext m (λ e. not (implied? here e)) (λ e. not (transitiveEdge? c e)) (λ e h. ap not (mark-same e h))
-        ∙ ap (λ k. count k (λ e. not (transitiveEdge? c e))) (sym counted)
+        ap₂ (transitiveIn? (t .longer)) (tail-same e) (head-same e) ∙ mark-drawn c p t l e (omega (arith, counted))
 
     -- `left` is made of the channels by `prefixes::prefixes`
     module _ (size : ℕ) (room : 2 * min n 128 + 2 ≤ size) (lefts : LeftFor n (p .channels) (t .places) size left) where
@@ -141,10 +133,18 @@ module _ (n : ℕ) (ends : List ℕ) (given : Bool) (field : List ℕ) (p : Plan
       unfolding arrowFrom edgeEntry
       arrow-same e h = rw (kind-same e h, mark-same e h) refl
 
+      -- THE PASS over the edges, by what `put_arrows` promises: the states are the chart's
+      pub passed : (es es′ : List ℕ) (x : ℕ) → m * 5 ≤ length es → state es′ x ≡ after asNumbers (arrowFrom here) es m
+          → Marking asNumbers c (planOf c) es es′ x
+      passed es es′ x room e =
+          marking asNumbers numbers-legible c (planOf c) es (omega (arith, counted)) es′ x
+          (e ∙ after-same asNumbers (arrowFrom here) (edgeEntry c (planOf c)) es m arrow-same
+          ∙ ap (after asNumbers (edgeEntry c (planOf c)) es) (sym counted))
+
       -- THE HAND-OVER: the counts are the chart's, the lists have its entries, and every number past them is as it was
       pub charted : (ws es bs ws′ es′ bs′ : List ℕ) (x : ℕ) → length (t .used) ≡ 128
           → Filled ws (words (wordFrom (t .places) (t .column))) (n * 5) ws′
-          → Passed here es m es′ x → Filled bs (bundles (bundleFrom (t .spans))) (p .bundles * 4) bs′
+          → Marking asNumbers c (planOf c) es es′ x → Filled bs (bundles (bundleFrom (t .spans))) (p .bundles * 4) bs′
           → Numbered c (planOf c) ws es bs (whole (countsOf n m x p) (t .used)) ws′ es′ bs′
       unfolding graphContent
       charted ws es bs ws′ es′ bs′ x long hw he hb = record {
@@ -154,14 +154,13 @@ module _ (n : ℕ) (ends : List ℕ) (given : Bool) (field : List ℕ) (p : Plan
           bundles = l .bundles .counted;
           rows = l .row-count;
           lines = l .channel-count;
-          firm = firm-same x (he .counted);
+          firm = marked-reduced asNumbers c (planOf c) es es′ x he;
           width = l .width;
           side-columns = λ i h. l .used i (omega (arith, long));
           long = long;
         };
         word-list = refilled _ _ _ _ _ _ refl (λ k b. ap (λ (e : VertexEntry). wordNumber e (k % 5)) (word-same (k / 5) (omega arith))) hw;
-        arrow-list = refilled _ _ _ _ _ _ (ap (λ (k : ℕ). k * 5) (sym counted))
-            (λ k b. ap (λ (e : EdgeEntry). arrowNumber e (k % 5)) (arrow-same (k / 5) (omega (arith, counted)))) (he .entries);
+        arrow-list = marked-filled asNumbers c (planOf c) es es′ x he;
         bundle-list = refilled _ _ _ _ _ _ (ap (λ (k : ℕ). k * 4) (l .bundles .counted))
             (λ k b. ap (λ (e : BundleEntry). bundleNumber e (k % 4)) (bundle-same (k / 4))) hb;
       }

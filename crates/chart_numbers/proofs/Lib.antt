@@ -1,4 +1,3 @@
-pub mod Blocks
 pub mod Charted
 pub mod Leaving
 pub mod Passing

@@ -1,21 +1,34 @@
 -- Entries, one more at a time. Assumes nothing.
-use Rattle.counting.proofs.Prelude.{_≡_, refl, sym, ap, ap₂, _∙_, Bool, true, false, not, List, ℕ, zero, suc, _+_, _-_, _*_, _/_, _%_, _^_}
-use Rattle.counting.proofs.Prelude.{_<_, arith, eqb, getD, set}
+use Rattle.counting.proofs.Prelude.{_≡_, refl, ap, ap₂, _∙_, Bool, true, false, not, List, ℕ, zero, suc, _+_, _-_, _*_, _/_, _%_, _<_, _≤_}
+use Rattle.counting.proofs.Prelude.{arith, getD, set}
 use native.Mathlib.Nat.{add-zero}
-use lib.Bits.{bitAnd}
-use Rattle.specification.specs.Count.{count, sum, indicator}
+use Rattle.specification.specs.Count.{indicator}
 use Rattle.counting.specs.Quads.{quad}
-use Rattle.counting.proofs.Sums.{sum-more}
-use Rattle.specification.specs.Sets.{member, member?}
-use Rattle.masks.proofs.Bits.{bit-lt}
-use Rattle.masks.proofs.Sets.{member-test}
 use Rattle.specification.specs.Numbers.{codeOf, wordNumber, arrowNumber, bundleNumber, bundles}
+use Rattle.specification.specs.Pass.{asNumbers, stored, state, next}
+use Rattle.reduction.specs.Reduction.{transitiveIn?}
 use Rattle.kinds.specs.Kinds.{kindAmong}
 use Rattle.specification.specs.declared.Code.{Code}
-use Rattle.chart_numbers.specs.Steps.Blocks.{stored}
-use Rattle.chart_numbers.specs.Steps.Numbers.{Given, tailAt, headAt, kindAt, implied?, arrowFrom, wordFrom, bundleFrom}
-use Rattle.chart_numbers.specs.Steps.Pass.{arrowAt}
-use Rattle.chart_numbers.proofs.Blocks.{five}
+use Rattle.chart_numbers.specs.Steps.Numbers.{Given, tailAt, headAt, kindAt, arrowFrom, wordFrom, bundleFrom}
+
+-- ---- five numbers, and the count of a mark
+
+five : (n : ℕ → ℕ) (i a b c d e : ℕ) (l : List ℕ) → a ≡ n 0 → b ≡ n 1 → c ≡ n 2 → d ≡ n 3 → e ≡ n 4
+    → set (set (set (set (set l i a) (i + 1) b) (i + 2) c) (i + 3) d) (i + 4) e ≡ stored n i 5 l
+unfolding stored
+five n i a b c d e l ea eb ec ed ee = rw (ea, eb, ec, ed, ee, add-zero)
+
+-- 1 less a mark counts what has none
+unmarked : (b : Bool) (x : ℕ) → x ≡ indicator b → 1 - x ≡ indicator (not b)
+unmarked true x e = rw e refl
+unmarked false x e = rw e refl
+
+low : (b : Bool) (x : ℕ) → x ≡ indicator b → x ≤ 1
+low true x e = omega arith
+low false x e = omega arith
+
+pub mark-low : (longer : List ℕ) (u v x : ℕ) → x ≡ indicator (transitiveIn? longer u v) → x ≤ 1
+mark-low longer u v = low (transitiveIn? longer u v)
 
 -- ---- a vertex and a bundle
 
@@ -43,22 +56,6 @@ bundle-at spans i =
 -- ---- an edge
 
 module _ (g : Given) (e : ℕ) where
-  pub mark-here : (u v mark : ℕ) → u ≡ tailAt g e → v ≡ headAt g e → mark ≡ indicator (member? (g .longer) (2 * u) v)
-      → mark ≡ indicator (implied? g e)
-  unfolding implied?
-  mark-here u v mark tail head h = rw tail at (rw head at h)
-
-  -- k is what `kinds::kind_of` answers
-  pub arrow-stored : (mark : ℕ) (k : Code) (l x : List ℕ)
-      → k ≡ codeOf (kindAt g e)
-      → mark ≡ indicator (implied? g e)
-      → x ≡ set (set (set (set (set l (e * 5) e) (e * 5 + 1) (k .code)) (e * 5 + 2) (k .value)) (e * 5 + 3) (k .row)) (e * 5 + 4) mark
-      → x ≡ stored (arrowAt g e) (e * 5) 5 l
-  unfolding arrowNumber arrowFrom
-  arrow-stored mark k l x s q put =
-      put ∙ five (arrowAt g e) (e * 5) e (k .code) (k .value) (k .row) mark l refl
-      (ap (λ (x : Code). x .code) s) (ap (λ (x : Code). x .value) s) (ap (λ (x : Code). x .row) s) q
-
   pub kind-here : (k : Code) → k ≡ codeOf
       (kindAmong (quad 0 (g .places) (tailAt g e)) (quad 0 (g .places) (headAt g e)) (quad 1 (g .places) (tailAt g e))
       (quad 1 (g .places) (headAt g e)) (getD (g .number) (2 * headAt g e) 0) (getD (g .number) (2 * tailAt g e + 1) 0) (g .columns)
@@ -66,38 +63,15 @@ module _ (g : Given) (e : ℕ) where
   unfolding kindAt
   kind-here k h = h
 
--- ---- marks
-
-one-or-none : (x : ℕ) → x < 2 → x ≡ indicator (eqb x 1)
-one-or-none zero h = refl
-one-or-none (suc zero) h = refl
-one-or-none (suc (suc x)) h = absurd (omega arith)
-
-member-lt : (s : List ℕ) (first v : ℕ) → member s first v < 2
-unfolding member
-member-lt s first v = bit-lt (getD s (first + v / 64) 0) (v % 64)
-
-pub mark-is : (s : List ℕ) (first v x : ℕ) → x ≡ bitAnd (getD s (first + v / 64) 0 / 2 ^ (v % 64)) 1
-    → (x ≡ indicator (member? s first v)) × (x < 2)
-mark-is s first v x e =
-    let q : x ≡ member s first v = e ∙ member-test s first v in
-    let h = member-lt s first v in
-    (q ∙ one-or-none (member s first v) h, omega arith)
-
--- 1 less a mark counts what has none
-pub unmarked : (b : Bool) (x : ℕ) → x ≡ indicator b → 1 - x ≡ indicator (not b)
-unmarked true x e = rw e refl
-unmarked false x e = rw e refl
-
-module _ (g : Given) where
-  pub firm-none : 0 ≡ count 0 (λ e. not (implied? g e))
-  unfolding count sum
-  firm-none = refl
-
-  pub firm-more : (k x r : ℕ) → x ≡ count k (λ e. not (implied? g e)) → r ≡ indicator (not (implied? g k))
-      → x + r ≡ count (k + 1) (λ e. not (implied? g e))
-  unfolding count
-  firm-more k x r q e = ap₂ _+_ q e ∙ sym (sum-more k (λ e. indicator (not (implied? g e))))
-
-  pub firm-all : (m k x : ℕ) → k ≡ m → x ≡ count k (λ e. not (implied? g e)) → x ≡ count m (λ e. not (implied? g e))
-  firm-all m k x e q = q ∙ ap (λ (j : ℕ). count j (λ e. not (implied? g e))) e
+  -- what is left where k is what `kinds::kind_of` answers and the mark what `mark_at` does: one step of the pass
+  pub arrow-next : (mark firm : ℕ) (k : Code) (l x : List ℕ)
+      → k ≡ codeOf (kindAt g e)
+      → mark ≡ indicator (transitiveIn? (g .longer) (tailAt g e) (headAt g e))
+      → x ≡ set (set (set (set (set l (e * 5) e) (e * 5 + 1) (k .code)) (e * 5 + 2) (k .value)) (e * 5 + 3) (k .row)) (e * 5 + 4) mark
+      → state x (firm + (1 - mark)) ≡ next asNumbers (arrowFrom g) e (state l firm)
+  unfolding next arrowNumber arrowFrom
+  arrow-next mark firm k l x s q put =
+      ap₂ state
+      (put ∙ five (arrowNumber (arrowFrom g e)) (e * 5) e (k .code) (k .value) (k .row) mark l refl
+      (ap (λ (x : Code). x .code) s) (ap (λ (x : Code). x .value) s) (ap (λ (x : Code). x .row) s) q)
+      (ap (λ (x : ℕ). firm + x) (unmarked (transitiveIn? (g .longer) (tailAt g e) (headAt g e)) mark q))

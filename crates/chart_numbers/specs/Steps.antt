@@ -1,4 +1,2 @@
-pub mod Blocks
 pub mod Hand
 pub mod Numbers
-pub mod Pass

@@ -1,18 +1,16 @@
 // The entries of the lists, from tables: the edges in one pass over the bytes of their ends.
 ghost use mathlib.Core.Path.{_≡_};
-ghost use mathlib.Core.Bool.{not};
-ghost use Prim.Native.Nat.{ℕ, _+_, _*_, _≤_, _<_};
+ghost use Prim.Native.Nat.{ℕ, _+_, _*_, _/_, _≤_, _<_};
 ghost use lib.ListN.{length, getD, set};
 ghost use Rattle.specification.specs.Count.{indicator};
 ghost use Rattle.counting.specs.Quads.{quad};
-ghost use Rattle.specification.specs.Sets.{member?};
 ghost use Rattle.specification.specs.Numbers.{codeOf};
+ghost use Rattle.reduction.specs.Reduction.{transitiveIn?};
 ghost use Rattle.kinds.specs.Kinds.{kindAmong};
 ghost use Rattle.specification.specs.Lent.{Filled};
-ghost use Rattle.chart_numbers.specs.Steps.Blocks.{stored};
 ghost use Rattle.specification.specs.Numbers.{words, bundles};
-ghost use Rattle.chart_numbers.specs.Steps.Numbers.{given, implied?, wordFrom, bundleFrom};
-ghost use Rattle.chart_numbers.specs.Steps.Pass.{arrowAt, Ready, Passed};
+ghost use Rattle.specification.specs.Pass.{asNumbers, state, next, after};
+ghost use Rattle.chart_numbers.specs.Steps.Numbers.{given, arrowFrom, wordFrom, bundleFrom, Ready};
 use crate::wide;
 use specification::Code;
 
@@ -39,11 +37,11 @@ fn put_five(out: &mut [u16], i: usize, a: u16, b: u16, c: u16, d: u16, e: u16)
 // ---- edges
 
 // 1 where the edge from u to v is transitive, else 0.
-fn mark_of(longer: &[u64], u: usize, v: usize) -> u16
-    requires { ⌜ (2 * u + 2 ≤ length (now longer)) × (u < 128) × (v < 128) ⌝ }
-    ensures { λ r. ⌜ (r ≡ indicator (member? (now (longer .entry)) (2 * u) v)) × (r < 2) ⌝ }
+fn mark_at(longer: &[u64], u: u8, v: u8) -> u16
+    requires { ⌜ (2 * u + 2 ≤ length (now longer)) × (v < 128) ⌝ }
+    ensures { λ r. ⌜ r ≡ indicator (transitiveIn? (now (longer .entry)) u v) ⌝ }
 {
-    ((longer[2 * u + v / 64] >> (v % 64)) & 1) as u16
+    reduction::mark_in(longer[2 * wide(u) + wide(v) / 64], v)
 }
 
 // The kind of the edge from u to v as three numbers, from the places and the bundles of its ends.
@@ -77,7 +75,7 @@ fn kind_at<'a>(
     )
 }
 
-// Puts edge e at its place; 1 if it is reduced, else 0.
+// Puts edge e at its place, and counts it where it is reduced: one step of the pass.
 fn put_arrow<'e, 'l, 'a>(
     out: &mut [u16],
     ends: &'e [u8],
@@ -88,14 +86,16 @@ fn put_arrow<'e, 'l, 'a>(
     below: &'a [u64],
     left: &'a [u64],
     e: usize,
+    firm: u16,
 ) -> u16
-    requires { ⌜ (e * 5 + 5 ≤ length (now out)) × Ready (given (now ends) (now longer) (now places) (now number) (now columns) (now below) (now left)) e ⌝ }
-    ensures { λ r. ⌜ (now (out .exit) ≡ stored (arrowAt (given (now (ends .entry)) (now (longer .entry)) (now (places .entry)) (now (number .entry)) (now (columns .entry)) (now (below .entry)) (now (left .entry))) e) (e * 5) 5 (now (out .entry))) × (r ≡ indicator (not (implied? (given (now (ends .entry)) (now (longer .entry)) (now (places .entry)) (now (number .entry)) (now (columns .entry)) (now (below .entry)) (now (left .entry))) e))) × (r < 2) ⌝ }
+    requires { ⌜ (e * 5 + 5 ≤ length (now out)) × (firm ≤ e) × Ready (given (now ends) (now longer) (now places) (now number) (now columns) (now below) (now left)) e ⌝ }
+    ensures { λ r. ⌜ state (now (out .exit)) r ≡ next asNumbers (arrowFrom (given (now (ends .entry)) (now (longer .entry)) (now (places .entry)) (now (number .entry)) (now (columns .entry)) (now (below .entry)) (now (left .entry)))) e (state (now (out .entry)) firm) ⌝ }
 {
     let u = ends[2 * e];
     let v = ends[2 * e + 1];
-    let mark = mark_of(longer, wide(u), wide(v));
     let k = kind_at(places, number, columns, below, left, u, v);
+    // after the kind, so that no register holds the mark meanwhile
+    let mark = mark_at(longer, u, v);
     put_five(
         out,
         e * ARROW_NUMBERS,
@@ -105,10 +105,10 @@ fn put_arrow<'e, 'l, 'a>(
         k.row as u16,
         mark,
     );
-    1 - mark
+    firm + (1 - mark)
 }
 
-// Puts the first m edges; how many of them are reduced.
+// The one pass over the edges: puts each, and counts the reduced ones.
 pub(crate) fn put_arrows<'e, 'l, 'a>(
     out: &mut [u16],
     ends: &'e [u8],
@@ -118,14 +118,25 @@ pub(crate) fn put_arrows<'e, 'l, 'a>(
     columns: &'a [u16],
     below: &'a [u64],
     left: &'a [u64],
-    m: usize,
 ) -> u16
-    requires { ⌜ (m * 5 ≤ length (now out)) × (m ≤ 4096) × ((e : ℕ) → e < m → Ready (given (now ends) (now longer) (now places) (now number) (now columns) (now below) (now left)) e) ⌝ }
-    ensures { λ r. ⌜ Passed (given (now (ends .entry)) (now (longer .entry)) (now (places .entry)) (now (number .entry)) (now (columns .entry)) (now (below .entry)) (now (left .entry))) (now (out .entry)) m (now (out .exit)) r ⌝ }
+    requires { ⌜ (length (now ends) / 2 * 5 ≤ length (now out)) × ((e : ℕ) → e < length (now ends) / 2 → Ready (given (now ends) (now longer) (now places) (now number) (now columns) (now below) (now left)) e) ⌝ }
+    ensures { λ r. ⌜ state (now (out .exit)) r ≡ after asNumbers (arrowFrom (given (now (ends .entry)) (now (longer .entry)) (now (places .entry)) (now (number .entry)) (now (columns .entry)) (now (below .entry)) (now (left .entry)))) (now (out .entry)) (length (now (ends .entry)) / 2) ⌝ }
 {
+    let m = ends.len() / 2;
     let mut firm: u16 = 0;
     for e in 0..m {
-        firm += put_arrow(out, ends, longer, places, number, columns, below, left, e);
+        firm = put_arrow(
+            out,
+            ends,
+            longer,
+            places,
+            number,
+            columns,
+            below,
+            left,
+            e,
+            firm,
+        );
     }
     firm
 }

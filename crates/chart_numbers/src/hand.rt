@@ -100,7 +100,6 @@ pub(crate) fn hand_over<'e, 'l, 'b, 's, 'u>(
         &column[..n],
         below,
         left,
-        m,
     );
     put_bundles(bundles, spans, b);
     Counts {

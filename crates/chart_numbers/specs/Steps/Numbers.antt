@@ -1,14 +1,14 @@
 -- The entries that tables have. Assumes nothing.
-use mathlib.Core.Bool.{Bool}
 use mathlib.Core.List.{List}
-use Prim.Native.Nat.{ℕ, _+_, _*_}
-use lib.ListN.{getD}
+use Prim.Native.Nat.{ℕ, _+_, _*_, _≤_, _<_}
+use lib.ListN.{length, getD}
 use Rattle.counting.specs.Quads.{quad}
-use Rattle.specification.specs.Sets.{member?}
+use Rattle.specification.specs.Limits.{mostVertices, mostEdges}
 use Rattle.specification.specs.declared.Kind.{Kind}
 use Rattle.specification.specs.declared.VertexEntry.{VertexEntry}
 use Rattle.specification.specs.declared.EdgeEntry.{EdgeEntry}
 use Rattle.specification.specs.declared.BundleEntry.{BundleEntry}
+use Rattle.reduction.specs.Reduction.{transitiveIn?}
 use Rattle.kinds.specs.Kinds.{kindAmong}
 
 unfoldable pub wordFrom : List ℕ → List ℕ → ℕ → VertexEntry
@@ -57,9 +57,6 @@ module _ (g : Given) where
   abbrev pub headAt : ℕ → ℕ
   headAt e = getD (g .ends) (2 * e + 1) 0
 
-  unfoldable pub implied? : ℕ → Bool
-  implied? e = member? (g .longer) (2 * tailAt e) (headAt e)
-
   unfoldable pub kindAt : ℕ → Kind
   kindAt e =
       kindAmong (quad 0 (g .places) (tailAt e)) (quad 0 (g .places) (headAt e)) (quad 1 (g .places) (tailAt e))
@@ -68,4 +65,13 @@ module _ (g : Given) where
       (headAt e)
 
   unfoldable pub arrowFrom : ℕ → EdgeEntry
-  arrowFrom e = record { number = e; kind = kindAt e; transitive = implied? e }
+  arrowFrom e = record { number = e; kind = kindAt e; transitive = transitiveIn? (g .longer) (tailAt e) (headAt e) }
+
+  -- edge e has two bytes, which are vertices, and the tables have an entry for each: two masks, a place and two bundles
+  pub record Ready (e : ℕ) : Type 0 where
+    pub few : e < mostEdges
+    pub ends : 2 * e + 2 ≤ length (g .ends)
+    pub low : (tailAt e < mostVertices) × (headAt e < mostVertices)
+    pub longer : (2 * tailAt e + 2 ≤ length (g .longer)) × (2 * headAt e + 2 ≤ length (g .longer))
+    pub places : (4 * tailAt e + 4 ≤ length (g .places)) × (4 * headAt e + 4 ≤ length (g .places))
+    pub number : (2 * tailAt e + 2 ≤ length (g .number)) × (2 * headAt e + 2 ≤ length (g .number))

@@ -1,22 +1,36 @@
 -- `chart_numbers::entries::put_arrow` meets its contract, from what its callees ensure. Assumes nothing.
-use Rattle.counting.proofs.Prelude.{arith, needs}
-use Rattle.chart_numbers.specs.Steps.Numbers.{given, implied?}
-use Rattle.chart_numbers.proofs.Passing.{arrow-stored, kind-here, mark-here, unmarked}
+use Rattle.counting.proofs.Prelude.{refl, arith, needs, length-set}
+use Rattle.chart_numbers.specs.Steps.Numbers.{given}
+use Rattle.chart_numbers.proofs.Passing.{arrow-next, kind-here, mark-low}
 use Rattle.chart_numbers.proofs.entries.put_arrow.Statement.{statement}
 use Rattle.chart_numbers.proofs.entries.put_arrow.Tie as tie
 
+-- the places that facts are read from
+abbrev marked : tie.After-slice-known2 → tie.After-mark-at
+marked c = c .before .before .before .before .before .before
+
+abbrev kinds : tie.After-mark-at → tie.After-kind-at
+kinds c = c .before
+
+abbrev start : tie.After-mark-at → tie.Start
+start c = kinds c .before .before .before .before .before .before .before .before .before .before .before
+
+sub-result : tie.Need-sub-result
+sub-result c = let low = mark-low _ _ _ _ (marked c .mark-at .ensures) in omega arith
+
+add-result : tie.Need-add-result
+add-result c = record { fits = omega (arith, start (marked c) .pre) }
+
+same-length : tie.Need-same-length
+same-length c = rw (c .before .before .put-five .ensures) (simp length-set refl)
+
 returns : tie.Need-returns
 returns c =
-    let put-five = c .before .before in let kinds = put-five .before .before .before .before in let mark-of = kinds .before in
-    let heads = mark-of .before in let wide = heads .before in
-    let start = wide .before .before .before .before .before .before .before .before .before .before .before in
-    let a = start .args in
+    let put-five = c .before .before in
+    let a = start (marked c) .args in
     let g = given (a .ends .now) (a .longer .now) (a .places .now) (a .number .now) (a .columns .now) (a .below .now) (a .left .now) in
-    let mark = mark-here g (a .e) _ _ _ (wide .wide .ensures .0) (heads .wide2 .ensures .0) (mark-of .mark-of .ensures .0) in (
-      arrow-stored g (a .e) _ _ _ _ (kind-here g (a .e) _ (kinds .kind-at .ensures)) mark (put-five .put-five .ensures),
-      unmarked (implied? g (a .e)) _ mark,
-      omega arith,
-    )
+    arrow-next g (a .e) _ (a .firm) _ _ _ (kind-here g (a .e) _ (kinds (marked c) .kind-at .ensures)) (marked c .mark-at .ensures)
+    (put-five .put-five .ensures)
 
 pub put-arrow-spec : {M : Type 1} → statement M
 put-arrow-spec =
@@ -29,13 +43,12 @@ put-arrow-spec =
     (λ c. search needs)
     (λ c κs. search needs)
     (λ c κs. search needs)
-    (λ c κs. search needs)
-    (λ c κs. search needs)
     (λ c. search needs)
     (λ c. search needs)
     (λ c. search needs)
     (λ c. search needs)
     (λ c κs. search needs)
-    (λ c. search needs)
-    (λ c. search needs)
+    sub-result
+    add-result
+    same-length
     returns)

@@ -2,7 +2,7 @@
 use Rattle.counting.proofs.Prelude.{_≡_, _∙_, _+_, _-_, _*_, _≤_, arith, needs}
 use Rattle.specification.specs.Numbers.{wordNumber}
 use Rattle.chart_numbers.specs.Steps.Numbers.{wordFrom}
-use Rattle.chart_numbers.proofs.Blocks.{entered, entered-none, entered-more, entered-long, entered-all}
+use Rattle.lists.proofs.Entered.{entered, entered-none, entered-more, entered-long, entered-all}
 use Rattle.chart_numbers.proofs.Passing.{word-stored}
 use Rattle.chart_numbers.proofs.entries.put_words.Statement.{statement}
 use Rattle.chart_numbers.proofs.entries.put_words.Tie as tie

@@ -3,9 +3,11 @@
 use Rattle.counting.proofs.Prelude.{_≡_, refl, sym, ap, subst, _∙_, List, ℕ, _*_, _/_, _≤_, arith, length, replicate}
 use lib.Seq.{length-take-le}
 use Rattle.specification.specs.Drawn.{graphContent}
+use Rattle.specification.specs.Pass.{State, asNumbers}
+use Rattle.lists.proofs.Marking.{after-long}
 use Rattle.chart_plan.specs.Laid.{Lists, lists, Laid}
 use Rattle.chart_numbers.specs.Steps.Hand.{LeftFor}
-use Rattle.chart_numbers.proofs.Charted.{words-fit, bundles-fit, arrows-few, ready, charted}
+use Rattle.chart_numbers.proofs.Charted.{words-fit, bundles-fit, ready, passed, charted}
 use Rattle.chart_numbers.proofs.Leaving.{told-whole, call-refused, call-left}
 use Rattle.chart_numbers.proofs.hand.hand_over.Statement.{statement}
 use Rattle.chart_numbers.proofs.hand.hand_over.Tie as tie
@@ -65,7 +67,7 @@ put-words-requires c κs =
 put-arrows-requires : tie.Need-put-arrows-requires
 put-arrows-requires c κs =
     let e = else1-of (c .before) in
-    (omega (arith, whole e .2), arrows-few _ _ _ _ _ _ (laid e), ready _ _ _ _ _ _ (laid e) _)
+    (omega (arith, whole e .2), ready _ _ _ _ _ _ (laid e) _)
 
 put-bundles-requires : tie.Need-put-bundles-requires
 put-bundles-requires c κs =
@@ -97,7 +99,8 @@ returns-2 c =
     (e .before .refusal-of .ensures) (e .if1 .left) _ _ _ _ refl
     (charted (a .n) (a .ends .now) given field (a .p) t (q .laid (whole e .0)) _ (length (a .left .now)) (st .pre .left-room) left
     (a .words .now) (a .arrows .now) (a .bundles .now) _ _ _ _ (st .pre .used-long) (vertices c .put-words .ensures)
-    (edges c .put-arrows .ensures) (c .before .before .put-bundles .ensures))
+    (passed (a .n) (a .ends .now) given field (a .p) t (q .laid (whole e .0)) _ (length (a .left .now)) (st .pre .left-room) left
+    (a .arrows .now) _ _ (omega (arith, whole e .2)) (edges c .put-arrows .ensures)) (c .before .before .put-bundles .ensures))
 
 pub hand-over-spec : {M : Type 1} → statement M
 hand-over-spec =
@@ -115,7 +118,7 @@ hand-over-spec =
     put-arrows-requires
     put-bundles-requires
     (λ c. vertices c .put-words .ensures .as-long)
-    (λ c. edges c .put-arrows .ensures .entries .as-long)
+    (λ c. ap (λ (s : State ℕ). length (s .list)) (edges c .put-arrows .ensures) ∙ after-long asNumbers _ _ _)
     (λ c. c .before .before .put-bundles .ensures .as-long)
     (λ c. lefts c .make-left .ensures .1)
     returns-2)
