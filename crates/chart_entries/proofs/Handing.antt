@@ -1,11 +1,13 @@
 -- From what `hand_over` leaves to the promises of the calls. Assumes nothing.
-use Rattle.counting.proofs.Prelude.{_≡_, sym, ap, subst, _∙_, Bool, not, List, ℕ, length}
-use Rattle.specification.specs.Count.{count}
-use Rattle.counting.proofs.Sums.{count-ext}
+use Rattle.counting.proofs.Prelude.{_≡_, sym, ap, subst, _∙_, Bool, List, ℕ, _≤_, arith, length}
+use native.Mathlib.Nat.{mul-one, div-one}
+use Rattle.lists.specs.Marking.{Marking}
+use Rattle.lists.proofs.Marking.{entries-legible, after-same, marking, marked-filled, marked-reduced}
 use Rattle.lists.proofs.Written.{refilled}
+use Rattle.specification.specs.Lent.{Filled}
+use Rattle.specification.specs.Pass.{asEntries, state, after}
 use Rattle.specification.specs.Checks.{Content, edgesOf}
-use Rattle.specification.specs.Marks.{reducedCount}
-use Rattle.specification.specs.Chart.{Plan, transitiveEdge?, reducedEdges, edgeEntry}
+use Rattle.specification.specs.Chart.{Plan, edgeEntry}
 use Rattle.specification.specs.Numbers.{arrowNumber}
 use Rattle.specification.specs.declared.VertexEntry.{VertexEntry}
 use Rattle.specification.specs.declared.EdgeEntry.{EdgeEntry}
@@ -14,23 +16,30 @@ use Rattle.specification.specs.Drawn.{Drawn, graphDrawn, recordDrawn}
 use Rattle.chart_entries.specs.declared.Sheet.{Sheet}
 use Rattle.specification.specs.declared.ChartCounts.{ChartCounts}
 use Rattle.chart_entries.specs.Promise.{HandedOver}
-use Rattle.chart_entries.specs.Steps.Entries.{edgeAt, reduced?}
+use Rattle.chart_entries.specs.Steps.Entries.{edgeAt}
 use Rattle.chart_entries.specs.Steps.Sheets.{Tables, SheetOf, GraphSheet, RecordSheet, endsOf, Leaves}
 
--- the reduced edges, counted by their entries
-reduced-counted : (c : Content) (p : Plan) (ends : List ℕ) (d : Sheet) → Tables c p ends d
-    → count (d .edges) (λ e. reduced? (edgeAt d ends e)) ≡ reducedEdges c
-unfolding reducedEdges reducedCount transitiveEdge? edgeEntry
-reduced-counted c p ends d ts =
-    ap (λ k. count k (λ e. reduced? (edgeAt d ends e))) (ts .edges)
-    ∙ count-ext (edgesOf c) (λ e. reduced? (edgeAt d ends e)) (λ e. not (transitiveEdge? c e)) (λ e h. ap reduced? (ts .edge e h))
+-- THE PASS over the edges, by what `fill_edges` promises: the states are the chart's
+passed : (c : Content) (p : Plan) (ends : List ℕ) (d : Sheet) → Tables c p ends d → (es es′ : List EdgeEntry) (x : ℕ) → d .edges ≤ length es
+    → state es′ x ≡ after asEntries (edgeAt d ends) es (d .edges) → Marking asEntries c p es es′ x
+passed c p ends d ts es es′ x room e =
+    marking asEntries entries-legible c p es (omega (arith, ts .edges)) es′ x
+    (e ∙ ap (after asEntries (edgeAt d ends) es) (ts .edges)
+    ∙ after-same asEntries (edgeAt d ends) (edgeEntry c p) es (edgesOf c) (ts .edge))
+
+-- an entry an edge
+marked-edges : (c : Content) (p : Plan) (es es′ : List EdgeEntry) (x : ℕ) → Marking asEntries c p es es′ x
+    → Filled es (edgeEntry c p) (edgesOf c) es′
+marked-edges c p es es′ x h =
+    refilled _ _ _ _ _ _ (mul-one (edgesOf c)) (λ k l. ap (edgeEntry c p) (div-one k)) (marked-filled asEntries c p es es′ x h)
 
 module _ (vs vs′ : List VertexEntry) (es es′ : List EdgeEntry) (bs bs′ : List BundleEntry) (d : Sheet) (r : ChartCounts) where
   handed : (x : Drawn) (ends : List ℕ) → SheetOf x ends (length vs) (length es) (length bs) d → Leaves d ends vs es bs r vs′ es′ bs′
       → HandedOver x vs es bs r vs′ es′ bs′
   handed x ends s h =
       let ts = s .tables in
-      let edges = refilled _ _ _ _ _ _ (ts .edges) (ts .edge) (h .edges) in
+      let pass = passed _ _ ends d ts es es′ (h .reduced) (s .room .edges) (h .edges) in
+      let edges = marked-edges _ _ es es′ (h .reduced) pass in
       subst (λ (a : ChartCounts). HandedOver x vs es bs a vs′ es′ bs′) (sym (h .answer)) (record {
         refusal = s .refusal;
         listed = record {
@@ -40,7 +49,7 @@ module _ (vs vs′ : List VertexEntry) (es es′ : List EdgeEntry) (bs bs′ : L
             bundles = ts .bundles;
             rows = ts .rows;
             lines = ts .channels;
-            firm = reduced-counted _ _ ends d ts;
+            firm = marked-reduced asEntries _ _ es es′ (h .reduced) pass;
             width = ts .width;
             side-columns = ts .tracks;
             long = ts .long;

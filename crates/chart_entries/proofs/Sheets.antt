@@ -3,7 +3,6 @@ use Rattle.counting.proofs.Prelude.{_≡_, refl, sym, ap, ap₂, subst, _∙_, 
 use Rattle.counting.proofs.Prelude.{length, getD, take, drop, replicate}
 use Rattle.counting.specs.Quads.{quad}
 use Rattle.counting.proofs.Zeros.{zeros}
-use Rattle.specification.specs.Sets.{member?}
 use Rattle.specification.specs.Checks.{Content, edgesOf, nothing}
 use Rattle.specification.specs.Layout.{layoutOf}
 use Rattle.specification.specs.declared.Fields.{Fields}
@@ -22,9 +21,10 @@ use Rattle.chart_plan.specs.declared.Plan.{Plan}
 use Rattle.chart_plan.proofs.Entries.{edges-counted, small, edges-few, bundles-few, vertex-drawn, bundle-drawn, kind-among, mark-drawn}
 use Rattle.chart_plan.proofs.Judging.{graph-refused, graph-whole, record-good}
 use Rattle.chart_plan.proofs.Nothing.{empty}
+use Rattle.reduction.specs.Reduction.{transitiveIn?}
 use Rattle.chart_plan.proofs.Shortage.{short-vertices, short-edges, short-bundles, enough, lent-short, lent-whole}
 use Rattle.chart_entries.specs.declared.Sheet.{Sheet}
-use Rattle.chart_entries.specs.Steps.Entries.{vertexAt, kindBy, kindAt, transitive?, edgeAt, bundleAt}
+use Rattle.chart_entries.specs.Steps.Entries.{vertexAt, kindBy, kindAt, edgeAt, bundleAt}
 use Rattle.chart_entries.specs.Steps.Sheets.{blankOf, sheetOf, Drafted, Tables, Room, SheetOf, GraphSheet, RecordSheet, endsIn}
 use Rattle.chart_entries.specs.Steps.Sheets.{endsOf}
 
@@ -36,7 +36,7 @@ kind-made k x h = ap (λ (y : Code). kindOf (y .code) (y .value) (y .row)) h ∙
 
 -- from its ends, its kind and its mark
 pub edge-made : (d : Sheet) (ends : List ℕ) (e u v : ℕ) (k : Kind) (t : Bool) → u ≡ getD ends (2 * e) 0 → v ≡ getD ends (2 * e + 1) 0
-    → k ≡ kindAt d u v → t ≡ transitive? d u v → record { number = e; kind = k; transitive = t } ≡ edgeAt d ends e
+    → k ≡ kindAt d u v → t ≡ transitiveIn? (d .longer) u v → record { number = e; kind = k; transitive = t } ≡ edgeAt d ends e
 unfolding edgeAt
 edge-made d ends e u v k t hu hv hk ht = rw (hk, ht, hu, hv) refl
 
@@ -150,9 +150,8 @@ module _ (n : ℕ) (ends : List ℕ) (given : Bool) (field : List ℕ) (p : Plan
           ∙ ap₂ (among n) tail-same head-same
           ∙ kind-among c p t l e h 258 left (let f = few in omega arith) (λ _. lefts)
 
-      mark-same : transitive? sheet (getD ends (2 * e) 0) (getD ends (2 * e + 1) 0) ≡ transitiveEdge? c e
-      unfolding transitive?
-      mark-same = ap₂ (λ (x y : ℕ). member? (t .longer) (2 * x) y) tail-same head-same ∙ mark-drawn c p t l e h
+      mark-same : transitiveIn? (t .longer) (getD ends (2 * e) 0) (getD ends (2 * e + 1) 0) ≡ transitiveEdge? c e
+      mark-same = ap₂ (transitiveIn? (t .longer)) tail-same head-same ∙ mark-drawn c p t l e h
 
       edge-same : edgeAt sheet ends e ≡ edgeEntry c (planOf c) e
       unfolding edgeAt edgeEntry

@@ -3,13 +3,15 @@ ghost use mathlib.Core.Path.{_≡_};
 ghost use mathlib.Core.List.{List};
 ghost use Prim.Native.Nat.{ℕ, _+_, _<_, _≤_, min};
 ghost use lib.ListN.{length, getD};
-ghost use Rattle.specification.specs.Count.{indicator, count};
+ghost use Rattle.specification.specs.Count.{indicator};
 ghost use Rattle.kinds.specs.Codes.{kindOf};
 ghost use Rattle.specification.specs.Numbers.{codeOf};
 ghost use Rattle.specification.specs.Drawn.{recordDrawn, graphDrawn};
+ghost use Rattle.specification.specs.Pass.{asEntries, state, after};
+ghost use Rattle.reduction.specs.Reduction.{transitiveIn?};
 ghost use Rattle.chart_plan.specs.Laid.{lists};
 ghost use Rattle.chart_entries.specs.Promise.{HandedOver};
-ghost use Rattle.chart_entries.specs.Steps.Entries.{vertexAt, kindBy, kindAt, transitive?, edgeAt, bundleAt, reduced?};
+ghost use Rattle.chart_entries.specs.Steps.Entries.{vertexAt, kindBy, kindAt, edgeAt, bundleAt, reduced?};
 ghost use Rattle.chart_entries.specs.Steps.Sheets.{blankOf, Drafted, Room, GraphSheet, RecordSheet, endsOf, summaryOf, Leaves};
 use chart_plan::Plan;
 use specification::Bend;
@@ -146,9 +148,10 @@ fn kind_at(d: Sheet, u: u8, v: u8) -> Kind
 
 // Whether the edge u -> v is transitive.
 fn mark_at(d: Sheet, u: u8, v: u8) -> bool
-    ensures { λ r. ⌜ r ≡ transitive? d u v ⌝ }
+    ensures { λ r. ⌜ r ≡ transitiveIn? (d .longer) u v ⌝ }
 {
-    masks::contains(&d.longer, 2 * wide(u), wide(v))
+    let i = wide(v) / 64;
+    reduction::mark_in(masks::mask_at(&d.longer, 2 * wide(u), i), v) == 1
 }
 
 fn edge_at(ends: &[u8], d: Sheet, i: usize) -> EdgeEntry
@@ -370,10 +373,10 @@ fn counted(before: u16, entry: EdgeEntry, i: usize) -> u16
     before + 1
 }
 
-// How many edges are reduced.
+// The one pass over the edges: writes each, and counts the reduced ones.
 fn fill_edges<'a>(out: &mut [EdgeEntry], ends: &'a [u8], d: Sheet, top: usize) -> u16
     requires { ⌜ (top ≤ length (now out)) × (top ≤ 4096) ⌝ }
-    ensures { λ r. ⌜ Filled (now (out .entry)) (edgeAt d (now (ends .entry))) top (now (out .exit)) × (r ≡ count top (λ e. reduced? (edgeAt d (now (ends .entry)) e))) ⌝ }
+    ensures { λ r. ⌜ state (now (out .exit)) r ≡ after asEntries (edgeAt d (now (ends .entry))) (now (out .entry)) top ⌝ }
 {
     let mut i: usize = 0;
     let mut firm: u16 = 0;

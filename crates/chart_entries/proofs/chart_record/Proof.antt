@@ -51,6 +51,7 @@ use Rattle.specification.proofs.ChartCounts.Laws as Ct′
 use Rattle.lists.proofs.Steps.{and-local, measures, lends-on, answers, meets-by-walk}
 use Rattle.chart_entries.proofs.Calling.{HandC, hands, handed}
 use Rattle.chart_entries.proofs.Handing.{of-record}
+use Rattle.chart_entries.proofs.Source.{marked-long}
 use Rattle.chart_entries.proofs.Passed.{Passed, partSlot, gave, spelled, told, gone, unsaid, lend, n₁, n₂, n₃, κs, qs, token₀, part}
 use Rattle.chart_entries.proofs.Passed.{measured, tokens, lists, finals, ending, gathered}
 use Rattle.chart_entries.proofs.sheet_of_record as plan
@@ -169,7 +170,7 @@ module _ {M : Type 1} (𝓤 : URA M) (H : Heap 𝓤) (A : Atoms 𝓤) (W : Given
         qed W (raw (⋆ 𝓤 H A (ending P 𝓤 H A W r w zs₁ zs₂ zs₃)) ∷ []) ∵
         suffices ! _
         (ends-at 𝓤 H A f.ended stayed (f.clauses 𝓤 H A mem run) W bound w r (tt, (zs₁, (zs₂, (zs₃, tt))))
-        (tt, (e .vertices .as-long, (e .edges .as-long, (e .bundles .as-long, tt))))) $
+        (tt, (e .vertices .as-long, (marked-long _ d _ _ _ _ (e .edges), (e .bundles .as-long, tt))))) $
         says ! (of-record _ _ _ _ _ _ d r (now b) (now y) pl is e) $
         use1 W (tokens P 𝓤 H A W ⊛ ‵ (finals P 𝓤 H A W r w zs₁ zs₂ zs₃) ⊛ ‵ (Ct.the-row .own r (w ∷ [])))
         (gathered P 𝓤 H A W r w zs₁ zs₂ zs₃) $

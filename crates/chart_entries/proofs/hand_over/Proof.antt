@@ -34,7 +34,7 @@ use denote.Triple.Clauses.{lasts}
 use denote.Triple.Walked.{says, needs, Stays, stay-dropped, walkOf, AllGo, ends-at}
 use denote.Exit.{yes}
 use Rattle.lists.proofs.Fill.{Fill, fills}
-use Rattle.lists.proofs.Tally.{Tally, tally, tallies}
+use Rattle.lists.proofs.Tally.{Tally, tallies}
 use Rattle.specification.specs.declared.VertexEntry.{VertexEntry}
 use Rattle.specification.specs.declared.EdgeEntry.{EdgeEntry}
 use Rattle.specification.specs.declared.BundleEntry.{BundleEntry}
@@ -50,7 +50,7 @@ use Rattle.chart_entries.proofs.Sheet.Laws as S′
 use Rattle.specification.proofs.ChartCounts as Ct
 use Rattle.specification.proofs.ChartCounts.Laws as Ct′
 use Rattle.lists.proofs.Steps.{and-local, and-field, lends-on, answers, returned, meets-by-walk}
-use Rattle.chart_entries.proofs.Source.{sheet}
+use Rattle.chart_entries.proofs.Source.{sheet, Marked, marked-long}
 use Rattle.chart_entries.proofs.Passed.{Passed, partSlot, gave, spelled, told, gone, unsaid, lend, n₁, n₂, n₃, κs, qs, tokens}
 use Rattle.chart_entries.proofs.Passed.{lent-on, finals, ending, gathered}
 use Rattle.chart_entries.proofs.summary as summary
@@ -82,7 +82,7 @@ module _ {M : Type 1} (𝓤 : URA M) (H : Heap 𝓤) (A : Atoms 𝓤) (mem : Mem
 
   pub record Known (𝓣 : Tables 𝓤 H) : Type 1 where
     pub of-vertices : Triple 𝓤 (𝓣 .C #vertices) (Fill sheet Vt.the-type vertexAt 128 𝓤 H A)
-    pub of-edges : Triple 𝓤 (𝓣 .C #edges) (Tally sheet Et.the-type edgeAt reduced? 4096 𝓤 H A)
+    pub of-edges : Triple 𝓤 (𝓣 .C #edges) (Tally sheet Et.the-type edgeAt reduced? 4096 Marked 𝓤 H A)
     pub of-bundles : Triple 𝓤 (𝓣 .C #bundles) (Fill sheet Bt.the-type bundleAt 256 𝓤 H A)
     pub of-summary : Triple 𝓤 (𝓣 .C #summary) SummaryC
 
@@ -116,16 +116,12 @@ module _ {M : Type 1} (𝓤 : URA M) (H : Heap 𝓤) (A : Atoms 𝓤) (W : Given
   abbrev Post : Val → SProp 𝓤
   Post = walkOf 𝓤 H A f.ended stayed (f.clauses 𝓤 H A mem run) .post bound
 
-  -- the edges that are counted
-  abbrev firm : ℕ
-  firm = tally sheet Et.the-type edgeAt reduced? 4096 d (now y) (d .edges)
+  -- ---- the call of `summary`, with the edges that are counted
+  abbrev to-summary : ℕ → SummaryC 𝓤 H A mem run .Ghost
+  to-summary firm = ((tt, tt, tt, (d, (firm, tt)), (v ∷ [], (vint w16 firm ∷ [], tt))), tt)
 
-  -- ---- the call of `summary`
-  abbrev to-summary : SummaryC 𝓤 H A mem run .Ghost
-  to-summary = ((tt, tt, tt, (d, (firm, tt)), (v ∷ [], (vint w16 firm ∷ [], tt))), tt)
-
-  goes-summary : firm < 2 ^ 16 → ent 𝓤 (emp 𝓤) (SummaryC 𝓤 H A mem run .pre to-summary)
-  goes-summary fits = qed W [] ∵ nothing ! $ owned ! u16 (Is u16) (uint-makes 𝓤 H A W w16) firm _ (refl, fits) $ fjoin ! $
+  goes-summary : (firm : ℕ) → firm < 2 ^ 16 → ent 𝓤 (emp 𝓤) (SummaryC 𝓤 H A mem run .pre (to-summary firm))
+  goes-summary firm fits = qed W [] ∵ nothing ! $ owned ! u16 (Is u16) (uint-makes 𝓤 H A W w16) firm _ (refl, fits) $ fjoin ! $
       owned ! S.the-row (Is S.the-row) ((LL.makes S.the-type S′.the-plain) 𝓤 H A) d _ is-d $ fjoin ! $ nothing ! $ join ! $ frame ! $
       done !
 
@@ -137,7 +133,7 @@ module _ {M : Type 1} (𝓤 : URA M) (H : Heap 𝓤) (A : Atoms 𝓤) (W : Given
         qed W (raw (⋆ 𝓤 H A (ending P 𝓤 H A W r w zs₁ zs₂ zs₃)) ∷ []) ∵
         suffices ! _
         (ends-at 𝓤 H A f.ended stayed (f.clauses 𝓤 H A mem run) W bound w r (tt, (tt, (zs₁, (zs₂, (zs₃, tt)))))
-        (tt, (tt, (e .vertices .as-long, (e .edges .as-long, (e .bundles .as-long, tt)))))) $
+        (tt, (tt, (e .vertices .as-long, (marked-long _ d _ _ _ _ (e .edges), (e .bundles .as-long, tt)))))) $
         says ! e $ use1 W (tokens P 𝓤 H A W ⊛ ‵ (finals P 𝓤 H A W r w zs₁ zs₂ zs₃) ⊛ ‵ (Ct.the-row .own r (w ∷ [])))
         (gathered P 𝓤 H A W r w zs₁ zs₂ zs₃) $
         split ! $ frame ! $ split ! $ nothing ! $ fjoin ! $ nothing ! $ fjoin ! $ done !
@@ -175,9 +171,11 @@ module _ {M : Type 1} (𝓤 : URA M) (H : Heap 𝓤) (A : Atoms 𝓤) (W : Given
       -- [t₁; the vertices' last list; t₃; t₂; t₀; x₃; x₂; the part; _13; …]
       lends-on ! 26 14 12 (P .fits₂ .0) refl refl refl refl refl $
       move ! (3 ∷ 6 ∷ 4 ∷ 7 ∷ []) $
-      tallies sheet Et.the-type edgeAt reduced? 4096 𝓤 H A W (P .κ₂) (P .κ₀) (P .q₂) (P .q₀) (P .x₂) y d (d .edges) is-d (owed .1 .1 .0 .1)
+      tallies sheet Et.the-type edgeAt reduced? 4096 Marked 𝓤 H A W (P .κ₂) (P .κ₀) (P .q₂) (P .q₀) (P .x₂) y d (d .edges) is-d
+      (owed .1 .1 .0 .1)
       (room .edges) (room .bounded .edges) 𝓣 #edges (known .of-edges)
-      (and-local ! 9 refl (and-local ! 27 refl (and-local ! 29 refl (and-field ! 29 2 refl refl refl (no-more !))))) (λ zs₂ e₂ len₂ fits.
+      (and-local ! 9 refl (and-local ! 27 refl (and-local ! 29 refl (and-field ! 29 2 refl refl refl (no-more !)))))
+      (λ zs₂ firm e₂ len₂ fits.
       land ! (from ! (stop !)) (init ! 21 refl (tt, record { fits = fits })) $
       -- [t₂; the edges' last list; t₀; t₁; the vertices'; t₃; x₃; _13; …]
       lends-on ! 23 9 7 (P .fits₃ .0) refl refl refl refl refl $
@@ -187,14 +185,14 @@ module _ {M : Type 1} (𝓤 : URA M) (H : Heap 𝓤) (A : Atoms 𝓤) (W : Given
       (and-local ! 6 refl (and-local ! 30 refl (and-field ! 30 3 refl refl refl (no-more !)))) (λ zs₃ e₃ len₃ u₃ ty₃.
       land ! (from ! (stop !)) (store ! 19 refl ty₃) $ move ! (0 ∷ 1 ∷ 2 ∷ 3 ∷ 5 ∷ 6 ∷ []) $
       -- [t₃; the bundles' last list; t₂; the edges'; t₁; the vertices'; t₀; _13; …]
-      use0 W (raw (SummaryC 𝓤 H A mem run .pre to-summary)) (goes-summary fits) $
-      calls-at ! (fmOf 𝓤 H (W .laws) 𝓣) (SummaryC 𝓤 H A mem run) (known .of-summary) to-summary
+      use0 W (raw (SummaryC 𝓤 H A mem run .pre (to-summary firm))) (goes-summary firm fits) $
+      calls-at ! (fmOf 𝓤 H (W .laws) 𝓣) (SummaryC 𝓤 H A mem run) (known .of-summary) (to-summary firm)
       (and-local ! 32 refl (and-local ! 22 refl (no-more !))) (λ w.
       answers ! tt Ct.the-row (‵ ftrue) (lasts summary.ended tt (d, (firm, tt))) (λ r. r ≡ summaryOf d firm) w
       (λ r e is-r. move ! (1 ∷ []) $ drop ! $ group ! 8 $
       returned 𝓤 H A W 26 (passed ++ (vint w16 firm ∷ u₃ ∷ lent-on P)) (LL.lawful Ct.the-type Ct′.the-laws 𝓤 H A W .typed r _ is-r .0)
       refl refl refl
-      (exits r w zs₁ zs₂ zs₃ (record { answer = e; vertices = e₁; edges = e₂; bundles = e₃ })))))))))))))))))))))
+      (exits r w zs₁ zs₂ zs₃ (record { reduced = firm; answer = e; vertices = e₁; edges = e₂; bundles = e₃ })))))))))))))))))))))
 
 module _ {M : Type 1} (𝓤 : URA M) (H : Heap 𝓤) (A : Atoms 𝓤) (W : Given 𝓤 H A) (mem : Memory → SProp 𝓤) (run : Routine → Fun 𝓤) where
   goes : AllGo 𝓤 H A W 4 (f.signature .params) (f.ended .kept) stayed
@@ -218,7 +216,7 @@ hand-over-spec 𝓤 H 𝓜 𝓖 𝓡 =
           cited 𝓤 H (Fill sheet Vt.the-type vertexAt 128 𝓤 H (𝓖 .A)) 𝓜 𝓡 code.env #vertices vertices-def.routine
           code.calls-chart-entries·fill-vertices (vertices-thm.met 𝓤 H 𝓜 𝓖 𝓡);
       of-edges =
-          cited 𝓤 H (Tally sheet Et.the-type edgeAt reduced? 4096 𝓤 H (𝓖 .A)) 𝓜 𝓡 code.env #edges edges-def.routine
+          cited 𝓤 H (Tally sheet Et.the-type edgeAt reduced? 4096 Marked 𝓤 H (𝓖 .A)) 𝓜 𝓡 code.env #edges edges-def.routine
           code.calls-chart-entries·fill-edges (edges-thm.met 𝓤 H 𝓜 𝓖 𝓡);
       of-bundles =
           cited 𝓤 H (Fill sheet Bt.the-type bundleAt 256 𝓤 H (𝓖 .A)) 𝓜 𝓡 code.env #bundles bundles-def.routine

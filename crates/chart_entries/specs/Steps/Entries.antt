@@ -5,11 +5,11 @@ use Prim.Native.Nat.{ℕ, _+_, _*_, min}
 use lib.ListN.{getD, take}
 use Rattle.counting.specs.Quads.{quad}
 use Rattle.specification.specs.Limits.{mostVertices}
-use Rattle.specification.specs.Sets.{member?}
 use Rattle.specification.specs.declared.Kind.{Kind}
 use Rattle.specification.specs.declared.VertexEntry.{VertexEntry}
 use Rattle.specification.specs.declared.EdgeEntry.{EdgeEntry}
 use Rattle.specification.specs.declared.BundleEntry.{BundleEntry}
+use Rattle.reduction.specs.Reduction.{transitiveIn?}
 use Rattle.kinds.specs.Kinds.{kindAmong}
 use Rattle.chart_entries.specs.declared.Sheet.{Sheet}
 
@@ -32,15 +32,12 @@ kindBy number columns places below left u v =
 unfoldable pub kindAt : Sheet → ℕ → ℕ → Kind
 kindAt d u v = kindBy (d .number) (take (min (d .vertices) mostVertices) (d .column)) (d .places) (d .below) (d .left) u v
 
-unfoldable pub transitive? : Sheet → ℕ → ℕ → Bool
-transitive? d u v = member? (d .longer) (2 * u) v
-
 -- edge e has its tail at byte 2 e and its head after it
 unfoldable pub edgeAt : Sheet → List ℕ → ℕ → EdgeEntry
 edgeAt d ends e = record {
   number = e;
   kind = kindAt d (getD ends (2 * e) 0) (getD ends (2 * e + 1) 0);
-  transitive = transitive? d (getD ends (2 * e) 0) (getD ends (2 * e + 1) 0);
+  transitive = transitiveIn? (d .longer) (getD ends (2 * e) 0) (getD ends (2 * e + 1) 0);
 }
 
 unfoldable pub bundleAt : Sheet → ℕ → BundleEntry

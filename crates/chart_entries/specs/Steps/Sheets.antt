@@ -5,9 +5,9 @@ use mathlib.Core.List.{List, []}
 use Prim.Native.Nat.{ℕ, _*_, _/_, _≤_, _<_, min}
 use lib.ListN.{length, getD, take, drop, replicate}
 use Rattle.specification.specs.Limits.{mostVertices, mostEdges, mostBundles}
-use Rattle.specification.specs.Count.{count}
 use Rattle.counting.specs.Quads.{quad}
 use Rattle.specification.specs.Lent.{Filled}
+use Rattle.specification.specs.Pass.{asEntries, state, after}
 use Rattle.specification.specs.Checks.{Content, edgesOf}
 use Rattle.specification.specs.Layout.{layoutOf}
 use Rattle.specification.specs.declared.Layout.{Layout}
@@ -23,7 +23,7 @@ use Rattle.chart_plan.specs.Laid.{Lists}
 use Rattle.chart_plan.specs.declared.Plan.{Plan}
 use Rattle.chart_entries.specs.declared.Sheet.{Sheet}
 use Rattle.specification.specs.declared.ChartCounts.{ChartCounts}
-use Rattle.chart_entries.specs.Steps.Entries.{vertexAt, edgeAt, bundleAt, reduced?}
+use Rattle.chart_entries.specs.Steps.Entries.{vertexAt, edgeAt, bundleAt}
 
 -- ---- sheets
 
@@ -134,10 +134,11 @@ summaryOf d reduced = record {
   «side_columns» = d .tracks;
 }
 
--- the answer and the lists by the sheet and the ends of the edges
+-- the answer and the lists by the sheet and the ends of the edges; the pass over the edges ends with the count `reduced`
 pub record Leaves (d : Sheet) (ends : List ℕ) (vs : List VertexEntry) (es : List EdgeEntry) (bs : List BundleEntry)
     (r : ChartCounts) (vs′ : List VertexEntry) (es′ : List EdgeEntry) (bs′ : List BundleEntry) : Type 0 where
-  pub answer : r ≡ summaryOf d (count (d .edges) (λ e. reduced? (edgeAt d ends e)))
+  pub reduced : ℕ
+  pub answer : r ≡ summaryOf d reduced
   pub vertices : Filled vs (vertexAt d) (d .vertices) vs′
-  pub edges : Filled es (edgeAt d ends) (d .edges) es′
+  pub edges : state es′ reduced ≡ after asEntries (edgeAt d ends) es (d .edges)
   pub bundles : Filled bs (bundleAt d) (d .bundles) bs′
