@@ -1,8 +1,7 @@
 -- Every list of calls on a lent list, starts among them: from the first accepted start on, every answer and the session that the list
 -- spells are the machine's. Assumes nothing.
-use Rattle.counting.proofs.Prelude.{_≡_, refl, sym, ap, subst, _∙_, Bool, true, false, List, ℕ, _≤_, arith, eqb, length, ap₂, [], _∷_, map}
+use Rattle.counting.proofs.Prelude.{_≡_, refl, sym, ap, subst, _∙_, Bool, false, List, ℕ, _≤_, arith, eqb, length, ap₂, [], _∷_, map}
 use Rattle.counting.proofs.Prelude.{zero, suc, _<_, getD}
-use Rattle.specification.specs.Count.{indicator}
 use Rattle.specification.specs.Machine.{Call, Answer, Graph, step, run, answers}
 use Rattle.specification.specs.Graph.{sizeRefusal}
 use Rattle.editing.specs.Promise.{replyAnswer, changeAnswer}
@@ -16,11 +15,8 @@ use Rattle.ceviloneth.specs.Calls.Calls.{done, next}
 use native.Mathlib.Nat.{suc-ne-zero}
 use Rattle.specification.specs.Lent.{Untouched}
 use Rattle.editing.proofs.Machines.{leads-kept}
+use Rattle.lists.proofs.Marking.{mark-back}
 use Rattle.ceviloneth.proofs.Changing.{short, whole}
-
-pub mark-back : (b : Bool) → eqb (indicator b) 1 ≡ b
-mark-back true = refl
-mark-back false = refl
 
 answered : (r : Leading) (k : ℕ) (b : Bool) → r ≡ toldBy k b → replyAnswer (r .refusal) (eqb (r .leads) 1) ≡ replyAnswer k b
 answered r k b e = ap (λ (x : Leading). replyAnswer (x .refusal) (eqb (x .leads) 1)) e ∙ ap (replyAnswer k) (mark-back b)

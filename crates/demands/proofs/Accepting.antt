@@ -76,9 +76,13 @@ module _ (v e b : ℕ) (d : Drawn) where
       λ q. h .refusal ∙ ap (λ (x : Drawn). x .refusal) (lent-whole v e b d (roomy-enough (q .1))) ∙ q .0,
     )
 
+    -- .. and is what the lists get
+    pub drawn-whole : r .refusal ≡ 0 → lent v e b d .graph ≡ d .graph
+    drawn-whole z = ap (λ (x : Drawn). x .graph) (lent-whole v e b d (whole z))
+
     module _ (z : r .refusal ≡ 0) (c : Content) (i : d .graph ≡ c) (s : Sound c) where
       whole-graph : lent v e b d .graph ≡ c
-      whole-graph = ap (λ (x : Drawn). x .graph) (lent-whole v e b d (whole z)) ∙ i
+      whole-graph = drawn-whole z ∙ i
 
       pub call-summary : Summary c (planOf c) r
       call-summary = subst (λ (x : Content). Summary x (planOf x) r) whole-graph (h .summary)

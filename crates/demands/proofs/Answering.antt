@@ -8,7 +8,7 @@ use Rattle.specification.specs.Limits.{mostVertices, mostEdges, mostBundles, mo
 use Rattle.specification.specs.Checks.{Content, size?, stranger?, double?, ring?, repeated?, unled?, looseChecks, laterChecks}
 use Rattle.specification.specs.Checks.{firstOf, refusalOf, Sized, Distinct, Acyclic, Once, Led, Sound}
 use Rattle.specification.specs.Chart.{channelsOf, planOf, tracksIn}
-use Rattle.specification.specs.Drawn.{broad?, chartRefusal, Drawn, judged, short?, Summary}
+use Rattle.specification.specs.Drawn.{broad?, chartRefusal, Drawn, judged, short?, lent, Summary}
 use Rattle.specification.specs.declared.ChartCounts.{ChartCounts}
 use Rattle.record.proofs.Soundness.{size-says, stranger-says, double-says, ring-says, cover-says, led-says, sound-accepted}
 use Rattle.chart_laws.proofs.Broad.{too-many, broad-so, chart-refused, chart-broad, chart-whole}
@@ -20,7 +20,8 @@ use Rattle.demands.specs.Demands.{Entries, Faithful, Roomy, seen, Smalle
 use Rattle.demands.specs.Refusals.{Known, Fails, Broad, Answered, Told, Narrow}
 use Rattle.demands.specs.Refusals.Fails.{size, stranger, double, ring, cover, broken}
 use Rattle.demands.specs.Refusals.Answered.{accepted, failed, broad, short}
-use Rattle.demands.proofs.Accepting.{Handed, roomy, roomy-enough, call-accepted, call-summary, call-faithful, call-smallest}
+use Rattle.demands.proofs.Accepting.{Handed, roomy, roomy-enough, call-accepted, drawn-whole, call-summary}
+use Rattle.demands.proofs.Accepting.{call-faithful, call-smallest}
 
 -- ---- a test that says P where it is false
 
@@ -204,6 +205,10 @@ module _ (c : Content) where
 
       whole : drawn .graph ≡ c
       whole = drawn-graph (whole-number (shown .0) (shown .1))
+
+      -- all of the graph is drawn
+      pub graph-drawn : lent v e k drawn .graph ≡ c
+      graph-drawn = drawn-whole v e k drawn r n h z ∙ whole
 
       pub graph-clear : Faithful c n
       graph-clear = call-faithful v e k drawn r n h z c whole (shown .0)

@@ -14,6 +14,8 @@ use Rattle.specification.specs.declared.EdgeEntry.{EdgeEntry}
 use Rattle.specification.specs.declared.BundleEntry.{BundleEntry}
 use Rattle.specification.specs.Drawn.{broad?, chartRefusal, judged, recordDrawn, graphContent, graphDrawn, lent}
 use Rattle.chart_plan.proofs.Refusals.{record-sound, graph-sound}
+use Rattle.specification.specs.Pass.{asNumbers, asEntries}
+use Rattle.lists.specs.Marking.{Marking}
 use Rattle.chart_entries.specs.Promise.{HandedOver}
 use Rattle.chart_entries.proofs.Refusals.{refused-untouched, Refused}
 use Rattle.chart_numbers.specs.Chart.{Left, HandedFlat}
@@ -31,8 +33,9 @@ use Rattle.demands.proofs.Showing.{shown-faithful}
 use Rattle.demands.proofs.Accepting.{Handed}
 use Rattle.demands.proofs.Answering as answering
 use Rattle.demands.proofs.Answering.{sound-parts, broad-decided, roomy-most}
-use Rattle.demands.proofs.Records.{said-fields, said-answered, said-told, said-narrow, said-clear, said-least}
+use Rattle.demands.proofs.Records.{said-fields, said-answered, said-told, said-narrow, said-drawn, said-clear, said-least}
 use Rattle.demands.proofs.Handing.{handed-lists, handed-numbers}
+use Rattle.demands.proofs.Marking as marked
 use Rattle.demands.proofs.Unlined.{empty-as-none}
 use Rattle.specification.specs.declared.ChartCounts.{ChartCounts}
 
@@ -109,6 +112,10 @@ module _ (vs vs′ : List VertexEntry) (es es′ : List EdgeEntry) (bs bs′ : L
     pub record-smallest : r .refusal ≡ 0 → Smallest (said b) (seen (said b) r entries) × Carried (said b) (seen (said b) r entries) r
     record-smallest = said-least b _ _ _ r entries of-record
 
+    -- the list of edges and the count as states of one pass, edge by edge (5.2)
+    pub record-marking : r .refusal ≡ 0 → Marking asEntries (said b) (planOf (said b)) es es′ (r .firm)
+    record-marking z = marked.entries-marking (recordDrawn b) vs vs′ es es′ bs bs′ r (said b) h z (said-drawn b _ _ _ r entries of-record z)
+
   -- of a graph: n vertices, the bytes of the edges' ends, and the bytes of the given channels, if any are given
   module _ (n : ℕ) (ends : List ℕ) (given : Bool) (field : List ℕ)
       (h : HandedOver (graphDrawn n ends given field) vs es bs r vs′ es′ bs′) where
@@ -136,6 +143,10 @@ module _ (vs vs′ : List VertexEntry) (es es′ : List EdgeEntry) (bs bs′ : L
 
     pub graph-smallest : r .refusal ≡ 0 → Smallest c (seen c r entries) × Carried c (seen c r entries) r
     graph-smallest = answering.graph-least c _ _ _ r entries of-graph
+
+    pub graph-marking : r .refusal ≡ 0 → Marking asEntries c (planOf c) es es′ (r .firm)
+    unfolding graphDrawn
+    graph-marking z = marked.entries-marking _ vs vs′ es es′ bs bs′ r c h z (answering.graph-drawn c _ _ _ r entries of-graph z)
 
 -- ---- the calls on numbers: the lists ws, es and bs of numbers are lent, and ws′, es′ and bs′ are these afterwards
 
@@ -184,6 +195,10 @@ module _ (ws ws′ es es′ bs bs′ : List ℕ) (r : ChartCounts) where
     pub exported-smallest : r .refusal ≡ 0 → Smallest (said b) (seen (said b) r read) × Carried (said b) (seen (said b) r read) r
     exported-smallest = said-least b _ _ _ r read exported
 
+    -- the numbers of the arrows and the count of firm ones as states of one pass, arrow by arrow (5.2)
+    pub exported-marking : r .refusal ≡ 0 → Marking asNumbers (said b) (planOf (said b)) es es′ (r .firm)
+    exported-marking z = marked.numbers-marking (recordDrawn b) ws ws′ es es′ bs bs′ r (said b) h z (said-drawn b _ _ _ r read exported z)
+
   -- the same of a graph, `chart_numbers::of_graph`
   module _ (n : ℕ) (ends : List ℕ) (given : Bool) (field : List ℕ)
       (h : Left (lent (length ws / 5) (length es / 5) (length bs / 4) (graphDrawn n ends given field)) ws es bs r ws′ es′ bs′) where
@@ -212,6 +227,10 @@ module _ (ws ws′ es es′ bs bs′ : List ℕ) (r : ChartCounts) where
 
     pub numbers-smallest : r .refusal ≡ 0 → Smallest drawn (seen drawn r read) × Carried drawn (seen drawn r read) r
     numbers-smallest = answering.graph-least drawn _ _ _ r read numbers
+
+    pub numbers-marking : r .refusal ≡ 0 → Marking asNumbers drawn (planOf drawn) es es′ (r .firm)
+    unfolding graphDrawn
+    numbers-marking z = marked.numbers-marking _ ws ws′ es es′ bs bs′ r drawn h z (answering.graph-drawn drawn _ _ _ r read numbers z)
 
 -- ---- the exported calls of a session in a lent list, `ceviloneth_session_start`, `_add` and `_leads`: calls cs in any order, each by a
 -- result that meets its promise, answer out, and is is the list was afterwards

@@ -5,5 +5,6 @@ pub mod Accepting
 pub mod Answering
 pub mod Records
 pub mod Handing
+pub mod Marking
 pub mod Unlined
 pub mod Demands

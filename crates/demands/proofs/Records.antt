@@ -5,7 +5,7 @@ use Rattle.specification.specs.declared.Fields.{Fields}
 use Rattle.specification.specs.declared.Layout.{Layout}
 use Rattle.specification.specs.declared.Layout.the-variants.{Good, Bad}
 use Rattle.specification.specs.Checks.{Content, SoundRecord, contentOf, contentIn, refusalIn, said}
-use Rattle.specification.specs.Drawn.{Drawn, chartRefusal, judged, recordDrawn}
+use Rattle.specification.specs.Drawn.{Drawn, chartRefusal, judged, recordDrawn, lent}
 use Rattle.specification.specs.declared.ChartCounts.{ChartCounts}
 use Rattle.record.proofs.Soundness.{record-sound}
 use Rattle.chart_plan.proofs.Judging.{record-bad}
@@ -16,7 +16,7 @@ use Rattle.demands.specs.Refusals.Answered.{accepted, broad, short}
 use Rattle.demands.specs.Refusals.AnsweredRecord.{layout, graph}
 use Rattle.demands.proofs.Accepting.{Handed}
 use Rattle.demands.proofs.Answering.{accepted-is, broad-is, short-is, refused-narrow, graph-answered, graph-clear, graph-least}
-use Rattle.demands.proofs.Answering.{graph-narrow}
+use Rattle.demands.proofs.Answering.{graph-narrow, graph-drawn}
 
 module _ (b : List ℕ) where
   -- a sound record says what its fields say
@@ -109,6 +109,11 @@ module _ (b : List ℕ) where
     module _ (z : r .refusal ≡ 0) where
       s : SoundRecord b
       s = said-told .accepted-exactly .0 z .0
+
+      pub said-drawn : lent v e k (recordDrawn b) .graph ≡ said b
+      said-drawn =
+          ap (λ (d : Drawn). lent v e k d .graph) (good-drawn (s .0) (s .1))
+          ∙ graph-drawn (contentOf b (s .0)) v e k r n (good-handed (s .0) (s .1)) z ∙ sym (said-fields s)
 
       pub said-clear : Faithful (said b) n
       said-clear =
