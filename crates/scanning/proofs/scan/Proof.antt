@@ -27,7 +27,7 @@ returns c =
     let l = head .loop in
     let a = start-of head .args in
     let bad : a .n ≤ getD (a .ends .now) (2 * l .i) 0 = subst (λ (x : ℕ). a .n ≤ x) (u .wide .ensures .0) (c .if1 .taken) in
-    scanned-strange (a .n) (a .ends .now) (l .i) (l .edges) (l .double) (l .inv .2) (test .loop-test .taken) (inl bad)
+    scanned-strange (a .n) (a .ends .now) (l .i) (l .edges) (l .double) (l .inv .2) (omega (arith, test .loop-test .taken)) (inl bad)
 
 returns-2 : tie.Need-returns-2 Inv-loop μ-loop
 returns-2 c =
@@ -35,7 +35,7 @@ returns-2 c =
     let l = head .loop in
     let a = start-of head .args in
     let bad : a .n ≤ getD (a .ends .now) (2 * l .i + 1) 0 = subst (λ (x : ℕ). a .n ≤ x) (v .wide2 .ensures .0) (c .if2 .taken) in
-    scanned-strange (a .n) (a .ends .now) (l .i) (l .edges) (l .double) (l .inv .2) (t .loop-test .taken) (inr bad)
+    scanned-strange (a .n) (a .ends .now) (l .i) (l .edges) (l .double) (l .inv .2) (omega (arith, t .loop-test .taken)) (inr bad)
 
 loop-again : tie.Need-loop-again Inv-loop μ-loop
 loop-again c =
