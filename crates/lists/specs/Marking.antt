@@ -1,5 +1,5 @@
--- What is proved of the pass over a graph's edges that marks the transitive ones and counts the reduced ones (SPECIFICATION.md, 5.2).
--- Assumes nothing.
+-- What is proved of the pass over a graph's edges that marks the transitive ones (implied) and counts the reduced ones (firm)
+-- (SPECIFICATION.md, 5.2). Assumes nothing.
 use mathlib.Core.Path.{_≡_}
 use mathlib.Core.Bool.{not}
 use mathlib.Core.List.{List}

@@ -1,4 +1,5 @@
--- The pass that marks the transitive edges and counts the reduced ones, state by state (SPECIFICATION.md, 5.2). Assumes nothing.
+-- The pass that marks the transitive edges (implied arrows) and counts the reduced ones (firm arrows), state by state (SPECIFICATION.md,
+-- 5.2). Assumes nothing.
 use mathlib.Core.Bool.{Bool, not}
 use mathlib.Core.List.{List}
 use Prim.Native.Nat.{ℕ, zero, suc, _+_, _*_}
