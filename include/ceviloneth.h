@@ -36,8 +36,9 @@ extern "C" {
 
 /* The version of what this header says. It rises by one with every change that an app could notice: of a call, a struct, a list's numbers,
  * a limit or an answer. Since 2 house lines may hold some of the words, and an empty field of them is no longer refused with 6. Since 3 a
- * chart of more than 31 lines is refused with 11. */
-#define CEVILONETH_VERSION 3
+ * chart of more than 31 lines is refused with 11. Since 4 'leads' tells how one word leads to another: 0 as before, but 1, 2 or 3 where it
+ * was 1. */
+#define CEVILONETH_VERSION 4
 
 /* The version that the archive or the shared library was made by: an app goes on only where it is CEVILONETH_VERSION. */
 uint32_t ceviloneth_version(void);
@@ -83,12 +84,21 @@ ceviloneth_counts ceviloneth_chart(const uint8_t *record, size_t record_len,
 
 /* ---- what leads where */
 
+/* How one word leads to another: not at all; by an arrow only; by longer routes only, of two arrows or more; or by both. A word does not
+ * lead to itself. WARNING: up to version 3 the answer was 1 for every yes. Code that compares it with 1 now asks for 'by an arrow only';
+ * to ask whether the one leads to the other at all, compare it with 0 (CEVILONETH_NOT_AT_ALL). */
+#define CEVILONETH_NOT_AT_ALL 0
+#define CEVILONETH_ARROW 1
+#define CEVILONETH_LONGER 2
+#define CEVILONETH_BOTH 3
+
 typedef struct {
     uint8_t refusal;
-    uint8_t leads; /* 1 if one or more arrows in a row go from the first word to the second, else 0 */
+    uint8_t leads; /* one of the four; 0 where the call is refused */
 } ceviloneth_answer;
 
-/* Whether one word of a record leads to another. Refusals 1 to 7 of the record, never 11, then 3 where either is no word of it. */
+/* How one word of a record leads to another. Refusals 1 to 7 of the record, never 11, then 3 where either is no word of it. An arrow of the
+ * chart is implied exactly where its ends answer 3; words next to each other in a line never answer 0. */
 ceviloneth_answer ceviloneth_leads(const uint8_t *record, size_t record_len, size_t from, size_t to);
 
 /* ---- sessions: a graph that grows arrow by arrow, in a list that the caller keeps */
@@ -106,7 +116,7 @@ uint8_t ceviloneth_session_start(uint64_t *state, size_t state_len, size_t words
 /* Adds an arrow. Refusals 3, 4, 5 and 9, in this order. */
 uint8_t ceviloneth_session_add(uint64_t *state, size_t state_len, size_t from, size_t to);
 
-/* Whether the arrows added lead from one word to the other. Refusal 3. */
+/* How one word leads to the other by the arrows added, as above. Refusal 3. */
 ceviloneth_answer ceviloneth_session_leads(const uint64_t *state, size_t state_len, size_t from, size_t to);
 
 /* ---- page strokes: places by column and row, as points across (x) and up (y), in exact quarters (12.1) */

@@ -1,13 +1,14 @@
 -- From `editing`'s promises to those of the calls on lists that spell sessions. Assumes nothing.
-use Rattle.counting.proofs.Prelude.{_≡_, refl, sym, ap, subst, _∙_, false, List, ℕ, _<_, _≤_, arith, length, take, drop, getD, lt-ltb}
+use Rattle.counting.proofs.Prelude.{_≡_, refl, sym, ap, subst, _∙_, List, ℕ, _<_, _≤_, arith, length, take, drop, getD, lt-ltb}
 use Rattle.counting.proofs.Prelude.{le-ltb}
 use Rattle.editing.specs.Promise.{StartPromise, AddPromise, LeadsPromise}
 use Rattle.editing.specs.declared.Session.{Session}
 use Rattle.editing.specs.declared.Changed.{Changed}
-use Rattle.editing.specs.declared.Reply.{Reply}
+use Rattle.specification.specs.declared.Connection.the-variants.{Unreached}
+use Rattle.specification.specs.declared.Reply.{Reply}
 use Rattle.specification.specs.declared.Leading.{Leading}
 use Rattle.ceviloneth.specs.State.{sessionOf, stateRefusal, Kept, Starts, Adds, Tells}
-use Rattle.specification.specs.Asked.{toldBy}
+use Rattle.specification.specs.Asked.{replyBy, leadingOf}
 use Rattle.ceviloneth.specs.Steps.{Stored}
 
 pub spelt : (s e r : List ℕ) → e ≡ take 256 (drop 2 s) → r ≡ take 256 (drop 258 s)
@@ -77,10 +78,10 @@ module _ (was : List ℕ) where
       }
 
     -- ---- a question
-    pub tells-short : length was < 514 → (r : Leading) → r ≡ toldBy 8 false → Tells was u v r
+    pub tells-short : length was < 514 → (r : Leading) → r ≡ leadingOf (replyBy 8 Unreached) → Tells was u v r
     tells-short h r e = record { short = λ _. e; told = λ l. absurd (omega arith) }
 
     pub tells : 514 ≤ length was → (s : Session) → s ≡ sessionOf was → (a : Reply) → LeadsPromise s u v a → (r : Leading)
-        → r ≡ toldBy (a .refusal) (a .reaches) → Tells was u v r
+        → r ≡ leadingOf a → Tells was u v r
     tells h s e a p r is =
         record { short = λ l. absurd (omega arith); told = λ _. (a, subst (λ (y : Session). LeadsPromise y u v a) e p, is) }

@@ -1,4 +1,3 @@
-pub mod Asking
 pub mod Changing
 pub mod Refusing
 pub mod Sequences

@@ -1,25 +1,39 @@
 -- Every list of calls on a lent list, starts among them: from the first accepted start on, every answer and the session that the list
 -- spells are the machine's. Assumes nothing.
-use Rattle.counting.proofs.Prelude.{_≡_, refl, sym, ap, subst, _∙_, Bool, false, List, ℕ, _≤_, arith, eqb, length, ap₂, [], _∷_, map}
+use Rattle.counting.proofs.Prelude.{_≡_, refl, sym, ap, subst, _∙_, List, ℕ, _≤_, arith, length, ap₂, [], _∷_, map}
 use Rattle.counting.proofs.Prelude.{zero, suc, _<_, getD}
 use Rattle.specification.specs.Machine.{Call, Answer, Graph, step, run, answers}
 use Rattle.specification.specs.Graph.{sizeRefusal}
 use Rattle.editing.specs.Promise.{replyAnswer, changeAnswer}
+use Rattle.specification.specs.Connection.{connectionNumber}
+use Rattle.specification.specs.declared.Connection.{Connection}
+use Rattle.specification.specs.declared.Connection.the-variants.{Unreached, EdgeOnly, LongerOnly, Both}
+use Rattle.specification.specs.declared.Reply.{Reply}
 use Rattle.specification.specs.declared.Leading.{Leading}
-use Rattle.ceviloneth.specs.State.{Starts}
-use Rattle.specification.specs.Asked.{toldBy}
-use Rattle.ceviloneth.specs.Calls.{Called, Calls, LentCall, LentAnswer, startAnswer, Life, begun, lifeStep, lifeRun, Right, AllRight}
-use Rattle.ceviloneth.specs.Calls.{Spells, Lived, Short}
+use Rattle.ceviloneth.specs.State.{sessionOf, Starts, Tells}
+use Rattle.editing.specs.Meaning.{Asks}
+use Rattle.editing.proofs.Meaning.{leads-asks}
+use Rattle.specification.specs.Asked.{replyBy, leadingOf}
+use Rattle.ceviloneth.specs.Calls.{Called, Calls, LentCall, LentAnswer, startAnswer, numbered, Life, begun, lifeStep, lifeRun, Right}
+use Rattle.ceviloneth.specs.Calls.{AllRight, Spells, Lived, Short}
 use Rattle.ceviloneth.specs.Calls.Called.{adds, asks, starts}
 use Rattle.ceviloneth.specs.Calls.Calls.{done, next}
 use native.Mathlib.Nat.{suc-ne-zero}
 use Rattle.specification.specs.Lent.{Untouched}
 use Rattle.editing.proofs.Machines.{leads-kept}
-use Rattle.lists.proofs.Marking.{mark-back}
 use Rattle.ceviloneth.proofs.Changing.{short, whole}
 
-answered : (r : Leading) (k : ℕ) (b : Bool) → r ≡ toldBy k b → replyAnswer (r .refusal) (eqb (r .leads) 1) ≡ replyAnswer k b
-answered r k b e = ap (λ (x : Leading). replyAnswer (x .refusal) (eqb (x .leads) 1)) e ∙ ap (replyAnswer k) (mark-back b)
+number-back : (a : Connection) → numbered (connectionNumber a) ≡ a
+unfolding numbered
+number-back Unreached = refl
+number-back EdgeOnly = refl
+number-back LongerOnly = refl
+number-back Both = refl
+
+answered : (r : Leading) (a : Reply) → r ≡ leadingOf a
+    → replyAnswer (r .refusal) (numbered (r .leads)) ≡ replyAnswer (a .refusal) (a .connection)
+answered r a e =
+    ap (λ (x : Leading). replyAnswer (x .refusal) (numbered (x .leads))) e ∙ ap (replyAnswer (a .refusal)) (number-back (a .connection))
 
 -- a start that is answered with k: 0, and the list spells a fresh session; else it is as it was, and so is the life
 begins : (l : Life) (s t : List ℕ) (n r k : ℕ) → Spells l s → Starts s n r t → r ≡ k → Spells (begun l n k) t
@@ -37,7 +51,7 @@ one-call Life.unstarted long h (adds r p) = (tt, tt)
 one-call Life.unstarted long h (asks r p) = (tt, tt)
 one-call (Life.running g) long h (adds r p) = let a = p .added long in (ap LentAnswer.says (a .answer g h), a .holds g h)
 one-call (Life.running g) long h (asks {u = u} {v = v} r p) =
-    let a = p .told long in (ap LentAnswer.says (answered r _ _ (a .2) ∙ a .1 .answer g h), rw (leads-kept g u v) h)
+    let a = p .told long in (ap LentAnswer.says (answered r _ (a .2) ∙ a .1 .answer g h), rw (leads-kept g u v) h)
 
 -- whatever a call does, the list keeps its length, and all that is past a session
 frame : {s t : List ℕ} {c : LentCall} {a : LentAnswer} →
@@ -67,6 +81,17 @@ pub every-life : {was is : List ℕ} {cs : List LentCall} {out : List LentAnswer
 unfolding Spells
 every-life long h = lives Life.unstarted long tt h
 
+-- HOW ONE WORD LEADS TO ANOTHER: whatever the calls were, where a machine is running the answer is what its arrows say, one of four
+pub every-answer : {was is : List ℕ} {cs : List LentCall} {out : List LentAnswer} →
+    514 ≤ length was → Calls was cs out is → (g : Graph) → lifeRun Life.unstarted cs ≡ Life.running g →
+    (u v : ℕ) (r : Leading) → Tells is u v r → Asks g u v (r .refusal) (r .leads)
+unfolding Spells
+every-answer {is = is} long h g e u v r t =
+    let life = every-life long h in
+    let stands : Spells (Life.running g) is = subst (λ (l : Life). Spells l is) e (life .spells) in
+    let a = t .told (omega (arith, long, life .as-long)) in
+    subst (λ (x : Leading). Asks g u v (x .refusal) (x .leads)) (sym (a .2)) (leads-asks g (sessionOf is) stands u v (a .0) (a .1))
+
 -- BETWEEN TWO STARTS the life is the machine's run, and what is right to answer are its answers
 pub between : (g : Graph) (cs : List Call) → lifeRun (Life.running g) (map LentCall.call cs) ≡ Life.running (run g cs)
 unfolding lifeRun lifeStep run
@@ -93,7 +118,7 @@ short-call {s = s} h (starts r p) =
 short-call {s = s} h (adds r p) =
     let e : r ≡ 8 = p .refusal ∙ sym (short s _ h) in
     (p .kept .untouched (λ z. absurd (omega (arith, e, z))), ap (λ (k : ℕ). LentAnswer.says (changeAnswer k)) e)
-short-call h (asks r p) = (refl, ap LentAnswer.says (answered r 8 false (p .short h)))
+short-call h (asks r p) = (refl, ap LentAnswer.says (answered r (replyBy 8 Unreached) (p .short h)))
 
 -- EVERY LIST OF CALLS on a shorter list: each is refused with 8, and nothing changes
 pub every-short : {was is : List ℕ} {cs : List LentCall} {out : List LentAnswer} →

@@ -2,11 +2,12 @@
 use mathlib.Core.Path.{_≡_}
 use mathlib.Core.List.{List, [], _∷_}
 use Prim.Native.Nat.{ℕ, zero, suc, _≤_}
-use lib.Dec.{eqb}
 use lib.ListN.{length, getD, replicate}
 use Rattle.specification.specs.Graph.{sizeRefusal}
 use Rattle.specification.specs.Machine.{Graph, Call, Answer, step, fresh}
 use Rattle.specification.specs.Lent.{Untouched}
+use Rattle.specification.specs.declared.Connection.{Connection}
+use Rattle.specification.specs.declared.Connection.the-variants.{Unreached, EdgeOnly, LongerOnly, Both}
 use Rattle.specification.specs.declared.Leading.{Leading}
 use Rattle.editing.specs.Promise.{Represents, changeAnswer, replyAnswer}
 use Rattle.ceviloneth.specs.State.{stateNumbers, sessionOf, Starts, Adds, Tells}
@@ -27,6 +28,13 @@ unfoldable pub startAnswer : ℕ → LentAnswer
 startAnswer zero = LentAnswer.started
 startAnswer (suc k) = LentAnswer.says (Answer.refused (suc k))
 
+-- the answer that a number stands for
+unfoldable pub numbered : ℕ → Connection
+numbered zero = Unreached
+numbered (suc zero) = EdgeOnly
+numbered (suc (suc zero)) = LongerOnly
+numbered (suc (suc (suc k))) = Both
+
 -- ---- what the calls do, each by a result that meets its promise
 
 -- a call: what it answers, and the list after it
@@ -35,7 +43,7 @@ pub data Called : List ℕ → LentCall → LentAnswer → List ℕ → Type 0 w
   adds : {was is : List ℕ} {u v : ℕ} (r : ℕ) → Adds was u v r is →
       Called was (LentCall.call (Call.add u v)) (LentAnswer.says (changeAnswer r)) is
   asks : {was : List ℕ} {u v : ℕ} (r : Leading) → Tells was u v r →
-      Called was (LentCall.call (Call.leads u v)) (LentAnswer.says (replyAnswer (r .refusal) (eqb (r .leads) 1))) was
+      Called was (LentCall.call (Call.leads u v)) (LentAnswer.says (replyAnswer (r .refusal) (numbered (r .leads)))) was
 
 -- calls one after the other, with what they answer, and the last list
 pub data Calls : List ℕ → List LentCall → List LentAnswer → List ℕ → Type 0 where

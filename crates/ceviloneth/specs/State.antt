@@ -1,9 +1,8 @@
 -- A session as numbers in a list that the caller keeps, and what the calls on it promise, for any numbers whatever. Assumes nothing.
 use mathlib.Core.Path.{_≡_}
 use mathlib.Core.Logic.{_≢_}
-use mathlib.Core.Bool.{false}
 use mathlib.Core.List.{List}
-use Prim.Native.Nat.{ℕ, _+_, _-_, _*_, _<_, _≤_}
+use Prim.Native.Nat.{ℕ, _+_, _*_, _<_, _≤_}
 use lib.Dec.{ltb}
 use lib.ListN.{length, getD, take, drop}
 use Rattle.specification.specs.Limits.{tableMasks}
@@ -12,9 +11,10 @@ use Rattle.specification.specs.Graph.{sizeRefusal}
 use Rattle.specification.specs.Lent.{Untouched}
 use Rattle.editing.specs.Promise.{refusalOf, StartPromise, AddPromise, LeadsPromise}
 use Rattle.editing.specs.declared.Session.{Session}
-use Rattle.editing.specs.declared.Reply.{Reply}
+use Rattle.specification.specs.declared.Connection.the-variants.{Unreached}
+use Rattle.specification.specs.declared.Reply.{Reply}
 use Rattle.specification.specs.declared.Leading.{Leading}
-use Rattle.specification.specs.Asked.{toldBy}
+use Rattle.specification.specs.Asked.{replyBy, leadingOf}
 
 -- the numbers of a session: words, arrows, the masks of arrows and those of descent
 abbrev pub stateNumbers : ℕ
@@ -51,7 +51,7 @@ pub record Adds (was : List ℕ) (u v r : ℕ) (is : List ℕ) : Type 0 where
   pub kept : Kept was r is
   pub added : stateNumbers ≤ length was → AddPromise (sessionOf was) u v (record { refusal = r; session = sessionOf is })
 
--- r answers a question whether u leads to v, as `editing` promises of the session that the list spells
+-- r answers a question how u leads to v, as `editing` promises of the session that the list spells
 pub record Tells (was : List ℕ) (u v : ℕ) (r : Leading) : Type 0 where
-  pub short : length was < stateNumbers → r ≡ toldBy 8 false
-  pub told : stateNumbers ≤ length was → (a : Reply) × LeadsPromise (sessionOf was) u v a × (r ≡ toldBy (a .refusal) (a .reaches))
+  pub short : length was < stateNumbers → r ≡ leadingOf (replyBy 8 Unreached)
+  pub told : stateNumbers ≤ length was → (a : Reply) × LeadsPromise (sessionOf was) u v a × (r ≡ leadingOf a)

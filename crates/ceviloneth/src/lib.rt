@@ -3,7 +3,7 @@
 ghost use mathlib.Core.Path.{_≡_};
 ghost use mathlib.Core.List.{[], _∷_};
 ghost use Rattle.chart_numbers.specs.Chart.{HandedFlat};
-ghost use Rattle.specification.specs.Asked.{asked};
+ghost use Rattle.specification.specs.Asked.{leadingOf, asked};
 ghost use Rattle.ceviloneth.specs.State.{Starts, Adds, Tells};
 ghost use Rattle.ceviloneth.specs.Strokes.{Drawn};
 ghost use Rattle.ceviloneth.specs.Version.{version};
@@ -22,7 +22,7 @@ use state::session_of;
 use state::told;
 use strokes::stroke_of;
 
-const VERSION: u32 = 3;
+const VERSION: u32 = 4;
 
 // The version of the interface, so that an app can refuse a library that was made by another header.
 #[no_mangle]
@@ -48,25 +48,13 @@ pub extern "C" fn ceviloneth_chart(
     chart_numbers::of_record(bytes, words, arrows, bundles)
 }
 
-// Whether one word of a record leads to another. Refused with 1 to 7 as the record is, and with 3 where one of the two is no word of it; a
-// record whose chart is broad is answered for.
+// How one word of a record leads to another: 0 not at all, 1 by an arrow only, 2 by longer routes (two arrows or more) only, 3 by both.
+// Refused with 1 to 7 as the record is, and with 3 where one of the two is no word of it; a record whose chart is broad is answered for.
 #[no_mangle]
 pub extern "C" fn ceviloneth_leads(bytes: &[u8], from: usize, to: usize) -> Leading
-    ensures { λ r. ⌜ r ≡ asked (now (bytes .entry)) from to ⌝ }
+    ensures { λ r. ⌜ r ≡ leadingOf (asked (now (bytes .entry)) from to) ⌝ }
 {
-    let reading = record::reading::read(bytes);
-    if reading.refusal != 0 {
-        return told(reading.refusal, false);
-    }
-    let n = reading.vertices;
-    if n <= from {
-        return told(3, false);
-    }
-    if n <= to {
-        return told(3, false);
-    }
-    let table = reading.table;
-    told(0, masks::contains(&table, 2 * from, to))
+    told(record::reading::ask(bytes, from, to))
 }
 
 // ---- sessions, in a list that the app keeps: 514 numbers, of which the first two count words and arrows, 256 are masks of arrows and 256
@@ -107,17 +95,19 @@ pub extern "C" fn ceviloneth_session_add(state: &mut [u64], from: usize, to: usi
     0
 }
 
-// Whether the first word leads to the second. Refused with 3.
+// How the first word leads to the second, by the same four numbers. Refused with 3.
 #[no_mangle]
 pub extern "C" fn ceviloneth_session_leads(state: &[u64], from: usize, to: usize) -> Leading
     ensures { λ r. ⌜ Tells (now (state .entry)) from to r ⌝ }
 {
     if state.len() < STATE_NUMBERS {
-        return told(8, false);
+        return Leading {
+            refusal: 8,
+            leads: 0,
+        };
     }
     let s = session_of(state);
-    let reply = s.leads(from, to);
-    told(reply.refusal, reply.reaches)
+    told(s.leads(from, to))
 }
 
 // ---- page strokes

@@ -3,10 +3,11 @@ ghost use mathlib.Core.Path.{_≡_};
 ghost use Prim.Native.Nat.{_+_, _<_, _≤_};
 ghost use lib.ListN.{length, take, drop};
 ghost use Rattle.ceviloneth.specs.State.{sessionOf};
-ghost use Rattle.specification.specs.Asked.{toldBy};
+ghost use Rattle.specification.specs.Asked.{leadingOf};
 ghost use Rattle.ceviloneth.specs.Steps.{sessionBy, stateNumber, Stored};
 use editing::Session;
 use specification::Leading;
+use specification::Reply;
 
 // How many numbers a session has: words, arrows, 256 masks of arrows, 256 of descent.
 pub(crate) const STATE_NUMBERS: usize = 514;
@@ -75,11 +76,13 @@ pub(crate) fn fill_state(out: &mut [u64], s: Session)
     }
 }
 
-pub(crate) fn told(refusal: u8, leads: bool) -> Leading
-    ensures { λ r. ⌜ r ≡ toldBy refusal leads ⌝ }
+// An answer as two numbers.
+pub(crate) fn told(reply: Reply) -> Leading
+    ensures { λ r. ⌜ r ≡ leadingOf reply ⌝ }
 {
-    if leads {
-        return Leading { refusal, leads: 1 };
+    let connection = reply.connection;
+    Leading {
+        refusal: reply.refusal,
+        leads: reach::number_of(connection),
     }
-    Leading { refusal, leads: 0 }
 }

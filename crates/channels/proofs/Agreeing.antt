@@ -4,6 +4,8 @@ use mathlib.Core.List.{List, [], _∷_, _++_, flatten}
 use Rattle.specification.specs.Count.{choose}
 use Rattle.specification.specs.Channels.{linked, every, allLinked, linesOf, verticesOf, unknown?, repeats?, broken?}
 use Rattle.specification.specs.Graph.{unsized?}
+use Rattle.specification.specs.Connection.{leading?}
+use Rattle.specification.specs.declared.Connection.{Connection}
 use Rattle.counting.proofs.Truth.{or-neither}
 use Rattle.channels.specs.Promise.{givenRefusal}
 
@@ -32,17 +34,22 @@ module _ (n : ℕ) (leads other : ℕ → ℕ → Bool) (same : (u v : ℕ) → 
       let p = unknown-append n l (flatten ls) e in
       ap₂ (λ (a b : Bool). a && b) (linked-same l (p .0)) (all-linked-same ls (p .1))
 
-  -- given channels are refused alike
-  pub given-same : (field : List ℕ) → givenRefusal leads n field ≡ givenRefusal other n field
-  unfolding givenRefusal broken?
-  given-same field =
-      ap (λ (k : ℕ). choose (unsized? n) (λ _. 2) (λ _. k))
-      (go (unknown? n (verticesOf field)) (repeats? (verticesOf field)) (all-linked-same (linesOf field)))
-    where
-      rest : Bool → Bool → Bool → ℕ
-      rest b c linked = choose b (λ _. 3) (λ _. choose c (λ _. 6) (λ _. choose (not linked) (λ _. 7) (λ _. 0)))
+-- given channels are refused alike
+pub given-same : (n : ℕ) (ask other : ℕ → ℕ → Connection) → ((u v : ℕ) → u < n → v < n → ask u v ≡ other u v)
+    → (field : List ℕ) → givenRefusal ask n field ≡ givenRefusal other n field
+unfolding givenRefusal broken?
+given-same n ask other same field =
+    ap (λ (k : ℕ). choose (unsized? n) (λ _. 2) (λ _. k))
+    (go (unknown? n (verticesOf field)) (repeats? (verticesOf field))
+    (all-linked-same n (leads ask) (leads other) (λ u v hu hv. ap (λ (a : Connection). leading? a) (same u v hu hv)) (linesOf field)))
+  where
+    leads : (ℕ → ℕ → Connection) → ℕ → ℕ → Bool
+    leads a u v = leading? (a u v)
 
-      go : (b c : Bool) → (b ≡ false → allLinked leads (linesOf field) ≡ allLinked other (linesOf field))
-          → rest b c (allLinked leads (linesOf field)) ≡ rest b c (allLinked other (linesOf field))
-      go true c f = refl
-      go false c f = ap (rest false c) (f refl)
+    rest : Bool → Bool → Bool → ℕ
+    rest b c linked = choose b (λ _. 3) (λ _. choose c (λ _. 6) (λ _. choose (not linked) (λ _. 7) (λ _. 0)))
+
+    go : (b c : Bool) → (b ≡ false → allLinked (leads ask) (linesOf field) ≡ allLinked (leads other) (linesOf field))
+        → rest b c (allLinked (leads ask) (linesOf field)) ≡ rest b c (allLinked (leads other) (linesOf field))
+    go true c f = refl
+    go false c f = ap (rest false c) (f refl)

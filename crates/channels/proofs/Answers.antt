@@ -5,6 +5,7 @@ use Rattle.planning.proofs.Laying.{kept-same}
 use Rattle.specification.specs.Count.{choose}
 use Rattle.counting.proofs.Sizes.{size-taken}
 use Rattle.specification.specs.Planning.{planned}
+use Rattle.specification.specs.declared.Connection.{Connection}
 use Rattle.specification.specs.Channels.{linesOf, verticesOf, unknown?, repeats?, broken?}
 use Rattle.specification.specs.Sets.{has?}
 use Rattle.specification.specs.Graph.{sizeRefusal, unsized?}
@@ -55,13 +56,13 @@ plan-answers n table p r p′ l e h c =
 
 -- ---- given channels
 
-module _ (leads : ℕ → ℕ → Bool) (n : ℕ) (field : List ℕ) where
+module _ (ask : ℕ → ℕ → Connection) (n : ℕ) (field : List ℕ) where
   -- by size they are refused as planned ones are
-  pub given-sized : sizeRefusal n ≢ 0 → givenRefusal leads n field ≡ sizeRefusal n
+  pub given-sized : sizeRefusal n ≢ 0 → givenRefusal ask n field ≡ sizeRefusal n
   unfolding givenRefusal sizeRefusal
   given-sized = go (unsized? n) (choose (unknown? n (verticesOf field)) (λ _. 3) (λ _.
       choose (repeats? (verticesOf field)) (λ _. 6) (λ _.
-      choose (broken? leads (linesOf field)) (λ _. 7) (λ _. 0))))
+      choose (broken? ask (linesOf field)) (λ _. 7) (λ _. 0))))
     where
       go : (b : Bool) (k : ℕ) → _≢_ {A = ℕ} (choose b (λ _. 2) (λ _. 0)) 0
           → _≡_ {A = ℕ} (choose b (λ _. 2) (λ _. k)) (choose b (λ _. 2) (λ _. 0))
@@ -69,20 +70,20 @@ module _ (leads : ℕ → ℕ → Bool) (n : ℕ) (field : List ℕ) where
       go false k d = absurd (d refl)
 
   module _ (e : unsized? n ≡ false) where
-    pub given-unknown : unknown? n (verticesOf field) ≡ true → givenRefusal leads n field ≡ 3
+    pub given-unknown : unknown? n (verticesOf field) ≡ true → givenRefusal ask n field ≡ 3
     unfolding givenRefusal
     given-unknown u = rw (e, u)
 
     module _ (u : unknown? n (verticesOf field) ≡ false) where
-      pub given-repeats : repeats? (verticesOf field) ≡ true → givenRefusal leads n field ≡ 6
+      pub given-repeats : repeats? (verticesOf field) ≡ true → givenRefusal ask n field ≡ 6
       unfolding givenRefusal
       given-repeats p = rw (e, u, p)
 
       module _ (p : repeats? (verticesOf field) ≡ false) where
-        pub given-broken : broken? leads (linesOf field) ≡ true → givenRefusal leads n field ≡ 7
+        pub given-broken : broken? ask (linesOf field) ≡ true → givenRefusal ask n field ≡ 7
         unfolding givenRefusal
         given-broken b = rw (e, u, p, b)
 
-        pub given-taken : broken? leads (linesOf field) ≡ false → givenRefusal leads n field ≡ 0
+        pub given-taken : broken? ask (linesOf field) ≡ false → givenRefusal ask n field ≡ 0
         unfolding givenRefusal
         given-taken b = rw (e, u, p, b)

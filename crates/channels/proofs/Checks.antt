@@ -1,5 +1,5 @@
 -- The checks of given channels: what each says, and what each step of its loop keeps. Assumes nothing.
-use Rattle.counting.proofs.Prelude.{_≡_, refl, sym, ap, _∙_, subst, _≢_, Bool, true, false, true≢false, not, _&&_, _||_, List, [], _∷_, ℕ}
+use Rattle.counting.proofs.Prelude.{_≡_, refl, sym, ap, _∙_, subst, _≢_, Bool, true, false, not, _&&_, _||_, List, [], _∷_, ℕ}
 use Rattle.counting.proofs.Prelude.{suc, _+_, _-_, _≤_, _<_, arith, eqb, leb, length, getD, drop, replicate, eq-eqb, ne-eqb, lt-ltb, le-leb}
 use Rattle.counting.proofs.Prelude.{lt-leb, leb-false, not-false}
 use native.Mathlib.Decide.{ℕ-discrete}
@@ -11,7 +11,10 @@ use Rattle.specification.specs.Given.{heldIn}
 use Rattle.counting.proofs.Truth.{indicator-le, or-neither}
 use Rattle.masks.proofs.Members.{length-inserted, inserted-here, inserted-other, member-zeros}
 use Rattle.matching.specs.Lists.{full}
-use Rattle.matching.specs.Given.{Given}
+use Rattle.matching.specs.Given.{Fitting, Given}
+use Rattle.specification.specs.Connection.{leading?}
+use Rattle.specification.specs.declared.Connection.{Connection}
+use Rattle.channels.proofs.Agreeing.{all-linked-same}
 use Rattle.matching.proofs.Lists.{Within, times-here, times-other, times-tail, times-none, has-false, times-has, times-hasnt}
 use Rattle.matching.proofs.Lists.{length-times}
 use Rattle.counting.proofs.Sums.{sum-smaller}
@@ -57,9 +60,10 @@ twice-repeats l v h = go (repeats? l) refl
     go true e = refl
     go false e = absurd (omega (arith, repeats-once l e v))
 
-pub broken-linked : (leads : ℕ → ℕ → Bool) (ls : List (List ℕ)) → broken? leads ls ≡ false → allLinked leads ls ≡ true
+pub broken-linked : (ask : ℕ → ℕ → Connection) (ls : List (List ℕ)) → broken? ask ls ≡ false
+    → allLinked (λ u v. leading? (ask u v)) ls ≡ true
 unfolding broken?
-broken-linked leads ls e = not-false (allLinked leads ls) e
+broken-linked ask ls e = not-false (allLinked (λ u v. leading? (ask u v)) ls) e
 
 filled-full : (ls : List (List ℕ)) → every full (filled ls) ≡ true
 unfolding filled every
@@ -67,18 +71,24 @@ filled-full [] = refl
 filled-full ([] ∷ ls) = filled-full ls
 filled-full ((v ∷ l) ∷ ls) = rw (lt-ltb 0 (suc (length l)) (omega arith)) (filled-full ls)
 
--- channels that pass all checks may be given
-pub passed-given : (leads : ℕ → ℕ → Bool) (n : ℕ) (field : List ℕ) → unknown? n (verticesOf field) ≡ false
-    → repeats? (verticesOf field) ≡ false → broken? leads (linesOf field) ≡ false → Given leads n (linesOf field)
-unfolding linesOf
-passed-given leads n field u p b = record {
-  fits = record {
+module _ (n : ℕ) (field : List ℕ) (u : unknown? n (verticesOf field) ≡ false) (p : repeats? (verticesOf field) ≡ false) where
+  -- channels whose vertices pass the checks fit
+  pub passed-fits : Fitting n (linesOf field)
+  unfolding linesOf
+  passed-fits = record {
     once = repeats-once (verticesOf field) p;
     only = unknown-within n (verticesOf field) u;
     filled = filled-full (lines 0 field);
-  };
-  next = broken-linked leads (linesOf field) b;
-}
+  }
+
+  -- and where none of them answers 'not at all' they may be given, by any relation that says the same
+  pub passed-given : (ask : ℕ → ℕ → Connection) (leads : ℕ → ℕ → Bool)
+      → ((u v : ℕ) → u < n → v < n → leading? (ask u v) ≡ leads u v) → broken? ask (linesOf field) ≡ false → Given leads n (linesOf field)
+  passed-given ask leads same b = record {
+    fits = passed-fits;
+    next =
+        sym (all-linked-same n (λ u v. leading? (ask u v)) leads same (linesOf field) u) ∙ broken-linked ask (linesOf field) b;
+  }
 
 -- all n vertices stand there where there are as many
 pub all-there : (n : ℕ) (l : List ℕ) → Within n l → ((v : ℕ) → times v l ≤ 1) → length l ≡ n → (v : ℕ) → v < n → has v l ≡ true
@@ -202,7 +212,10 @@ linked-filled leads ((v ∷ l) ∷ ls) = ap (λ b. linked leads (v ∷ l) && b) 
 unfoldable pub after : ℕ → List (List ℕ) → List (List ℕ)
 after last ls = choose (eqb last 256) (λ _. ls) (λ _. front last ls)
 
-module _ (leads : ℕ → ℕ → Bool) where
+module _ (ask : ℕ → ℕ → Connection) where
+  abbrev leads : ℕ → ℕ → Bool
+  leads u v = leading? (ask u v)
+
   after-none : (last : ℕ) (ls : List (List ℕ)) → last ≡ 256 → after last ls ≡ ls
   unfolding after
   after-none last ls e = rw (eq-eqb last 256 e)
@@ -270,7 +283,7 @@ module _ (leads : ℕ → ℕ → Bool) where
             (lines-vertex field i h k d ∙ ap (λ y. front y (lines (k - 1) (drop (i + 1) field))) (sym ex))
             ∙ linked-next last x (lines (k - 1) (drop (i + 1) field))
 
-        pub linking-broken : (eqb last 256 || leads last x) ≡ false → broken? leads (linesOf field) ≡ true
+        pub linking-broken : (eqb last 256 || leads last x) ≡ false → broken? ask (linesOf field) ≡ true
         unfolding broken?
         linking-broken e = ap not (step ∙ ap (λ b. b && allLinked leads (front x (lines (k - 1) (drop (i + 1) field)))) e)
 
@@ -281,14 +294,14 @@ module _ (leads : ℕ → ℕ → Bool) where
               ∙ ap (allLinked leads) (sym (after-some x (lines (k - 1) (drop (i + 1) field)) (λ z. omega arith)));
         }
 
-    pub linking-all : (i k last : ℕ) → Linking i k last → length field ≤ i → broken? leads (linesOf field) ≡ false
+    pub linking-all : (i k last : ℕ) → Linking i k last → length field ≤ i → broken? ask (linesOf field) ≡ false
     unfolding broken? every
     linking-all i k last o h = ap not (o .same ∙ ap (λ ls. allLinked leads (after last ls)) (lines-end field i k h) ∙ linked-ended last [])
 
 -- ---- whether a vertex may follow
 
-pub follows-first : (leads : ℕ → ℕ → Bool) (last v : ℕ) → last ≡ 256 → (eqb last 256 || leads last v) ≡ true
-follows-first leads last v e = rw (eq-eqb last 256 e)
+pub follows-first : (ask : ℕ → ℕ → Connection) (last v : ℕ) → last ≡ 256 → (eqb last 256 || leading? (ask last v)) ≡ true
+follows-first ask last v e = rw (eq-eqb last 256 e)
 
-pub follows-led : (leads : ℕ → ℕ → Bool) (last v : ℕ) → last ≢ 256 → (eqb last 256 || leads last v) ≡ leads last v
-follows-led leads last v d = rw (ne-eqb last 256 d)
+pub follows-led : (ask : ℕ → ℕ → Connection) (last v : ℕ) → last ≢ 256 → (eqb last 256 || leading? (ask last v)) ≡ leading? (ask last v)
+follows-led ask last v d = rw (ne-eqb last 256 d)

@@ -1,6 +1,7 @@
 -- The tables of given channels, laid byte by byte in the walk that checks them. Assumes nothing.
-use Rattle.counting.proofs.Prelude.{_≡_, sym, ap, _∙_, _≢_, Bool, false, List, [], ℕ, _+_, _-_, _*_, _≤_, _<_, arith, length, getD}
+use Rattle.counting.proofs.Prelude.{_≡_, sym, ap, _∙_, _≢_, false, List, [], ℕ, _+_, _-_, _*_, _≤_, _<_, arith, length, getD}
 use Rattle.matching.proofs.Lists.{length-bound}
+use Rattle.specification.specs.declared.Connection.{Connection}
 use Rattle.specification.specs.Channels.{verticesOf, unknown?, repeats?}
 use Rattle.planning.specs.Arranged.{Arranged, Kept}
 use Rattle.channels.specs.Steps.Laid.{Lays}
@@ -61,8 +62,8 @@ module _ (n : ℕ) (field : List ℕ) where
 
   -- ---- the end
 
-  module _ (leads : ℕ → ℕ → Bool) (was is : List ℕ) (g : Kept n was is) (r : Walked) where
-    pub walks-refused : r .refusal ≡ 3 → givenRefusal leads n field ≡ 3 → Walks leads n field was r is
+  module _ (ask : ℕ → ℕ → Connection) (was is : List ℕ) (g : Kept n was is) (r : Walked) where
+    pub walks-refused : r .refusal ≡ 3 → givenRefusal ask n field ≡ 3 → Walks ask n field was r is
     walks-refused e w =
         let never : r .refusal ≡ 0 → ⊥ = λ z. omega arith in
         record {
@@ -75,17 +76,17 @@ module _ (n : ℕ) (field : List ℕ) where
         }
 
     pub walks-all : n ≢ 0 → n ≤ 128 → (i k p last : ℕ) → length field ≤ i
-        → Walking leads n field i k last (r .seen) (r .vertices) (r .refusal)
-        → Tabling i k p (r .vertices) (r .count) is → Walks leads n field was r is
+        → Walking ask n field i k last (r .seen) (r .vertices) (r .refusal)
+        → Tabling i k p (r .vertices) (r .count) is → Walks ask n field was r is
     walks-all some small i k p last h w f =
-        let answer = walked-all leads n field i k last (r .seen) (r .vertices) (r .refusal) w h some small in record {
+        let answer = walked-all ask n field i k last (r .seen) (r .vertices) (r .refusal) w h some small in record {
           answer = answer;
           laid = λ z.
-              let q = given-passed leads n field (sym answer ∙ z) in
+              let q = given-passed ask n field (sym answer ∙ z) in
               reading-all n field i k p (r .count) is
               (f .laid (q .once) (unknown-wider n 128 (verticesOf field) small (q .known))) h;
           few = λ _. f .lines;
-          total = λ _. walked-total leads n field i k last (r .seen) (r .vertices) (r .refusal) w h;
-          held = walked-held leads n field i k last (r .seen) (r .vertices) (r .refusal) w h;
+          total = λ _. walked-total ask n field i k last (r .seen) (r .vertices) (r .refusal) w h;
+          held = walked-held ask n field i k last (r .seen) (r .vertices) (r .refusal) w h;
           kept = g;
         }

@@ -12,13 +12,15 @@ use Rattle.matching.proofs.Ordered.{channelled}
 use Rattle.matching.proofs.Planned.{planned-least, planned-covers}
 use Rattle.matching.proofs.Beside.{given-covers, given-whole}
 use Rattle.matching.proofs.Fewest.{given-least}
-use Rattle.matching.specs.Given.{Given}
+use Rattle.matching.specs.Given.{Fitting, Given}
+use Rattle.specification.specs.Connection.{leading?}
+use Rattle.specification.specs.declared.Connection.{Connection}
+use Rattle.reach.specs.Closure.{connectionBy}
 use Rattle.planning.specs.Arranged.{Arranged}
 use Rattle.channels.specs.Promise.{Answers, Plans, Gives, givenRefusal}
 use Rattle.channels.specs.Sound.{Sound}
 use Rattle.planning.specs.declared.Channels.{Channels}
-use Rattle.channels.proofs.Checks.{passed-given}
-use Rattle.counting.proofs.Sizes.{sized-back, size-passed}
+use Rattle.channels.proofs.Checks.{passed-fits, passed-given}
 use Rattle.specification.specs.Sets.{has?}
 use Rattle.specification.specs.Graph.{sizeRefusal, unsized?}
 
@@ -33,16 +35,16 @@ module _ (n refusal : ℕ) (ls : List (List ℕ)) (p : List ℕ) (r : Channels) 
       go (no l) = (sym (a .refused (omega arith)) ∙ e, a .arranged e)
 
 -- what each check says of given channels that are taken
-pub record Passed (leads : ℕ → ℕ → Bool) (n : ℕ) (field : List ℕ) : Type 0 where
+pub record Passed (ask : ℕ → ℕ → Connection) (n : ℕ) (field : List ℕ) : Type 0 where
   pub size : unsized? n ≡ false
   pub known : unknown? n (verticesOf field) ≡ false
   pub once : repeats? (verticesOf field) ≡ false
-  pub led : broken? leads (linesOf field) ≡ false
+  pub led : broken? ask (linesOf field) ≡ false
 
-pub given-passed : (leads : ℕ → ℕ → Bool) (n : ℕ) (field : List ℕ) → givenRefusal leads n field ≡ 0 → Passed leads n field
+pub given-passed : (ask : ℕ → ℕ → Connection) (n : ℕ) (field : List ℕ) → givenRefusal ask n field ≡ 0 → Passed ask n field
 unfolding givenRefusal
-given-passed leads n field e =
-    let p = go (unsized? n) (unknown? n (verticesOf field)) (repeats? (verticesOf field)) (broken? leads (linesOf field)) e in
+given-passed ask n field e =
+    let p = go (unsized? n) (unknown? n (verticesOf field)) (repeats? (verticesOf field)) (broken? ask (linesOf field)) e in
     record { size = p .0; known = p .1; once = p .2; led = p .3 }
   where
     go : (a b c d : Bool)
@@ -54,10 +56,9 @@ given-passed leads n field e =
     go false false false true p = absurd (omega arith)
     go false false false false p = (refl, refl, refl, refl)
 
--- given channels that are taken may be given
-pub taken-given : (leads : ℕ → ℕ → Bool) (n : ℕ) (field : List ℕ) → givenRefusal leads n field ≡ 0 → Given leads n (linesOf field)
-taken-given leads n field e =
-    let q = given-passed leads n field e in passed-given leads n field (q .known) (q .once) (q .led)
+-- given channels that are taken fit
+pub taken-fits : (ask : ℕ → ℕ → Connection) (n : ℕ) (field : List ℕ) → givenRefusal ask n field ≡ 0 → Fitting n (linesOf field)
+taken-fits ask n field e = let q = given-passed ask n field e in passed-fits n field (q .known) (q .once)
 
 -- ---- channels that cover the vertices, handed over
 
@@ -95,24 +96,30 @@ module _ (n : ℕ) (table p : List ℕ) (r : Channels) (p′ : List ℕ) where
       let t = taken n (sizeRefusal n) (planned (has? 2 table) n) p r p′ a e in
       omega (arith, t .1 .counted, planned-least (has? 2 table) n m part d)
 
-  module _ (field : List ℕ) (a : Gives n table field p r p′) (e : r .refusal ≡ 0) where
+  module _ (edges longer field : List ℕ) (a : Gives n edges longer table field p r p′) (e : r .refusal ≡ 0) where
     abbrev ls : List (List ℕ)
     ls = withGiven (has? 2 table) n (linesOf field)
 
-    got : Given (has? 2 table) n (linesOf field) × Arranged n ls (r .count) p′
-    got =
-        let t = taken n (givenRefusal (has? 2 table) n field) ls p r p′ a e in
-        (taken-given (has? 2 table) n field (t .0), t .1)
+    abbrev ask : ℕ → ℕ → Connection
+    ask = connectionBy 2 edges longer
 
-    -- given channels that are taken, with those planned beside them, are such a division too
-    pub given-sound : Order (has? 2 table) n → Sound (has? 2 table) n (r .count) p′
-    given-sound o = sound-arranged (has? 2 table) n o ls (r .count) p′ (got .1) (given-covers (has? 2 table) n (linesOf field) (got .0) o)
+    got : (givenRefusal ask n field ≡ 0) × Arranged n ls (r .count) p′
+    got = taken n (givenRefusal ask n field) ls p r p′ a e
 
-    -- which has the given ones whole
-    pub given-parts : Order (has? 2 table) n → Whole n (linesOf field) (channelOf ls)
-    given-parts o = given-whole (has? 2 table) n (linesOf field) (got .0) o
+    -- where the table is an order, and says what the tables of edges and longer routes do
+    module _ (o : Order (has? 2 table) n) (same : (u v : ℕ) → u < n → v < n → leading? (ask u v) ≡ has? 2 table u v) where
+      given : Given (has? 2 table) n (linesOf field)
+      given = let q = given-passed ask n field (got .0) in passed-given n field (q .known) (q .once) ask (has? 2 table) same (q .led)
 
-    -- and no division that has them whole has fewer parts, whatever the table
+      -- given channels that are taken, with those planned beside them, are such a division too
+      pub given-sound : Sound (has? 2 table) n (r .count) p′
+      given-sound = sound-arranged (has? 2 table) n o ls (r .count) p′ (got .1) (given-covers (has? 2 table) n (linesOf field) given o)
+
+      -- which has the given ones whole
+      pub given-parts : Whole n (linesOf field) (channelOf ls)
+      given-parts = given-whole (has? 2 table) n (linesOf field) given o
+
+    -- and no division that has them whole has fewer parts, whatever the tables
     pub given-fewest : (m : ℕ) (part : ℕ → ℕ) → Division (has? 2 table) n m part → Whole n (linesOf field) part → r .count ≤ m
     given-fewest m part d w =
-        omega (arith, got .1 .counted, given-least (has? 2 table) n (linesOf field) (got .0 .fits) m part d w)
+        omega (arith, got .1 .counted, given-least (has? 2 table) n (linesOf field) (taken-fits ask n field (got .0)) m part d w)

@@ -7,7 +7,9 @@ ghost use mathlib.Core.List.{[]};
 ghost use Prim.Native.Nat.{_+_, _*_, _≤_, _<_};
 ghost use lib.ListN.{length};
 ghost use lib.Dec.{eqb};
-ghost use Rattle.specification.specs.Sets.{member?, inserted, has?};
+ghost use Rattle.specification.specs.Sets.{member?, inserted};
+ghost use Rattle.specification.specs.Connection.{leading?};
+ghost use Rattle.reach.specs.Closure.{connectionBy};
 ghost use Rattle.planning.specs.Arranged.{Arranged};
 ghost use Rattle.specification.specs.Channels.{verticesOf, unknown?};
 ghost use Rattle.channels.specs.Steps.Laid.{openedAt, Lays};
@@ -111,22 +113,22 @@ pub fn unknown(n: usize, field: &[u8]) -> bool
     false
 }
 
-// Whether v may follow `last` in a line: it is the first, or `last` leads to it.
-fn follows(table: &[u64], last: usize, v: usize) -> bool
+// Whether v may follow `last` in a line: it is the first, or `last`, asked how it reaches v, does not answer 'not at all'.
+fn follows(edges: &[u64], longer: &[u64], last: usize, v: usize) -> bool
     requires { ⌜ last ≤ 256 ⌝ }
-    ensures { λ r. ⌜ r ≡ (eqb last 256 || has? 2 (now (table .entry)) last v) ⌝ }
+    ensures { λ r. ⌜ r ≡ (eqb last 256 || leading? (connectionBy 2 (now (edges .entry)) (now (longer .entry)) last v)) ⌝ }
 {
     if last == 256 {
         return true;
     }
-    masks::contains(table, 2 * last, v)
+    reach::is_leading(reach::between(edges, longer, 2 * last, v))
 }
 
 // Puts v into the set: 6 where it stood there before; else 7 where nothing was found so far and v may not follow `last`; else what was
 // found so far.
-fn weigh(table: &[u64], seen: &mut [u64], last: usize, v: usize, fault: u8) -> u8
+fn weigh(edges: &[u64], longer: &[u64], seen: &mut [u64], last: usize, v: usize, fault: u8) -> u8
     requires { ⌜ last ≤ 256 ⌝ }
-    ensures { λ r. ⌜ (r ≡ weighed (member? (now (seen .entry)) 0 v) (eqb last 256 || has? 2 (now (table .entry)) last v) fault) × ((member? (now (seen .entry)) 0 v ≡ Bool.false → now (seen .exit) ≡ inserted (now (seen .entry)) 0 v)) ⌝ }
+    ensures { λ r. ⌜ (r ≡ weighed (member? (now (seen .entry)) 0 v) (eqb last 256 || leading? (connectionBy 2 (now (edges .entry)) (now (longer .entry)) last v)) fault) × ((member? (now (seen .entry)) 0 v ≡ Bool.false → now (seen .exit) ≡ inserted (now (seen .entry)) 0 v)) ⌝ }
 {
     if masks::contains(seen, 0, v) {
         return 6;
@@ -135,7 +137,7 @@ fn weigh(table: &[u64], seen: &mut [u64], last: usize, v: usize, fault: u8) -> u
     if fault != 0 {
         return fault;
     }
-    if follows(table, last, v) {
+    if follows(edges, longer, last, v) {
         return 0;
     }
     7
@@ -151,9 +153,15 @@ struct Walked {
 
 // The checks of the field and the channels, laid where no vertex has one yet, in one walk over its bytes. Where it answers 0 the channels
 // are those of the field; else what is laid is not said, and the caller clears it.
-fn walk<'a, 'p>(n: usize, table: &'a [u64], field: &'a [u8], places: &'p mut [u8]) -> Walked
+fn walk<'a, 'p>(
+    n: usize,
+    edges: &'a [u64],
+    longer: &'a [u64],
+    field: &'a [u8],
+    places: &'p mut [u8],
+) -> Walked
     requires { ⌜ (n ≢ 0) × (n ≤ 128) × (4 * n ≤ length (now places)) × Arranged n [] 0 (now places) ⌝ }
-    ensures { λ r. ⌜ Walks (has? 2 (now (table .entry))) n (now (field .entry)) (now (places .entry)) r (now (places .exit)) ⌝ }
+    ensures { λ r. ⌜ Walks (connectionBy 2 (now (edges .entry)) (now (longer .entry))) n (now (field .entry)) (now (places .entry)) r (now (places .exit)) ⌝ }
 {
     let mut seen = [0u64; 4];
     let mut fault: u8 = 0;
@@ -180,7 +188,7 @@ fn walk<'a, 'p>(n: usize, table: &'a [u64], field: &'a [u8], places: &'p mut [u8
                     seen,
                 };
             }
-            fault = weigh(table, &mut seen, last, v, fault);
+            fault = weigh(edges, longer, &mut seen, last, v, fault);
             count = lay(places, count, vertices, p, v);
             last = v;
             vertices += 1;
@@ -197,18 +205,26 @@ fn walk<'a, 'p>(n: usize, table: &'a [u64], field: &'a [u8], places: &'p mut [u8
     }
 }
 
-// The channels of the field, in its order, for n vertices and a table, and behind them those planned for the vertices that it lacks.
-// Refused with 8 (a list without room), 2 (no vertex, or more than 128), 3 (a vertex of n or more), 6 (a vertex repeated) or 7 (a vertex
-// that the one before does not reach), the first that applies; then there is none, and nothing that was laid stays.
-pub fn given<'a>(n: usize, table: &'a [u64], field: &'a [u8], places: &mut [u8]) -> Channels
-    ensures { λ r. ⌜ Gives n (now (table .entry)) (now (field .entry)) (now (places .entry)) r (now (places .exit)) ⌝ }
+// The channels of the field, in its order, for n vertices, checked by the tables of edges and of longer routes, and behind them those planned
+// by the table of what reaches what for the vertices that it lacks. Refused with 8 (a list without room), 2 (no vertex, or more than 128),
+// 3 (a vertex of n or more), 6 (a vertex repeated) or 7 (a vertex that the one before does not reach), the first that applies; then there
+// is none, and nothing that was laid stays.
+pub fn given<'a>(
+    n: usize,
+    edges: &'a [u64],
+    longer: &'a [u64],
+    table: &'a [u64],
+    field: &'a [u8],
+    places: &mut [u8],
+) -> Channels
+    ensures { λ r. ⌜ Gives n (now (edges .entry)) (now (longer .entry)) (now (table .entry)) (now (field .entry)) (now (places .entry)) r (now (places .exit)) ⌝ }
 {
     let refusal = sized(n, places.len());
     if refusal != 0 {
         return planning::empty(refusal);
     }
     planning::unplace(n, places);
-    let r = walk(n, table, field, places);
+    let r = walk(n, edges, longer, field, places);
     if r.refusal != 0 {
         planning::unplace(n, places);
         return planning::empty(r.refusal);

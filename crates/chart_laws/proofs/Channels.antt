@@ -6,7 +6,7 @@ use Rattle.specification.specs.Count.{indicator, sum, count, some}
 use Rattle.specification.specs.Graph.{strange?}
 use Rattle.specification.specs.Channels.{has, channelOf, positionOf, verticesOf, givenLines, unknown?}
 use Rattle.specification.specs.Given.{Whole}
-use Rattle.specification.specs.Checks.{Content, edgesOf, givenOf, stranger?, repeated?, unled?, Sound}
+use Rattle.specification.specs.Checks.{Content, edgesOf, givenOf, connectionIn, stranger?, repeated?, unled?, Sound}
 use Rattle.specification.specs.Chart.{leads?, channelsOf}
 use Rattle.counting.proofs.Truth.{true-or-false, lt-or-le, or-neither}
 use Rattle.matching.proofs.Without.{line-in}
@@ -19,7 +19,7 @@ use Rattle.matching.proofs.Fewest.{given-least}
 use Rattle.channels.proofs.Checks.{passed-given}
 use Rattle.record.proofs.Soundness.{given-passes, accepted-passes, sound-accepted}
 use Rattle.geometry.proofs.Blocks.{channels-bound}
-use Rattle.chart_laws.proofs.Leading.{leads-order}
+use Rattle.chart_laws.proofs.Leading.{answer-leads, leads-order}
 
 -- ---- the channels
 
@@ -46,8 +46,8 @@ module _ (c : Content) (s : Sound c) where
       let known = or-neither (some (edgesOf c) (strange? n (c .tails) (c .heads))) (c .given && unknown? n (verticesOf (c .field)))
       (p .stranger) .1 in
       rw g
-      (passed-given (leads? c) n (c .field) (given-passes (c .given) _ known g) (given-passes (c .given) _ (p .repeated) g)
-      (given-passes (c .given) _ (p .unled) g)))
+      (passed-given n (c .field) (given-passes (c .given) _ known g) (given-passes (c .given) _ (p .repeated) g)
+      (connectionIn c) (leads? c) (λ u v hu hv. answer-leads c s u v) (given-passes (c .given) _ (p .unled) g)))
       (λ g. rw g (none-given (leads? c) n))
       (true-or-false (c .given))
 

@@ -3,10 +3,12 @@ use Rattle.counting.proofs.Prelude.{_≡_, refl, subst, _↔_, true, ℕ, _<_}
 use Rattle.matching.specs.Division.{Order}
 use Rattle.specification.specs.Graph.{Edge, edge?, refusal}
 use Rattle.specification.specs.Graph.Reaches.{one}
-use Rattle.specification.specs.Checks.{Content, edgesOf, Leads, Sound}
+use Rattle.specification.specs.Checks.{Content, edgesOf, connectionIn, Leads, Sound}
+use Rattle.specification.specs.Connection.{leading?}
 use Rattle.specification.specs.Chart.{leads?, tailOf, headOf}
 use Rattle.reach.proofs.Routes.{reaches-trans, begins-below, ends-below}
 use Rattle.reach.proofs.Decide.{edge-decided, reachable-decided}
+use Rattle.reach.proofs.Connecting.{leading-reachable}
 use Rattle.record.proofs.Soundness.{sound-edges}
 
 module _ (c : Content) (s : Sound c) where
@@ -22,6 +24,11 @@ module _ (c : Content) (s : Sound c) where
   leads-decided u v =
       let d = reachable-decided n (c .tails) (c .heads) u v in
       ((λ e. d .1 e .1), λ r. d .0 (graph-accepted, r))
+
+  -- there is a way where the answer is not 'not at all'
+  pub answer-leads : (u v : ℕ) → leading? (connectionIn c u v) ≡ leads? c u v
+  unfolding connectionIn leads?
+  answer-leads = leading-reachable n (c .tails) (c .heads) graph-accepted
 
   -- edges, and so routes, begin and end at vertices
   pub edge-ends : (u v : ℕ) → Edge (c .tails) (c .heads) u v → (u < n) × (v < n)

@@ -8,3 +8,4 @@ pub mod EdgeKinds
 pub mod Clearing
 pub mod Paging
 pub mod Marks
+pub mod Neighbours

@@ -1,11 +1,14 @@
 -- What the tables of a plan are, entry by entry: the chart's entries. Cites the chart's laws. Assumes nothing.
-use Rattle.counting.proofs.Prelude.{_≡_, refl, sym, ap, ap₂, _∙_, subst, _↔_, Bool, true, false, List, ℕ, _+_, _*_, _/_, _≤_, _<_, min}
-use Rattle.counting.proofs.Prelude.{arith, eqb, length, getD, take, eqb-true}
+use Rattle.counting.proofs.Prelude.{_≡_, refl, sym, ap, ap₂, _∙_, subst, _↔_, Bool, true, false, _&&_, List, ℕ, _+_, _*_, _/_, _≤_, _<_}
+use Rattle.counting.proofs.Prelude.{min, arith, eqb, length, getD, take, eqb-true}
 use lib.Seq.{getD-take, length-take-le}
 use Rattle.specification.specs.Count.{choose}
 use Rattle.specification.specs.Sets.{at}
 use Rattle.specification.specs.Channels.{channelOf, positionOf}
-use Rattle.specification.specs.Checks.{Content, edgesOf}
+use Rattle.specification.specs.Graph.{edge?}
+use Rattle.specification.specs.Connection.{longer?, connects}
+use Rattle.specification.specs.Marks.{transitive?}
+use Rattle.specification.specs.Checks.{Content, edgesOf, connectionIn}
 use Rattle.specification.specs.Bundles.{bundleOf, adjacent?}
 use Rattle.specification.specs.Geometry.{Point, point, isHit, isBlocked, ownColumn, courseOf}
 use Rattle.specification.specs.Chart.{planOf, rowCount, widths, columnIn, placeOf, tailOf, headOf, crossing, transitiveEdge?, kindBetween}
@@ -19,6 +22,7 @@ use Rattle.specification.specs.Chart as chart
 use Rattle.counting.specs.Quads.{quad}
 use Rattle.counting.proofs.Somes.{some-ext}
 use Rattle.reach.proofs.Ends.{ends-counted}
+use Rattle.reach.proofs.Connecting.{both-each}
 use Rattle.geometry.specs.Segment.{pointOf, vertexCount}
 use Rattle.reduction.specs.Reduction.{transitiveIn?}
 use Rattle.reduction.proofs.Marks.{transitive-member}
@@ -202,8 +206,13 @@ module _ (c : Content) (p : Plan) (t : Lists) (l : Laid c p t) where
         (λ f. ap crossing course-drawn))
 
     pub mark-drawn : transitiveIn? (t .longer) u v ≡ transitiveEdge? c e
-    unfolding transitiveEdge?
-    mark-drawn = transitive-member (t .longer) u v ∙ l .longer-pairs u v (ends-known e h .0) (ends-known e h .1)
+    unfolding transitiveEdge? transitive? connectionIn connects graphContent
+    mark-drawn =
+        transitive-member (t .longer) u v ∙ l .longer-pairs u v (ends-known e h .0) (ends-known e h .1)
+        ∙ sym (both-each (edge? (c .tails) (c .heads) u v) further ∙ ap (λ (b : Bool). b && further) (edge-there c (l .sound) e h))
+      where
+        further : Bool
+        further = longer? (edge? (c .tails) (c .heads)) n u v
 
     -- the kind by candidates is the chart's
     pub kind-among : (size : ℕ) (left : List ℕ) → 2 * n + 2 ≤ size → LeftOf size left

@@ -1,13 +1,13 @@
 -- What the lower layers promise of a graph that passes the checks is what its
 -- chart is drawn from. Cites their promises alone. Assumes nothing.
-use Rattle.counting.proofs.Prelude.{_≡_, refl, sym, ap, _∙_, subst, _↔_, ⊎-elim, _&&_, List, ℕ, _*_, _/_, _≤_, _<_, min, arith, eqb, length}
-use Rattle.counting.proofs.Prelude.{getD, eq-eqb, eqb-true}
+use Rattle.counting.proofs.Prelude.{_≡_, refl, sym, ap, _∙_, subst, _↔_, ⊎-elim, List, ℕ, _*_, _/_, _≤_, _<_, min, arith, eqb, length}
+use Rattle.counting.proofs.Prelude.{getD}
 use Rattle.specification.specs.Count.{above}
 use Rattle.specification.specs.Sets.{member?, at, has?}
 use Rattle.specification.specs.Channels.{channelOf, positionOf, givenLines}
 use Rattle.specification.specs.Graph.{edge?, tailsOf, headsOf}
 use Rattle.specification.specs.Checks.{Content, Sound}
-use Rattle.specification.specs.Marks.{transitive?}
+use Rattle.specification.specs.Connection.{longer?}
 use Rattle.specification.specs.Bundles.{Bundle, side?, apart?, bundlesOf, empty}
 use Rattle.specification.specs.Tracks.{tracks}
 use Rattle.specification.specs.Geometry.{evenGaps, blockStart, ownColumn}
@@ -15,11 +15,10 @@ use Rattle.specification.specs.Chart.{leads?, channelsOf, planOf, rowOf, rowCou
 use Rattle.specification.specs.Drawn.{graphContent}
 use Rattle.specification.specs.Chart as chart
 use Rattle.counting.specs.Quads.{quad}
-use Rattle.counting.proofs.Truth.{same-truth, lt-or-le, and-intro, and-elim}
-use Rattle.counting.proofs.Somes.{some-found, some-which}
+use Rattle.counting.proofs.Truth.{lt-or-le}
 use Rattle.matching.proofs.Beside.{given-same}
-use Rattle.reach.proofs.Decide.{edge-decided}
 use Rattle.reach.proofs.Closures.{same-test}
+use Rattle.reach.proofs.Connecting.{same-edge, same-longer}
 use Rattle.planning.specs.Arranged.{Arranged}
 use Rattle.record.specs.declared.checks.Checked.{Checked}
 use Rattle.record.proofs.Soundness.{accepted-sound}
@@ -31,7 +30,7 @@ use Rattle.tracks.specs.Promise.{Tracked}
 use Rattle.tracks.specs.Steps.Ends.{Assigned}
 use Rattle.tracks.proofs.Extension.{tracks-ext}
 use Rattle.tracks.proofs.Theorems.{track-past, tracked-rising}
-use Rattle.chart_laws.proofs.Leading.{graph-accepted, leads-ends}
+use Rattle.chart_laws.proofs.Leading.{graph-accepted}
 use Rattle.chart_laws.proofs.Channels.{channels-few, channel-below, vertices-small}
 use Rattle.chart_laws.proofs.Bundling.{bundle-intervals}
 use Rattle.chart_laws.proofs.Columns.{width-on-page}
@@ -94,30 +93,18 @@ module _ {n : ℕ} {k : Checked} {e p spans number used column : List ℕ} (x : 
   table-same u v hu hv = same-test 2 n tails heads t (x .passes .descended .closure .bits) u v hu hv
 
   edges-same : (u v : ℕ) → u < n → v < n → member? e (2 * u) v ≡ edge? tails heads u v
-  unfolding at graphContent
+  unfolding at has? graphContent
   edges-same u v hu hv =
-      let bits = x .passes .descended .closure .edge-bits u v (omega (arith, small)) (omega (arith, small)) in
-      let there = edge-decided tails heads u v in
-      same-truth _ _ (λ y. there .0 (bits .0 (eqb-true _ 1 y) .1)) (λ y. eq-eqb _ 1 (bits .1 (graph-accepted c s, there .1 y)))
+      let d = x .passes .descended in
+      same-edge n tails heads (graph-accepted c s) 2 e t (x .longer) small (d .closure .edge-bits) (d .closure .bits) (d .longer) u v
+      (omega (arith, small)) (omega (arith, small))
 
-  -- a vertex between
-  longer-laid : (u v : ℕ) → u < n → v < n → member? (x .longer) (2 * u) v ≡ transitive? (leads? c) n u v
-  unfolding at has? transitive? graphContent
+  longer-laid : (u v : ℕ) → u < n → v < n → member? (x .longer) (2 * u) v ≡ longer? (edge? tails heads) n u v
+  unfolding at has? graphContent
   longer-laid u v hu hv =
-      let bits = x .passes .descended .longer .bits u v (omega (arith, small)) (omega (arith, small)) in
-      same-truth _ _
-      (λ y.
-      let w = bits .0 (eqb-true _ 1 y) in
-      let to = sym (table-same u (w .0) (omega (arith, small)) (w .1)) ∙ eq-eqb _ 1 (w .2) in
-      let from = sym (table-same (w .0) v (w .1) (omega (arith, small))) ∙ eq-eqb _ 1 (w .3) in
-      some-found n (λ w. leads? c u w && leads? c w v) (w .0) (leads-ends c s u (w .0) to .1) (and-intro _ _ to from))
-      (λ y.
-      let w = some-which n (λ w. leads? c u w && leads? c w v) y in
-      let both = and-elim (leads? c u (w .0)) (leads? c (w .0) v) (w .2) in
-      let hw : w .0 < 128 = (let h = w .1 in omega (arith, small)) in
-      let to = eqb-true _ 1 (table-same u (w .0) (omega (arith, small)) hw ∙ both .0) in
-      let from = eqb-true _ 1 (table-same (w .0) v hw (omega (arith, small)) ∙ both .1) in
-      eq-eqb _ 1 (bits .1 (w .0, hw, to, from)))
+      let d = x .passes .descended in
+      same-longer n tails heads (graph-accepted c s) 2 e t (x .longer) small (d .closure .edge-bits) (d .closure .bits) (d .longer) u v
+      (omega (arith, small)) (omega (arith, small))
 
   -- ---- channels
 

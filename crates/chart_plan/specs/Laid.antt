@@ -8,11 +8,11 @@ use lib.ListN.{length, getD}
 use Rattle.counting.specs.Quads.{quad}
 use Rattle.specification.specs.Limits.{mostVertices}
 use Rattle.specification.specs.Sets.{member?, at}
-use Rattle.specification.specs.Graph.{tailsOf, headsOf}
+use Rattle.specification.specs.Graph.{edge?, tailsOf, headsOf}
 use Rattle.specification.specs.Channels.{channelOf, positionOf}
 use Rattle.specification.specs.Checks.{Content, refusalOf, Sound}
-use Rattle.specification.specs.Marks.{transitive?}
-use Rattle.specification.specs.Chart.{leads?, channelsOf, rowOf, rowCount, descendantsOf, planOf, tracksIn, columnIn, widthOf}
+use Rattle.specification.specs.Connection.{longer?}
+use Rattle.specification.specs.Chart.{channelsOf, rowOf, rowCount, descendantsOf, planOf, tracksIn, columnIn, widthOf}
 use Rattle.specification.specs.Drawn.{graphContent, chartRefusal}
 use Rattle.specification.specs.Lent.{Untouched}
 use Rattle.descent.specs.Promise.{edgesRefusal, Sized, Left}
@@ -57,7 +57,7 @@ pub record Roomy (n : ℕ) (t : Lists) : Type 0 where
   pub column : min n mostVertices ≤ length (t .column)
 
 -- p and t have the rows, channels, bundles, tracks and columns of the graph's chart, 0 past the last bundle; `below` has, for each k up
--- to the rows used, the set of the vertices whose row is below k, and `longer` the pairs of vertices with a vertex between. What else the
+-- to the rows used, the set of the vertices whose row is below k, and `longer` the pairs of vertices with longer routes. What else the
 -- lists of masks have `Plans` says
 pub record Laid (c : Content) (p : Plan) (t : Lists) : Type 0 where
   pub sound : Sound c
@@ -73,7 +73,7 @@ pub record Laid (c : Content) (p : Plan) (t : Lists) : Type 0 where
   pub column : (v : ℕ) → v < c .vertices → getD (t .column) v 0 ≡ columnIn (planOf c) v
   pub width : p .width ≡ widthOf (planOf c)
   pub longer-pairs : (u v : ℕ) → u < c .vertices → v < c .vertices
-      → member? (t .longer) (2 * u) v ≡ transitive? (leads? c) (c .vertices) u v
+      → member? (t .longer) (2 * u) v ≡ longer? (edge? (c .tails) (c .heads)) (c .vertices) u v
   pub below-rows : (k v : ℕ) → k ≤ rowCount c → v < mostVertices → at 2 (t .below) k v ≡ 1 ↔ ((v < c .vertices) × (rowOf c v < k))
   pub room : Roomy (c .vertices) t
 

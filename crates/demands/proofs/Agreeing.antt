@@ -4,9 +4,9 @@ use Rattle.counting.proofs.Prelude.{_≡_, refl, sym, ap, _∙_, subst, true, n
 use Rattle.specification.specs.Count.{some}
 use Rattle.specification.specs.Graph.{Edge}
 use Rattle.specification.specs.Channels.{channelOf}
-use Rattle.specification.specs.Checks.{Content, edgesOf, Sound}
+use Rattle.specification.specs.Checks.{Content, edgesOf, connectionIn, Sound}
 use Rattle.specification.specs.Marks.{reducedLink}
-use Rattle.specification.specs.Chart.{leads?, tailOf, headOf, rowOf, transitiveEdge?, channelsOf, planOf, bundleIn, trackIn, vertexEntry}
+use Rattle.specification.specs.Chart.{tailOf, headOf, rowOf, transitiveEdge?, channelsOf, planOf, bundleIn, trackIn, vertexEntry}
 use Rattle.specification.specs.Chart.{edgeEntry, bundleEntry}
 use Rattle.specification.specs.declared.VertexEntry.{VertexEntry}
 use Rattle.specification.specs.declared.EdgeEntry.{EdgeEntry}
@@ -39,7 +39,7 @@ module _ (c : Content) (s : Sound c) (n : Entries) (h : Shown c n) where
 
   -- the firm arrows by the marks are those by the definition
   abbrev Kept : ℕ → ℕ → Type 0
-  Kept = Reduced (leads? c) (c .vertices) (c .tails) (c .heads)
+  Kept = Reduced (connectionIn c) (c .tails) (c .heads)
 
   pub firm-reduced : (u v : ℕ) → Firm c n u v → Kept u v
   firm-reduced u v (e, l, p, q, m) =
@@ -61,9 +61,9 @@ module _ (c : Content) (s : Sound c) (n : Entries) (h : Shown c n) where
       let b = and-elim (eqb (tailOf c (w .0)) u) (eqb (headOf c (w .0)) v) (a .0) in
       (w .0, w .1, eqb-true _ _ (b .0), eqb-true _ _ (b .1), not-true _ (a .1))
 
-  pub links-seen : (u v : ℕ) → some (edgesOf c) (joins? c n u v) ≡ reducedLink (leads? c) (c .vertices) (c .tails) (c .heads) u v
+  pub links-seen : (u v : ℕ) → some (edgesOf c) (joins? c n u v) ≡ reducedLink (connectionIn c) (c .tails) (c .heads) u v
   links-seen u v =
-      let d = link-decided (leads? c) (c .vertices) (c .tails) (c .heads) u v in
+      let d = link-decided (connectionIn c) (c .vertices) (c .tails) (c .heads) u v in
       same-truth _ _ (λ t. d .0 (firm-reduced u v (seen-firm u v t))) (λ t. firm-seen u v (reduced-firm u v (d .1 t)))
 
 -- ---- charts
@@ -72,7 +72,7 @@ pub record Agrees (c : Content) (x : Chart) : Type 0 where
   pub row : (v : ℕ) → v < c .vertices → x .row v ≡ rowOf c v
   pub parts : x .parts ≡ length (channelsOf c)
   pub part : (v : ℕ) → v < c .vertices → x .part v ≡ channelOf (channelsOf c) v
-  pub link : (u v : ℕ) → x .link u v ≡ reducedLink (leads? c) (c .vertices) (c .tails) (c .heads) u v
+  pub link : (u v : ℕ) → x .link u v ≡ reducedLink (connectionIn c) (c .tails) (c .heads) u v
   pub bundles : x .bundles ≡ length (planOf c .bundles)
   pub line : (b : ℕ) → b < length (planOf c .bundles) → x .line b ≡ bundleIn (planOf c) b .channel
   pub first : (b : ℕ) → b < length (planOf c .bundles) → x .first b ≡ bundleIn (planOf c) b .first

@@ -1,16 +1,19 @@
 -- The number that is answered of a graph is that of the first check that fails, with 'broad' before 'short'. Assumes nothing.
 use Rattle.counting.proofs.Prelude.{_≡_, refl, sym, ap, _∙_, subst, _↔_, _⊎_, inl, inr, ⊎-elim, Bool, true, false, true≢false}
-use Rattle.counting.proofs.Prelude.{ℕ, _≤_, _<_, arith, length, eq-eqb, ltb-false, List·getD-eq-default}
+use Rattle.counting.proofs.Prelude.{ℕ, suc, _≤_, _<_, arith, length, getD, eq-eqb, ltb-false, List·getD-eq-default}
 use native.Mathlib.Decide.{ℕ-discrete}
 use Rattle.counting.proofs.Truth.{true-or-false, lt-or-le}
 use Rattle.counting.proofs.Falsity.{not-true}
 use Rattle.specification.specs.Limits.{mostVertices, mostEdges, mostBundles, mostChannels}
-use Rattle.specification.specs.Checks.{Content, size?, stranger?, double?, ring?, repeated?, unled?, looseChecks, laterChecks}
-use Rattle.specification.specs.Checks.{firstOf, refusalOf, Sized, Distinct, Acyclic, Once, Led, Sound}
+use Rattle.specification.specs.Checks.{Content, connectionIn, givenLine, size?, stranger?, double?, ring?, repeated?, unled?}
+use Rattle.specification.specs.Checks.{looseChecks, laterChecks, firstOf, refusalOf, Sized, Distinct, Acyclic, Once, Led, Sound}
 use Rattle.specification.specs.Chart.{channelsOf, planOf, tracksIn}
 use Rattle.specification.specs.Drawn.{broad?, chartRefusal, Drawn, judged, short?, lent, Summary}
 use Rattle.specification.specs.declared.ChartCounts.{ChartCounts}
 use Rattle.record.proofs.Soundness.{size-says, stranger-says, double-says, ring-says, cover-says, led-says, sound-accepted}
+use Rattle.record.proofs.Soundness.{content-means, unled-lacks}
+use Rattle.reach.proofs.Connecting.{unled-number}
+use Rattle.demands.specs.Leading.{Unled}
 use Rattle.chart_laws.proofs.Broad.{too-many, broad-so, chart-refused, chart-broad, chart-whole}
 use Rattle.chart_laws.proofs.Bundling.{bundles-256, plan-channels, tracks-past}
 use Rattle.chart_plan.proofs.Nothing.{empty}
@@ -33,6 +36,24 @@ next : (t : Bool) {P A : Type 0} → (t ≡ false) ↔ P → ((P → ⊥) → A)
 next true d f g = f (λ p. true≢false (d .1 p))
 next false d f g = g (d .0 refl)
 
+told : (t : Bool) {A : Type 0} → (t ≡ true → A) → (t ≡ false → A) → A
+told true f g = f refl
+told false f g = g refl
+
+-- ---- neighbours of a given channel that answer 'not at all'
+
+module _ (c : Content) where
+  unled-found : unled? c ≡ true → Unled c
+  unled-found t =
+      let p = unled-lacks c t in
+      let w = p .1 in
+      let l = givenLine c (w .0) in
+      let answer = connectionIn c (getD l (w .1) 0) (getD l (suc (w .1)) 0) in
+      record { given = p .0; line = w .0; place = w .1; within = w .2; unreached = unled-number answer .0 (w .3) }
+
+  unled-led : Sized c → Known c → Unled c → Led c → ⊥
+  unled-led z k n l = content-means c z k _ _ .unreached .0 (n .unreached) (l (n .given) (n .line) (n .place) (n .within))
+
 -- ---- a graph is sound, or a check is the first that fails
 
 module _ (c : Content) where
@@ -49,7 +70,8 @@ module _ (c : Content) where
       next (double? c) (double-says c) (λ n. inr (4, double z k n)) λ d.
       next (ring? c) (ring-says c z k) (λ n. inr (5, ring z k d n)) λ a.
       next (repeated? c) (cover-says c) (λ n. inr (6, cover z k d a n)) λ o.
-      next (unled? c) (led-says c z k) (λ n. inr (7, broken z k d a o n)) λ l.
+      told (unled? c) (λ t. inr (7, broken z k d a o (unled-found c t))) λ f.
+      let l = led-says c z k .0 f in
       inl (sound-parts .1 (z, k, d, a, o, l))
 
   fails-number : {k : ℕ} → Fails c k → (refusalOf c ≡ k) × (0 < k) × (k < 8)
@@ -71,7 +93,7 @@ module _ (c : Content) where
   )
   fails-number (broken z k d a o n) = (
     rw (size-says c .1 z, stranger-says c .1 k, double-says c .1 d, ring-says c z k .1 a, cover-says c .1 o)
-        (rw (failing (unled? c) (led-says c z k) n) refl),
+        (rw (failing (unled? c) (led-says c z k) (unled-led c z k n)) refl),
     omega arith,
     omega arith,
   )

@@ -1,14 +1,15 @@
 -- THE DEMANDS, proved of the chart that the definitions give of every sound graph, and of what every call leaves. Of a call nothing is
 -- asked but its promise. The statements are in specs/Demands.antt and specs/Refusals.antt, and in specification's specs/Lawful.antt.
 -- Assumes nothing.
-use Rattle.counting.proofs.Prelude.{_≡_, sym, subst, _≢_, _↔_, Bool, true, false, List, ℕ, _/_, _≤_, _<_, arith, length, ltb-true, lt-ltb}
+use Rattle.counting.proofs.Prelude.{_≡_, sym, _∙_, subst, _≢_, _↔_, Bool, true, false, List, ℕ, suc, _/_, _≤_, _<_, arith, length, ltb-true}
+use Rattle.counting.proofs.Prelude.{lt-ltb, eq-eqb, eqb-true}
 use Rattle.specification.specs.Limits.{mostChannels}
 use Rattle.specification.specs.Channels.{givenLines}
 use Rattle.specification.specs.Given.{Whole}
 use Rattle.specification.specs.Writing.{written, Writable}
-use Rattle.specification.specs.Checks.{Content, Sized, Distinct, Acyclic, Once, Led, Sound, SoundRecord, contentOf, said, givenOf}
+use Rattle.specification.specs.Checks.{Content, edgesOf, Sized, Distinct, Acyclic, Once, Led, Sound, SoundRecord, contentOf, said, givenOf}
 use Rattle.matching.proofs.Beside.{none-whole}
-use Rattle.specification.specs.Chart.{channelsOf, planOf, rowCount, reducedEdges, tracksIn}
+use Rattle.specification.specs.Chart.{tailOf, headOf, channelsOf, planOf, rowCount, reducedEdges, tracksIn}
 use Rattle.specification.specs.declared.VertexEntry.{VertexEntry}
 use Rattle.specification.specs.declared.EdgeEntry.{EdgeEntry}
 use Rattle.specification.specs.declared.BundleEntry.{BundleEntry}
@@ -20,12 +21,26 @@ use Rattle.chart_entries.specs.Promise.{HandedOver}
 use Rattle.chart_entries.proofs.Refusals.{refused-untouched, Refused}
 use Rattle.chart_numbers.specs.Chart.{Left, HandedFlat}
 use Rattle.ceviloneth.proofs.Refusing as flat
-use Rattle.ceviloneth.specs.State.{stateNumbers}
-use Rattle.ceviloneth.specs.Calls.{LentCall, LentAnswer, Calls, Life, Lived, Short}
-use Rattle.ceviloneth.proofs.Sequences.{every-life, every-short}
+use Rattle.ceviloneth.specs.State.{stateNumbers, Tells}
+use Rattle.ceviloneth.specs.Calls.{LentCall, LentAnswer, Calls, Life, lifeRun, Lived, Short}
+use Rattle.ceviloneth.proofs.Sequences.{every-life, every-answer, every-short}
+use Rattle.specification.specs.Graph.{Edge}
+use Rattle.specification.specs.Connection.{connectionNumber}
+use Rattle.specification.specs.Machine.{Graph, Call, Answer, run, fresh}
+use Rattle.specification.specs.Asked.{leadingOf, asked}
+use Rattle.specification.specs.declared.Reply.{Reply}
+use Rattle.specification.specs.declared.Leading.{Leading}
+use Rattle.editing.specs.declared.Session.{Session}
+use Rattle.editing.specs.declared.Changed.{Changed}
+use Rattle.editing.specs.Promise.{StartPromise, LeadsPromise}
+use Rattle.editing.specs.Histories.{History}
+use Rattle.editing.specs.Meaning as session
+use Rattle.editing.proofs.Sequences as value
+use Rattle.demands.specs.Leading.{Asks}
+use Rattle.demands.proofs.Asking.{reply-asks, leads-asks}
 use Rattle.demands.specs.Demands.{Entries, entriesIn, entriesOf, oursOf, seen, Faithful, Roomy, Ample, unlined, Smallest, Counted}
 use Rattle.demands.specs.Demands.{Carried}
-use Rattle.demands.specs.Numbers.{entriesFrom}
+use Rattle.demands.specs.Numbers.{numberAt, vertexFrom, edgeFrom, entriesFrom}
 use Rattle.demands.specs.Refusals.{Known, Broad, Answered, AnsweredRecord, Told, Narrow}
 use Rattle.demands.proofs.Agreeing.{defined-shown, ours-agrees}
 use Rattle.demands.proofs.Least.{agreed-smallest, agreed-counted}
@@ -33,7 +48,7 @@ use Rattle.demands.proofs.Showing.{shown-faithful}
 use Rattle.demands.proofs.Accepting.{Handed}
 use Rattle.demands.proofs.Answering as answering
 use Rattle.demands.proofs.Answering.{sound-parts, broad-decided, roomy-most}
-use Rattle.demands.proofs.Records.{said-fields, said-answered, said-told, said-narrow, said-drawn, said-clear, said-least}
+use Rattle.demands.proofs.Records.{said-fields, said-ends, said-answered, said-told, said-narrow, said-drawn, said-clear, said-least}
 use Rattle.demands.proofs.Handing.{handed-lists, handed-numbers}
 use Rattle.demands.proofs.Marking as marked
 use Rattle.demands.proofs.Unlined.{empty-as-none}
@@ -71,6 +86,22 @@ unfolding broad?
 broad-exactly c s =
     let d = broad-decided c s in
     ((λ b. ltb-true mostChannels (length (channelsOf c)) (d .1 b)), λ l. d .0 (lt-ltb mostChannels (length (channelsOf c)) l))
+
+-- ---- how one word leads to another
+
+-- the exported call of a record, `ceviloneth_leads`: which questions are answered, and what the four numbers mean (2.4, 14.4)
+pub exported-leads : (b : List ℕ) (u v : ℕ) (a : Leading) → a ≡ leadingOf (asked b u v) → Asks b u v (a .refusal) (a .leads)
+exported-leads b u v = leads-asks b u v
+
+-- the same by value, `record::reading::ask`
+pub record-leads : (b : List ℕ) (u v : ℕ) (r : Reply) → r ≡ asked b u v → Asks b u v (r .refusal) (connectionNumber (r .connection))
+record-leads b u v = reply-asks b u v
+
+-- a session by value, `editing::Session::leads`, after every list of calls (11.3, 11.4)
+pub session-leads : (n : ℕ) (r : Changed) → StartPromise n r → {cs : List Call} {out : List Answer} {z : Session}
+    → History (r .session) cs out z → (u v : ℕ) (a : Reply) → LeadsPromise z u v a
+    → session.Asks (run (fresh n) cs) u v (a .refusal) (connectionNumber (a .connection))
+session-leads = value.every-answer
 
 -- ---- every call: the lists vs, es and bs are lent, r is the answer, and vs′, es′ and bs′ are the lists afterwards
 
@@ -199,6 +230,30 @@ module _ (ws ws′ es es′ bs bs′ : List ℕ) (r : ChartCounts) where
     pub exported-marking : r .refusal ≡ 0 → Marking asNumbers (said b) (planOf (said b)) es es′ (r .firm)
     exported-marking z = marked.numbers-marking (recordDrawn b) ws ws′ es es′ bs bs′ r (said b) h z (said-drawn b _ _ _ r read exported z)
 
+    -- an arrow's mark is 1 exactly where its ends, asked of the same record, answer 3 'by both' (5.1)
+    pub exported-implied : r .refusal ≡ 0 → (e : ℕ) → e < edgesOf (said b) → (a : Leading)
+        → a ≡ leadingOf (asked b (tailOf (said b) e) (headOf (said b) e)) → (numberAt 5 es′ e 4 ≡ 1) ↔ (a .leads ≡ 3)
+    unfolding edgeFrom
+    exported-implied z e l a q =
+        let s = exported-told .accepted-exactly .0 z .0 in
+        let t = exported-leads b _ _ a q in
+        let h = t .told (t .known .1 (s, said-ends b s e l)) in
+        let f = exported-faithful z .both e l in
+        ((λ x. h ∙ f .0 (eq-eqb _ 1 x)), λ x. eqb-true _ 1 (f .1 (sym h ∙ x)))
+
+    -- words next to each other in a line, the editor's or a planned one, never answer 0 'not at all', and 2 'by longer routes only' where
+    -- no arrow goes from one to the next (15.5)
+    pub exported-neighbours : r .refusal ≡ 0 → (u v : ℕ) → u < said b .vertices → v < said b .vertices
+        → numberAt 5 ws′ u 0 ≡ numberAt 5 ws′ v 0 → numberAt 5 ws′ v 1 ≡ suc (numberAt 5 ws′ u 1)
+        → (a : Leading) → a ≡ leadingOf (asked b u v)
+        → (a .leads ≢ 0) × ((Edge (said b .tails) (said b .heads) u v → ⊥) → a .leads ≡ 2)
+    unfolding vertexFrom
+    exported-neighbours z u v hu hv together next a q =
+        let t = exported-leads b u v a q in
+        let h = t .told (t .known .1 (exported-told .accepted-exactly .0 z .0, (hu, hv))) in
+        let f = exported-faithful z in
+        ((λ x. f .led u v hu hv (together, next) (sym h ∙ x)), λ none. h ∙ f .apart u v hu hv (together, next) none)
+
   -- the same of a graph, `chart_numbers::of_graph`
   module _ (n : ℕ) (ends : List ℕ) (given : Bool) (field : List ℕ)
       (h : Left (lent (length ws / 5) (length es / 5) (length bs / 4) (graphDrawn n ends given field)) ws es bs r ws′ es′ bs′) where
@@ -240,6 +295,11 @@ module _ {was is : List ℕ} {cs : List LentCall} {out : List LentAnswer} (h : C
   -- start leaves the earlier machine (11.4, 11.5)
   pub exported-sessions : stateNumbers ≤ length was → Lived Life.unstarted was cs out is
   exported-sessions long = every-life long h
+
+  -- how one word leads to another: where a machine is running the answer is what its arrows say, one of four (11.3)
+  pub exported-session-leads : stateNumbers ≤ length was → (g : Graph) → lifeRun Life.unstarted cs ≡ Life.running g
+      → (u v : ℕ) (a : Leading) → Tells is u v a → session.Asks g u v (a .refusal) (a .leads)
+  exported-session-leads long = every-answer long h
 
   -- a list that is too short for a session: each call is refused with 8, and nothing changes
   pub exported-sessions-short : length was < stateNumbers → Short was cs out is

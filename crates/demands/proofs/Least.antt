@@ -3,10 +3,10 @@ use Rattle.counting.proofs.Prelude.{_≡_, refl, sym, ap, _∙_, _↔_, _≢_, 
 use Rattle.counting.proofs.Sums.{sum-ext, count-ext}
 use Rattle.specification.specs.Graph.{Reaches}
 use Rattle.specification.specs.Given.{Whole}
-use Rattle.specification.specs.Checks.{Content, givenOf, Leads, Sound}
+use Rattle.specification.specs.Checks.{Content, givenOf, connectionIn, Leads, Sound}
 use Rattle.specification.specs.Marks.{Linked, linkCount, reducedLink}
 use Rattle.specification.specs.Tracks.{differentIn}
-use Rattle.specification.specs.Chart.{leads?, tailOf, headOf, rowOf, rowCount, reducedEdges, Plan, channelsOf, planOf, bundleIn, trackIn}
+use Rattle.specification.specs.Chart.{tailOf, headOf, rowOf, rowCount, reducedEdges, Plan, channelsOf, planOf, bundleIn, trackIn}
 use Rattle.specification.specs.Chart.{tracksIn}
 use Rattle.counting.proofs.Above.{above-ext}
 use Rattle.reduction.proofs.Transitive.{reaches-map}
@@ -48,7 +48,7 @@ module _ (c : Content) (s : Sound c) where
     -- ---- lawful
 
     abbrev ours : ℕ → ℕ → Type 0
-    ours = Linked n (reducedLink (leads? c) n (c .tails) (c .heads))
+    ours = Linked n (reducedLink (connectionIn c) (c .tails) (c .heads))
 
     agreed-descent : (u v : ℕ) → Reaches (Linked n (x .link)) u v ↔ Leads c u v
     agreed-descent u v =

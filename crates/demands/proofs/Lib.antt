@@ -6,5 +6,6 @@ pub mod Answering
 pub mod Records
 pub mod Handing
 pub mod Marking
+pub mod Asking
 pub mod Unlined
 pub mod Demands

@@ -4,7 +4,7 @@ use Rattle.specification.specs.Layout.{layoutOf}
 use Rattle.specification.specs.declared.Fields.{Fields}
 use Rattle.specification.specs.declared.Layout.{Layout}
 use Rattle.specification.specs.declared.Layout.the-variants.{Good, Bad}
-use Rattle.specification.specs.Checks.{Content, SoundRecord, contentOf, contentIn, refusalIn, said}
+use Rattle.specification.specs.Checks.{Content, EndsKnown, SoundRecord, contentOf, contentIn, refusalIn, said}
 use Rattle.specification.specs.Drawn.{Drawn, chartRefusal, judged, recordDrawn, lent}
 use Rattle.specification.specs.declared.ChartCounts.{ChartCounts}
 use Rattle.record.proofs.Soundness.{record-sound}
@@ -23,6 +23,10 @@ module _ (b : List ℕ) where
   pub said-fields : (s : SoundRecord b) → said b ≡ contentOf b (s .0)
   unfolding said
   said-fields s = rw (eq-eqb _ _ (record-sound b .1 s)) (ap (contentIn b) (s .1))
+
+  -- and the ends of its edges are vertices
+  pub said-ends : SoundRecord b → EndsKnown (said b)
+  said-ends s = subst EndsKnown (sym (said-fields s)) (s .2 .ends)
 
   good-drawn : (f : Fields) → layoutOf b ≡ Good f → recordDrawn b ≡ judged (chartRefusal (contentOf b f)) (contentOf b f)
   unfolding recordDrawn

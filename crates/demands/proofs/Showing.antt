@@ -1,14 +1,18 @@
 -- Entries that are the definitions' lead where the graph does, and their polylines are clear and on the page. Assumes nothing.
-use Rattle.counting.proofs.Prelude.{_≡_, refl, ap, subst, _↔_, _≢_, ⊎-elim, true, List, ℕ, _<_, eqb, length, eqb-true, eqb-false}
+use Rattle.counting.proofs.Prelude.{_≡_, refl, sym, ap, _∙_, subst, _↔_, _≢_, ⊎-elim, true, true≢false, List, ℕ, suc, _<_, eqb, length}
+use Rattle.counting.proofs.Prelude.{eqb-true, eqb-false}
 use Rattle.counting.proofs.Truth.{true-or-false}
-use Rattle.specification.specs.Graph.{Reaches, edge?}
+use Rattle.specification.specs.Graph.{Reaches, Edge, edge?}
+use Rattle.specification.specs.Connection.{connectionNumber}
+use Rattle.specification.specs.declared.Connection.{Connection}
+use Rattle.specification.specs.Marks.{transitive?}
 use Rattle.specification.specs.Channels.{channelOf, positionOf}
-use Rattle.specification.specs.Checks.{Content, edgesOf, Leads, Sound}
+use Rattle.specification.specs.Checks.{Content, edgesOf, connectionIn, Leads, Sound}
 use Rattle.specification.specs.Bundles.{adjacent?}
 use Rattle.specification.specs.Geometry.{Point, Meets, gapWidth, trackAt, byTrack, courseOf}
 use Rattle.specification.specs.declared.Course.{Course}
-use Rattle.specification.specs.Chart.{tailOf, headOf, Plan, channelsOf, planOf, placeOf, crossing, kindBetween, vertexEntry, edgeEntry}
-use Rattle.specification.specs.Chart.{bundleEntry, pointAt, polylineOf}
+use Rattle.specification.specs.Chart.{tailOf, headOf, transitiveEdge?, Plan, channelsOf, planOf, placeOf, crossing, kindBetween}
+use Rattle.specification.specs.Chart.{vertexEntry, edgeEntry, bundleEntry, pointAt, polylineOf}
 use Rattle.specification.specs.declared.Kind.{Kind}
 use Rattle.specification.specs.declared.Kind.the-variants.{Path, PathTransitive, Straight, Bent}
 use Rattle.specification.specs.declared.VertexEntry.{VertexEntry}
@@ -20,8 +24,13 @@ use Rattle.chart_laws.proofs.Bundling.{side-edge, side-bundle}
 use Rattle.chart_laws.proofs.EdgeKinds.{kind-path, kind-side, kind-cross}
 use Rattle.chart_laws.proofs.Marks.{marked-longer, chart-reduced}
 use Rattle.chart_laws.proofs.Clearing.{chart-clear}
+use Rattle.chart_laws.proofs.Bundling.{plan-channels}
+use Rattle.chart_laws.proofs.Neighbours.{neighbours-led, neighbours-apart}
+use Rattle.reach.proofs.Connecting.{unled-number, both-number}
+use Rattle.record.proofs.Soundness.{sound-means}
+use Rattle.demands.specs.Leading.{how}
 use Rattle.chart_laws.proofs.Paging.{chart-on-page}
-use Rattle.demands.specs.Demands.{Entries, entriesOf, Firm, placeIn, lineIn, Faithful}
+use Rattle.demands.specs.Demands.{Entries, entriesOf, Firm, placeIn, lineIn, Follows, Faithful}
 use Rattle.demands.proofs.Agreeing.{Shown, mark, firm-reduced, reduced-firm}
 
 -- a kind's bundle, if it has one, is of the first k
@@ -88,9 +97,39 @@ module _ (c : Content) (s : Sound c) where
     unfolding vertexEntry
     place-same v l = ap pointAt (h .vertex v l)
 
+    -- the channel and the position of a vertex
+    channel-same : (v : ℕ) → v < c .vertices → n .vertex v .channel ≡ channelOf ls v
+    unfolding vertexEntry
+    channel-same v l = ap (λ (x : VertexEntry). x .channel) (h .vertex v l) ∙ ap (λ y. channelOf y v) (plan-channels c s)
+
+    position-same : (v : ℕ) → v < c .vertices → n .vertex v .position ≡ positionOf ls v
+    unfolding vertexEntry
+    position-same v l = ap (λ (x : VertexEntry). x .position) (h .vertex v l) ∙ ap (λ y. positionOf y v) (plan-channels c s)
+
+    module _ (u v : ℕ) (hu : u < c .vertices) (hv : v < c .vertices) (f : Follows n u v) where
+      together : channelOf ls u ≡ channelOf ls v
+      together = sym (channel-same u hu) ∙ f .0 ∙ channel-same v hv
+
+      next : positionOf ls v ≡ suc (positionOf ls u)
+      next = sym (position-same v hv) ∙ f .1 ∙ ap suc (position-same u hu)
+
+      shown-led : how c u v ≢ 0
+      shown-led z = true≢false (sym (neighbours-led c s u v hu hv together next) ∙ unled-number (connectionIn c u v) .1 z)
+
+      shown-apart : (Edge (c .tails) (c .heads) u v → ⊥) → how c u v ≡ 2
+      shown-apart none = ap (λ (a : Connection). connectionNumber a) (neighbours-apart c s u v hu hv together next none)
+
+    shown-both : (e : ℕ) → e < edgesOf c → (n .edge e .transitive ≡ true) ↔ (how c (tailOf c e) (headOf c e) ≡ 3)
+    unfolding transitiveEdge? transitive?
+    shown-both e l = rw (mark c s n h e l) (both-number (connectionIn c (tailOf c e) (headOf c e)))
+
     pub shown-faithful : Faithful c n
     shown-faithful = record {
       marked = λ e l. rw (mark c s n h e l) (marked-longer c s e l);
+      both = shown-both;
+      answers = sound-means c s;
+      led = shown-led;
+      apart = shown-apart;
       descent = shown-descent;
       clear = λ e l. record {
         clear = λ w hw nu nv m.

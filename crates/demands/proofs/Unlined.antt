@@ -4,8 +4,8 @@ use Rattle.counting.proofs.Prelude.{_≡_, refl, sym, ap, _∙_, subst, _↔_, 
 use mathlib.Core.List.{map, flatten}
 use Rattle.specification.specs.Count.{choose}
 use Rattle.specification.specs.Channels.{linesOf, givenLines, every, unknown?, repeats?, broken?}
-use Rattle.specification.specs.Checks.{Content, content, edgesOf, size?, stranger?, double?, ring?, repeated?, unled?, looseChecks}
-use Rattle.specification.specs.Checks.{laterChecks, firstOf, contentOf, contentIn, refusalIn, nothing}
+use Rattle.specification.specs.Checks.{Content, content, edgesOf, connectionIn, size?, stranger?, double?, ring?, repeated?, unled?}
+use Rattle.specification.specs.Checks.{looseChecks, laterChecks, firstOf, contentOf, contentIn, refusalIn, nothing}
 use Rattle.specification.specs.declared.Layout.{Layout}
 use Rattle.specification.specs.Writing.{Draft, lineBytes, channelField, field, written, Writable, fieldsOf}
 use Rattle.specification.specs.Chart.{leads?, descendantsOf, rowOf, rowCount, transitiveEdge?, reducedEdges, Plan, channelsOf, bundled}
@@ -35,7 +35,7 @@ module _ (n : ℕ) (tails heads : List ℕ) (g h : Bool) (f k : List ℕ) (same 
 
   module _ (ws es bs : List ℕ) (r : ChartCounts) (ws′ es′ bs′ : List ℕ) where
     numbered-same : (p : Plan) → Numbered c p ws es bs r ws′ es′ bs′ → Numbered d p ws es bs r ws′ es′ bs′
-    unfolding leads? descendantsOf rowOf rowCount transitiveEdge? reducedEdges kindBetween vertexEntry edgeEntry
+    unfolding leads? connectionIn descendantsOf rowOf rowCount transitiveEdge? reducedEdges kindBetween vertexEntry edgeEntry
     numbered-same p a = record {
       summary = record {
         words = a .summary .words;

@@ -1,21 +1,22 @@
 -- The demands on a chart, as statements (SPECIFICATION.md, 10 and 15): `Faithful` for 15.3, `Smallest` for 10.5, `Carried` for 10.4.
 -- proofs/Demands.antt proves them of the definitions' chart and of what every call leaves. Assumes nothing.
 use mathlib.Core.Path.{_≡_}
-use mathlib.Core.Logic.{_↔_}
+use mathlib.Core.Logic.{_≢_, _↔_}
 use mathlib.Core.Bool.{Bool, true, false, not, _&&_}
 use mathlib.Core.List.{List, []}
-use Prim.Native.Nat.{ℕ, _≤_, _<_}
+use Prim.Native.Nat.{ℕ, suc, _≤_, _<_}
 use lib.Dec.{eqb}
 use lib.ListN.{length, getD}
 use Rattle.specification.specs.Count.{some}
 use Rattle.specification.specs.Graph.{Reaches, Longer, Edge}
 use Rattle.specification.specs.Channels.{channelOf}
 use Rattle.specification.specs.Given.{Whole}
-use Rattle.specification.specs.Checks.{Content, edgesOf, givenOf, Leads}
+use Rattle.specification.specs.Checks.{Content, edgesOf, givenOf, connectionIn, Leads}
+use Rattle.specification.specs.Connection.{Means}
 use Rattle.specification.specs.Writing.{Draft}
 use Rattle.specification.specs.Marks.{reducedLink}
 use Rattle.specification.specs.Geometry.{Point, Clear}
-use Rattle.specification.specs.Chart.{leads?, tailOf, headOf, rowOf, channelsOf, planOf, bundleIn, trackIn, vertexEntry, edgeEntry}
+use Rattle.specification.specs.Chart.{tailOf, headOf, rowOf, channelsOf, planOf, bundleIn, trackIn, vertexEntry, edgeEntry}
 use Rattle.specification.specs.Chart.{bundleEntry, pointAt, polylineOf, OnPage}
 use Rattle.specification.specs.declared.Kind.the-variants.{Path}
 use Rattle.specification.specs.declared.VertexEntry.{VertexEntry}
@@ -23,6 +24,7 @@ use Rattle.specification.specs.declared.EdgeEntry.{EdgeEntry}
 use Rattle.specification.specs.declared.BundleEntry.{BundleEntry}
 use Rattle.specification.specs.Lawful.{Chart, Lawful, rowsOf, linksOf, sideColumns, SameLines, SameRows, SameBundles}
 use Rattle.specification.specs.declared.ChartCounts.{ChartCounts}
+use Rattle.demands.specs.Leading.{how}
 
 -- ---- what is handed over
 
@@ -52,7 +54,7 @@ oursOf c = record {
   row = rowOf c;
   parts = length (channelsOf c);
   part = channelOf (channelsOf c);
-  link = reducedLink (leads? c) (c .vertices) (c .tails) (c .heads);
+  link = reducedLink (connectionIn c) (c .tails) (c .heads);
   bundles = length (planOf c .bundles);
   line = λ b. bundleIn (planOf c) b .channel;
   first = λ b. bundleIn (planOf c) b .first;
@@ -91,10 +93,23 @@ placeIn entries v = pointAt (entries .vertex v)
 abbrev pub lineIn : Content → Entries → ℕ → List Point
 lineIn c entries e = polylineOf (entries .vertex (tailOf c e)) (entries .vertex (headOf c e)) (entries .edge e .kind) (entries .bundle)
 
+-- v stands next after u in their channel
+abbrev pub Follows : Entries → ℕ → ℕ → Type 0
+Follows entries u v =
+    (entries .vertex u .channel ≡ entries .vertex v .channel) × (entries .vertex v .position ≡ suc (entries .vertex u .position))
+
 pub record Faithful (c : Content) (entries : Entries) : Type 0 where
   -- marked are the edges along which a longer route goes (5.1)
   pub marked : (e : ℕ) → e < edgesOf c → (entries .edge e .transitive ≡ true)
       ↔ Longer (Edge (c .tails) (c .heads)) (tailOf c e) (headOf c e)
+  -- and so exactly those whose ends, asked how one reaches the other, answer 'both' (5.1)
+  pub both : (e : ℕ) → e < edgesOf c → (entries .edge e .transitive ≡ true) ↔ (how c (tailOf c e) (headOf c e) ≡ 3)
+  -- every such answer means what its number says (2.4)
+  pub answers : (u v : ℕ) → Means (Edge (c .tails) (c .heads)) u v (how c u v)
+  -- neighbours in a channel (line), given or planned, never answer 'not at all'; and 'by longer routes only' where no edge goes from one
+  -- to the next (15.5)
+  pub led : (u v : ℕ) → u < c .vertices → v < c .vertices → Follows entries u v → how c u v ≢ 0
+  pub apart : (u v : ℕ) → u < c .vertices → v < c .vertices → Follows entries u v → (Edge (c .tails) (c .heads) u v → ⊥) → how c u v ≡ 2
   -- reduced edges have the reachability of all edges (15.3)
   pub descent : (u v : ℕ) → Reaches (Firm c entries) u v ↔ Leads c u v
   -- an edge's line passes through no vertex but its two ends (15.3)

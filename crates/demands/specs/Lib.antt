@@ -1,3 +1,4 @@
+pub mod Leading
 pub mod Demands
 pub mod Numbers
 pub mod Refusals

@@ -8,11 +8,12 @@ use Rattle.specification.specs.Limits.{mostVertices, mostChannels}
 use Rattle.specification.specs.Layout.{layoutOf}
 use Rattle.specification.specs.declared.Fields.{Fields}
 use Rattle.specification.specs.declared.Layout.the-variants.{Good}
-use Rattle.specification.specs.Checks.{Content, contentOf, Sized, EndsKnown, GivenKnown, Distinct, Acyclic, Once, Led, Sound}
+use Rattle.specification.specs.Checks.{Content, contentOf, Sized, EndsKnown, GivenKnown, Distinct, Acyclic, Once, Sound}
 use Rattle.specification.specs.Checks.{givenOf}
 use Rattle.specification.specs.Lawful.{Divided}
 use Rattle.specification.specs.Given.{Whole}
 use Rattle.specification.specs.declared.ChartCounts.{ChartCounts}
+use Rattle.demands.specs.Leading.{Unled}
 
 -- not 3, of edges and of given channels
 abbrev pub Known : Content → Type 0
@@ -27,7 +28,7 @@ pub data Fails (c : Content) : ℕ → Type 0 where
   double : Sized c → Known c → (Distinct c → ⊥) → Fails c 4
   ring : Sized c → Known c → Distinct c → (Acyclic c → ⊥) → Fails c 5
   cover : Sized c → Known c → Distinct c → Acyclic c → (Once c → ⊥) → Fails c 6
-  broken : Sized c → Known c → Distinct c → Acyclic c → Once c → (Led c → ⊥) → Fails c 7
+  broken : Sized c → Known c → Distinct c → Acyclic c → Once c → Unled c → Fails c 7
 
 -- 11: every division of the graph that has its given channels whole has more parts than a chart may have lines. A part may be empty, which
 -- makes no difference

@@ -9,10 +9,11 @@ use Rattle.counting.proofs.Deciding.{eq-decided, or-decided, and-decided}
 use Rattle.counting.proofs.Sizes.{sized, none-unsized, many-unsized, size-taken, size-refused}
 use Rattle.specification.specs.Graph.{Reaches, sizeRefusal}
 use Rattle.specification.specs.Graph.Reaches.{one, more}
+use Rattle.specification.specs.declared.Connection.{Connection}
 use Rattle.reach.proofs.Decide.{reaches-decided}
 use Rattle.reach.proofs.Extending.{Extends, Across, extended, stays-acyclic}
 use Rattle.specification.specs.Machine.{Edge, Graph, Call, Answer, Turn, contains, In, unknown?, reached?, cyclic?, full?, verdict, refusal}
-use Rattle.specification.specs.Machine.{insert, change, reply, step, run, empty, startVertices, fresh, Distinct, Lawful}
+use Rattle.specification.specs.Machine.{connected, insert, change, reply, step, run, empty, startVertices, fresh, Distinct, Lawful}
 use Rattle.specification.specs.Machine.Edge.{edge}
 
 -- ---- the first test that holds
@@ -142,10 +143,10 @@ unfolding change
 change-kept g h zero e = absurd (e refl)
 change-kept g h (suc k) e = refl
 
-reply-kept : (g : Graph) (o b : Bool) → reply g o b .graph ≡ g
+reply-kept : (g : Graph) (o : Bool) (a : Connection) → reply g o a .graph ≡ g
 unfolding reply
-reply-kept g true b = refl
-reply-kept g false b = refl
+reply-kept g true a = refl
+reply-kept g false a = refl
 
 pub add-made : (g : Graph) (u v : ℕ) → refusal g u v ≡ 0 → step g (Call.add u v) .graph ≡ insert g u v
 unfolding step
@@ -157,7 +158,7 @@ add-kept g u v e = change-kept g (insert g u v) (refusal g u v) e
 
 pub leads-kept : (g : Graph) (u v : ℕ) → step g (Call.leads u v) .graph ≡ g
 unfolding step
-leads-kept g u v = reply-kept g (unknown? g u v) (reached? g u v)
+leads-kept g u v = reply-kept g (unknown? g u v) (connected g u v)
 
 zero-or : (k : ℕ) → (k ≡ 0) ⊎ (k ≢ 0)
 zero-or zero = inl refl

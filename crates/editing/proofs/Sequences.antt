@@ -4,13 +4,15 @@ use Rattle.editing.specs.declared.Session.{Session}
 use Rattle.editing.specs.declared.Changed.{Changed}
 use Rattle.specification.specs.Machine.{Graph, Call, Answer, step, run, answers, empty, startVertices, fresh}
 use Rattle.specification.specs.Graph.{sizeRefusal}
-use Rattle.editing.specs.Promise.{Represents, StartPromise}
-use Rattle.editing.specs.Meaning.{Exact}
+use Rattle.specification.specs.Connection.{connectionNumber}
+use Rattle.specification.specs.declared.Reply.{Reply}
+use Rattle.editing.specs.Promise.{Represents, StartPromise, LeadsPromise}
+use Rattle.editing.specs.Meaning.{Exact, Asks}
 use Rattle.editing.specs.Histories.{Performed, History, Follows}
 use Rattle.editing.specs.Histories.Performed.{adds, asks}
 use Rattle.editing.specs.Histories.History.{done, next}
 use Rattle.editing.proofs.Machines.{leads-kept, run-lawful, fresh-lawful, refusedThree, nothing-known}
-use Rattle.editing.proofs.Meaning.{exact}
+use Rattle.editing.proofs.Meaning.{exact, leads-asks}
 
 -- one call: the answer is the machine's, and the session represents the graph that it leaves
 performed : (g : Graph) {s t : Session} {c : Call} {a : Answer} → Represents g s → Performed s c a t
@@ -29,6 +31,12 @@ follows g r (next {c = c} p h) =
 pub every-list : (n : ℕ) (r : Changed) → StartPromise n r → {cs : List Call} {out : List Answer} {z : Session}
     → History (r .session) cs out z → Follows (fresh n) cs out z
 every-list n r p h = follows (fresh n) (p .holds) h
+
+-- HOW ONE VERTEX REACHES ANOTHER: whatever the calls were, the last session answers `leads` by what the machine's edges say, one of four
+pub every-answer : (n : ℕ) (r : Changed) → StartPromise n r → {cs : List Call} {out : List Answer} {z : Session}
+    → History (r .session) cs out z → (u v : ℕ) (a : Reply) → LeadsPromise z u v a
+    → Asks (run (fresh n) cs) u v (a .refusal) (connectionNumber (a .connection))
+every-answer n r p h u v a = leads-asks _ _ (every-list n r p h .holds) u v a
 
 -- WHAT THE ANSWERS SAY: of every graph that the machine comes to, after any start and any calls
 pub every-graph : (n : ℕ) (cs : List Call) → Exact (run (fresh n) cs)

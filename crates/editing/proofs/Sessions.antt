@@ -1,22 +1,27 @@
 -- A session and the graph that it represents: the tests, the answers, and that an edge more keeps it so. Assumes nothing.
-use Rattle.counting.proofs.Prelude.{_≡_, refl, sym, ap, ap₂, _∙_, subst, _≢_, ⊎-elim, Bool, true, false, _∷_, ℕ, zero, suc, _≤_, _<_, min}
-use Rattle.counting.proofs.Prelude.{arith, eqb, leb, length, replicate, eq-eqb, le-leb, lt-leb}
+use Rattle.counting.proofs.Prelude.{_≡_, refl, sym, ap, ap₂, _∙_, subst, _≢_, ⊎-elim, Bool, true, false, _&&_, _∷_, ℕ, zero, suc, _≤_, _<_}
+use Rattle.counting.proofs.Prelude.{min, arith, eqb, leb, length, replicate, eq-eqb, le-leb, lt-leb}
 use native.Mathlib.Nat.{lt-of-lt-of-le}
 use native.Mathlib.Numerals.{add-one}
 use native.Mathlib.Decide.{ℕ-discrete}
 use Rattle.specification.specs.Count.{choose}
 use Rattle.specification.specs.Sets.{has?}
-use Rattle.counting.proofs.Truth.{or-left, or-right, same-truth}
+use Rattle.specification.specs.Asked.{replyBy}
+use Rattle.specification.specs.Connection.{connection, longer?, connects}
+use Rattle.specification.specs.declared.Connection.{Connection}
+use Rattle.specification.specs.declared.Connection.the-variants.{Unreached}
+use Rattle.counting.proofs.Somes.{some-found, some-which}
+use Rattle.counting.proofs.Truth.{and-intro, and-elim, or-left, or-right, same-truth}
 use Rattle.counting.proofs.Falsity.{not-true, neither}
 use Rattle.masks.proofs.Tables.{at-zeros, Put, put-law}
 use Rattle.reach.proofs.Extending.{Extends}
 use Rattle.editing.specs.declared.Session.{Session}
 use Rattle.specification.specs.Machine.{Graph, Call, Answer, contains, In, unknown?, reached?, cyclic?, full?, refusal, insert, change}
-use Rattle.specification.specs.Machine.{reply, step, empty, startVertices, fresh}
+use Rattle.specification.specs.Machine.{connected, reply, step, empty, startVertices, fresh}
 use Rattle.specification.specs.Machine.Edge.{edge}
 use Rattle.specification.specs.Graph.{sizeRefusal}
-use Rattle.editing.specs.Promise.{outside?, refusalOf, across?, Grown, blank, Represents, changeAnswer, replyAnswer, StartPromise}
-use Rattle.editing.specs.Promise.{AddPromise, LeadsPromise}
+use Rattle.editing.specs.Promise.{outside?, refusalOf, detour?, connectionOf, across?, Grown, blank, Represents, changeAnswer}
+use Rattle.editing.specs.Promise.{replyAnswer, StartPromise, AddPromise, LeadsPromise}
 use Rattle.editing.proofs.Machines.{verdict-unknown, known, reached-decided, insert-extends, Accepted, accepted, insert-lawful}
 use Rattle.editing.proofs.Machines.{insert-reached, add-made, add-kept, none-reached, empty-lawful}
 
@@ -37,7 +42,7 @@ inside s u v h k = neither (leb (min (s .vertices) 128) u) (leb (min (s .vertice
 -- ---- the session represents g: its tests and answers are the machine's
 
 module _ (g : Graph) (s : Session) (r : Represents g s) where
-  outside-same : (u v : ℕ) → outside? s u v ≡ unknown? g u v
+  pub outside-same : (u v : ℕ) → outside? s u v ≡ unknown? g u v
   unfolding outside? unknown?
   outside-same u v =
       let small = r .lawful .small in
@@ -45,7 +50,7 @@ module _ (g : Graph) (s : Session) (r : Represents g s) where
       let e : min (s .vertices) 128 ≡ g .vertices = omega arith in rw e
 
   -- both ends are vertices, so the tables have them
-  small-ends : (u v : ℕ) → unknown? g u v ≡ false → (u < 128) × (v < 128)
+  pub small-ends : (u v : ℕ) → unknown? g u v ≡ false → (u < 128) × (v < 128)
   small-ends u v e = let k = known g u v e in (lt-of-lt-of-le (k .0) (r .lawful .small), lt-of-lt-of-le (k .1) (r .lawful .small))
 
   refusal-same : (u v : ℕ) → refusalOf s u v ≡ refusal g u v
@@ -65,17 +70,37 @@ module _ (g : Graph) (s : Session) (r : Represents g s) where
   unfolding step
   add-answer u v k e = rw (e ∙ refusal-same u v) (change-answer (insert g u v) (refusal g u v))
 
+  -- by way of a vertex that the tables have, or of one of g
+  detour-same : (u v : ℕ) → u < 128 → v < 128 → detour? 2 (s .edges) (s .reach) u v ≡ longer? (contains (g .edges)) (g .vertices) u v
+  unfolding detour? longer? reached?
+  detour-same u v hu hv =
+      same-truth _ _
+      (λ e.
+      let p = some-which 128 (λ x. has? 2 (s .edges) u x && has? 2 (s .reach) x v) e in
+      let b = and-elim (has? 2 (s .edges) u (p .0)) (has? 2 (s .reach) (p .0) v) (p .2) in
+      let i : In (g .edges) u (p .0) = sym (r .edges u (p .0) hu (p .1)) ∙ b .0 in
+      some-found (g .vertices) _ (p .0) (r .lawful .within u (p .0) i .1) (and-intro _ _ i (sym (r .reach (p .0) v (p .1) hv) ∙ b .1)))
+      (λ e.
+      let p = some-which (g .vertices) (λ x. contains (g .edges) u x && reached? g x v) e in
+      let b = and-elim (contains (g .edges) u (p .0)) (reached? g (p .0) v) (p .2) in
+      let h = lt-of-lt-of-le (p .1) (r .lawful .small) in
+      some-found 128 _ (p .0) h (and-intro _ _ (r .edges u (p .0) hu h ∙ b .0) (r .reach (p .0) v h hv ∙ b .1)))
+
+  pub connection-same : (u v : ℕ) → u < 128 → v < 128 → connectionOf s u v ≡ connected g u v
+  unfolding connectionOf connected connects
+  connection-same u v hu hv = ap₂ connection (r .edges u v hu hv) (detour-same u v hu hv)
+
   leads-answer : (u v : ℕ)
-      → replyAnswer (choose (outside? s u v) (λ _. 3) (λ _. 0)) (choose (outside? s u v) (λ _. false) (λ _. has? 2 (s .reach) u v))
+      → replyAnswer (choose (outside? s u v) (λ _. 3) (λ _. 0)) (choose (outside? s u v) (λ _. Unreached) (λ _. connectionOf s u v))
       ≡ step g (Call.leads u v) .answer
   unfolding step reply replyAnswer
   leads-answer u v = rw (outside-same u v) (go (unknown? g u v) refl)
     where
       go : (b : Bool) → unknown? g u v ≡ b
-          → replyAnswer (choose b (λ _. 3) (λ _. 0)) (choose b (λ _. false) (λ _. has? 2 (s .reach) u v))
-          ≡ reply g b (reached? g u v) .answer
+          → replyAnswer (choose b (λ _. 3) (λ _. 0)) (choose b (λ _. Unreached) (λ _. connectionOf s u v))
+          ≡ reply g b (connected g u v) .answer
       go true e = refl
-      go false e = let h = small-ends u v e in ap Answer.told (r .reach u v (h .0) (h .1))
+      go false e = let h = small-ends u v e in ap Answer.told (connection-same u v (h .0) (h .1))
 
   -- ---- with an edge that is not refused
 
@@ -143,16 +168,16 @@ add-accepted s u v z size e q = record {
   holds = λ g r. let free = sym (e ∙ refusal-same g s r u v) in rw (add-made g u v free) (grown g s r u v free z q size);
 }
 
-leads-promise : (s : Session) (u v k : ℕ) (b : Bool) → k ≡ choose (outside? s u v) (λ _. 3) (λ _. 0)
-    → b ≡ choose (outside? s u v) (λ _. false) (λ _. has? 2 (s .reach) u v) → LeadsPromise s u v (record { refusal = k; reaches = b })
-leads-promise s u v k b p q = record { refusal = p; reaches = q; answer = λ g r. ap₂ replyAnswer p q ∙ leads-answer g s r u v }
+leads-promise : (s : Session) (u v k : ℕ) (a : Connection) → k ≡ choose (outside? s u v) (λ _. 3) (λ _. 0)
+    → a ≡ choose (outside? s u v) (λ _. Unreached) (λ _. connectionOf s u v) → LeadsPromise s u v (replyBy k a)
+leads-promise s u v k a p q = record { refusal = p; connection = q; answer = λ g r. ap₂ replyAnswer p q ∙ leads-answer g s r u v }
 
-pub leads-outside : (s : Session) (u v : ℕ) → outside? s u v ≡ true → LeadsPromise s u v (record { refusal = 3; reaches = false })
-leads-outside s u v e = leads-promise s u v 3 false (rw e) (rw e)
+pub leads-outside : (s : Session) (u v : ℕ) → outside? s u v ≡ true → LeadsPromise s u v (replyBy 3 Unreached)
+leads-outside s u v e = leads-promise s u v 3 Unreached (rw e) (rw e)
 
-pub leads-inside : (s : Session) (u v : ℕ) (b : Bool) → outside? s u v ≡ false → b ≡ has? 2 (s .reach) u v
-    → LeadsPromise s u v (record { refusal = 0; reaches = b })
-leads-inside s u v b e q = leads-promise s u v 0 b (rw e) (rw e q)
+pub leads-inside : (s : Session) (u v : ℕ) (a : Connection) → outside? s u v ≡ false → a ≡ connectionOf s u v
+    → LeadsPromise s u v (replyBy 0 a)
+leads-inside s u v a e q = leads-promise s u v 0 a (rw e) (rw e q)
 
 blank-represents : (n : ℕ) → n ≤ 128 → Represents (empty n) (blank n)
 unfolding empty contains has?

@@ -1,3 +1,4 @@
 pub mod Promise
 pub mod Meaning
 pub mod Histories
+pub mod Steps

@@ -1,11 +1,13 @@
 -- What the machine's answers say of its set of edges (SPECIFICATION.md, 11). Assumes nothing.
 use mathlib.Core.Path.{_≡_}
-use mathlib.Core.Logic.{_⊎_, _↔_}
-use mathlib.Core.Bool.{true, false}
+use mathlib.Core.Logic.{_≢_, _⊎_, _↔_}
 use mathlib.Core.List.{_∷_}
 use Prim.Native.Nat.{ℕ, _≤_, _<_}
 use lib.ListN.{length}
 use Rattle.specification.specs.Graph.{Reaches}
+use Rattle.specification.specs.Connection.{connectionNumber, Means}
+use Rattle.specification.specs.declared.Connection.{Connection}
+use Rattle.specification.specs.declared.Connection.the-variants.{Unreached}
 use Rattle.specification.specs.Limits.{mostEdges}
 use Rattle.specification.specs.Machine.{Graph, Call, Answer, In, refusal, step, Lawful}
 use Rattle.specification.specs.Machine.Edge.{edge}
@@ -26,10 +28,17 @@ pub data Why (g : Graph) (u v : ℕ) : ℕ → Type 0 where
 pub record Exact (g : Graph) : Type 0 where
   pub lawful : Lawful g
   pub unknown : (u v : ℕ) → (g .vertices ≤ u) ⊎ (g .vertices ≤ v) → step g (Call.leads u v) .answer ≡ Answer.refused 3
-  pub reached : (u v : ℕ) → u < g .vertices → v < g .vertices
-      → (step g (Call.leads u v) .answer ≡ Answer.told true) ↔ Reaches (In (g .edges)) u v
-  pub unreached : (u v : ℕ) → u < g .vertices → v < g .vertices
-      → (step g (Call.leads u v) .answer ≡ Answer.told false) ↔ (Reaches (In (g .edges)) u v → ⊥)
+  pub leads : (u v : ℕ) → u < g .vertices → v < g .vertices
+      → (a : Connection) × (step g (Call.leads u v) .answer ≡ Answer.told a) × Means (In (g .edges)) u v (connectionNumber a)
+  pub itself : (u : ℕ) → u < g .vertices → step g (Call.leads u u) .answer ≡ Answer.told Unreached
   pub refusals : (u v : ℕ) → Why g u v (refusal g u v)
   pub added : (u v : ℕ) → step g (Call.add u v) .answer ≡ Answer.added
       → (x y : ℕ) → In (step g (Call.add u v) .graph .edges) x y ↔ (In (g .edges) x y ⊎ ((x ≡ u) × (y ≡ v)))
+
+-- of a session that has come to g, what a refusal k and the number a of an answer to `leads` say: it is answered exactly where both are
+-- vertices, a refusal is 3 and carries 0, and an answer means what its number says, which of a vertex and itself is 0
+pub record Asks (g : Graph) (u v k a : ℕ) : Type 0 where
+  pub known : (k ≡ 0) ↔ ((u < g .vertices) × (v < g .vertices))
+  pub unknown : k ≢ 0 → (k ≡ 3) × (a ≡ 0)
+  pub means : k ≡ 0 → Means (In (g .edges)) u v a
+  pub itself : u ≡ v → a ≡ 0

@@ -1,17 +1,20 @@
 -- What the calls promise: of any session value whatever, and of one that represents a graph of the machine. Assumes nothing.
 use mathlib.Core.Path.{_≡_}
 use mathlib.Core.Logic.{_≢_}
-use mathlib.Core.Bool.{Bool, false, _||_, _&&_}
+use mathlib.Core.Bool.{Bool, _||_, _&&_}
 use mathlib.Core.List.{List}
 use Prim.Native.Nat.{ℕ, zero, suc, _+_, _*_, _≤_, _<_, min}
 use lib.Dec.{eqb, leb}
 use lib.ListN.{length, replicate}
-use Rattle.specification.specs.Count.{choose}
+use Rattle.specification.specs.Count.{choose, some}
 use Rattle.specification.specs.Sets.{at, inserted, has?}
+use Rattle.specification.specs.Connection.{connection}
 use Rattle.specification.specs.Limits.{mostVertices, mostEdges, tableMasks, maskBits}
 use Rattle.editing.specs.declared.Session.{Session}
 use Rattle.editing.specs.declared.Changed.{Changed}
-use Rattle.editing.specs.declared.Reply.{Reply}
+use Rattle.specification.specs.declared.Connection.{Connection}
+use Rattle.specification.specs.declared.Connection.the-variants.{Unreached}
+use Rattle.specification.specs.declared.Reply.{Reply}
 use Rattle.specification.specs.Machine.{Graph, Call, Answer, contains, reached?, verdict, refusal, step, startVertices, fresh, Lawful}
 use Rattle.specification.specs.Graph.{sizeRefusal}
 use Rattle.specification.specs.Lent.{Untouched}
@@ -25,6 +28,14 @@ outside? s u v = leb (min (s .vertices) mostVertices) u || leb (min (s .vertices
 -- why the edge from u to v is refused, or 0
 unfoldable pub refusalOf : Session → ℕ → ℕ → ℕ
 refusalOf s u v = verdict (outside? s u v) (has? 2 (s .edges) u v) (eqb v u || has? 2 (s .reach) v u) (leb mostEdges (s .count))
+
+-- an edge goes from u to some x that has v
+unfoldable pub detour? : ℕ → List ℕ → List ℕ → ℕ → ℕ → Bool
+detour? w edges reach u v = some (w * maskBits) (λ x. has? w edges u x && has? w reach x v)
+
+-- how u reaches v
+unfoldable pub connectionOf : Session → ℕ → ℕ → Connection
+connectionOf s u v = connection (has? 2 (s .edges) u v) (detour? 2 (s .edges) (s .reach) u v)
 
 -- x is the tail or has it, and y is the head or the head has it
 unfoldable pub across? : ℕ → List ℕ → ℕ → ℕ → ℕ → ℕ → Bool
@@ -60,9 +71,9 @@ unfoldable pub changeAnswer : ℕ → Answer
 changeAnswer zero = Answer.added
 changeAnswer (suc k) = Answer.refused (suc k)
 
-unfoldable pub replyAnswer : ℕ → Bool → Answer
-replyAnswer zero b = Answer.told b
-replyAnswer (suc k) b = Answer.refused (suc k)
+unfoldable pub replyAnswer : ℕ → Connection → Answer
+replyAnswer zero a = Answer.told a
+replyAnswer (suc k) a = Answer.refused (suc k)
 
 -- ---- the calls
 
@@ -80,5 +91,5 @@ pub record AddPromise (s : Session) (u v : ℕ) (r : Changed) : Type 0 where
 
 pub record LeadsPromise (s : Session) (u v : ℕ) (r : Reply) : Type 0 where
   pub refusal : r .refusal ≡ choose (outside? s u v) (λ _. 3) (λ _. 0)
-  pub reaches : r .reaches ≡ choose (outside? s u v) (λ _. false) (λ _. has? 2 (s .reach) u v)
-  pub answer : (g : Graph) → Represents g s → replyAnswer (r .refusal) (r .reaches) ≡ step g (Call.leads u v) .answer
+  pub connection : r .connection ≡ choose (outside? s u v) (λ _. Unreached) (λ _. connectionOf s u v)
+  pub answer : (g : Graph) → Represents g s → replyAnswer (r .refusal) (r .connection) ≡ step g (Call.leads u v) .answer

@@ -2,11 +2,14 @@
 // takes it and hands one back. A table has two masks of 64 bits a vertex: bit v mod 64 of mask 2 u + v / 64 says that v is in the set of u.
 ghost use mathlib.Core.Path.{_≡_};
 ghost use mathlib.Core.Bool.{_||_};
-ghost use Prim.Native.Nat.{_<_, min};
+ghost use Prim.Native.Nat.{_≤_, _<_, min};
 ghost use lib.Dec.{eqb};
 ghost use lib.ListN.{length};
 ghost use Rattle.specification.specs.Sets.{has?};
-ghost use Rattle.editing.specs.Promise.{blank, refusalOf, Linked, StartPromise, AddPromise, LeadsPromise};
+ghost use Rattle.editing.specs.Steps.{passing?};
+ghost use Rattle.editing.specs.Promise.{blank, refusalOf, detour?, Linked, StartPromise, AddPromise, LeadsPromise};
+use specification::Connection;
+use specification::Reply;
 
 // The most vertices and edges of a graph.
 const MOST_VERTICES: usize = 128;
@@ -25,12 +28,6 @@ pub struct Session {
 pub struct Changed {
     pub refusal: u8,
     pub session: Session,
-}
-
-// The refusal, or 0, and whether one vertex reaches the other: false where the call is refused.
-pub struct Reply {
-    pub refusal: u8,
-    pub reaches: bool,
 }
 
 // As many vertices as a table has sets for.
@@ -66,6 +63,33 @@ fn link(reach: &mut [u64], tail: usize, head: usize)
             masks::unite(reach, 2 * u, &row);
         }
     }
+}
+
+// Whether a member of a mask, which begins at vertex `base`, has v.
+fn passes(reach: &[u64], mask: u64, base: usize, v: usize) -> bool
+    requires { ⌜ base ≤ 64 ⌝ }
+    ensures { λ r. ⌜ r ≡ passing? 2 (now (reach .entry)) mask base v ⌝ }
+{
+    let mut x = mask;
+    while x != 0 {
+        let w = base + u64::trailing_zeros(x) as usize;
+        if masks::contains(reach, 2 * w, v) {
+            return true;
+        }
+        x = x & (x - 1);
+    }
+    false
+}
+
+// Whether the tail reaches the head by two edges or more: an edge goes from it to a vertex that has the head. No table is kept of it.
+fn detour(edges: &[u64], reach: &[u64], tail: usize, head: usize) -> bool
+    requires { ⌜ tail < 128 ⌝ }
+    ensures { λ r. ⌜ r ≡ detour? 2 (now (edges .entry)) (now (reach .entry)) tail head ⌝ }
+{
+    if passes(reach, masks::mask_at(edges, 2 * tail, 0), 0, head) {
+        return true;
+    }
+    passes(reach, masks::mask_at(edges, 2 * tail, 1), 64, head)
 }
 
 // Why the edge is refused, or 0.
@@ -156,7 +180,7 @@ impl Session {
         }
     }
 
-    // Whether the tail reaches the head by one or more edges; 3 where one of them is no vertex.
+    // How the tail reaches the head; 3 where one of them is no vertex.
     pub fn leads(self, tail: usize, head: usize) -> Reply
         ensures { λ r. ⌜ LeadsPromise self tail head r ⌝ }
     {
@@ -164,19 +188,21 @@ impl Session {
         if n <= tail {
             return Reply {
                 refusal: 3,
-                reaches: false,
+                connection: Connection::Unreached,
             };
         }
         if n <= head {
             return Reply {
                 refusal: 3,
-                reaches: false,
+                connection: Connection::Unreached,
             };
         }
+        let edges = self.edges;
         let reach = self.reach;
+        let edge = masks::contains(&edges, 2 * tail, head);
         Reply {
             refusal: 0,
-            reaches: masks::contains(&reach, 2 * tail, head),
+            connection: reach::connected(edge, detour(&edges, &reach, tail, head)),
         }
     }
 }

@@ -6,3 +6,4 @@ pub mod Refusing
 pub mod Closures
 pub mod Extending
 pub mod Ends
+pub mod Connecting

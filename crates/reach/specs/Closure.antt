@@ -5,7 +5,9 @@ use mathlib.Core.List.{List}
 use Prim.Native.Nat.{ℕ, _<_, _*_}
 use Rattle.specification.specs.Limits.{mostVertices}
 use Rattle.specification.specs.Count.{count}
-use Rattle.specification.specs.Sets.{at}
+use Rattle.specification.specs.Sets.{at, has?}
+use Rattle.specification.specs.Connection.{connection}
+use Rattle.specification.specs.declared.Connection.{Connection}
 use Rattle.specification.specs.Graph.{Reachable, Adjacent, reachable?}
 
 -- two tables and a number a vertex
@@ -25,3 +27,7 @@ pub record Closure (n : ℕ) (tails heads : List ℕ) (r : Reachability) : Type 
 -- of x
 pub record Composed (w : ℕ) (t r : List ℕ) : Type 0 where
   pub bits : (u v : ℕ) → u < w * 64 → v < w * 64 → at w r u v ≡ 1 ↔ ((x : ℕ) × (x < w * 64) × (at w t u x ≡ 1) × (at w t x v ≡ 1))
+
+-- how u reaches v, by a table of edges and one of longer routes, of w masks a vertex each
+abbrev pub connectionBy : ℕ → List ℕ → List ℕ → ℕ → ℕ → Connection
+connectionBy w edges longer u v = connection (has? w edges u v) (has? w longer u v)

@@ -3,13 +3,15 @@ use Rattle.counting.proofs.Prelude.{_≡_, refl, sym, ap, _∙_, subst, _≢_, 
 use Rattle.counting.proofs.Prelude.{arith, leb, length, eq-eqb, ne-eqb}
 use Rattle.counting.proofs.Sizes.{size-taken, sized}
 use Rattle.specification.specs.Count.{choose}
-use Rattle.specification.specs.Graph.{outsized?, verdict, reachable?, tailsOf, headsOf, unsized?, sizeRefusal}
+use Rattle.specification.specs.Graph.{outsized?, verdict, edge?, tailsOf, headsOf, unsized?, sizeRefusal}
 use Rattle.specification.specs.Channels.{verticesOf, givenLines, unknown?}
 use Rattle.specification.specs.Checks.{content, refusalOf}
 use Rattle.specification.specs.Graph as edges
 use Rattle.counting.specs.Quads.{quad}
 use Rattle.reach.proofs.Refusing.{accepted-within}
-use Rattle.reach.proofs.Closures.{same-test}
+use Rattle.specification.specs.Connection.{connects}
+use Rattle.reach.specs.Closure.{connectionBy}
+use Rattle.reach.proofs.Connecting as connecting
 use Rattle.descent.specs.Promise.{Sized, edgesRefusal, Descended, Left, Descends}
 use Rattle.descent.specs.declared.Descent.{Descent}
 use Rattle.specification.specs.Sets.{has?}
@@ -92,18 +94,19 @@ module _ (n : ℕ) (ends : List ℕ) (given : Bool) (field e b t l p : List ℕ)
       of-size : unsized? n ≡ false
       of-size = sized n (nonempty n tails heads accepted) small
 
-      table-same : (u v : ℕ) → u < n → v < n → has? 2 t′ u v ≡ reachable? n tails heads u v
-      table-same u v hu hv =
-          same-test 2 n tails heads t′ (promised .made passed .closure .bits) u v (let k = small in omega arith)
-          (let k = small in omega arith)
+      answers-same : (u v : ℕ) → u < n → v < n → connectionBy 2 e′ l′ u v ≡ connects (edge? tails heads) n u v
+      answers-same u v hu hv =
+          let m = promised .made passed in
+          connecting.same-answer n tails heads accepted 2 e′ t′ l′ small (m .closure .edge-bits) (m .closure .bits) (m .longer) u v
+          (omega (arith, small)) (omega (arith, small))
 
     module _ (ch : Channels) (p′ : List ℕ)
-        (lined : Answers n (channelsRefusal n t′ given field) (channelsBy n t′ given field) p₁ ch p′) where
+        (lined : Answers n (channelsRefusal n e′ l′ given field) (channelsBy n t′ given field) p₁ ch p′) where
       room : Sized n e b t l p → 4 * min n 128 ≤ length p₁
       room s = omega (arith, promised .long .4, s .places)
 
-      answered : (g : Bool) → given ≡ g → Sized n e b t l p → channelsRefusal n t′ g field ≡ refusalOf (content n tails heads g field)
-      answered true h s = given-refusal n tails heads field (sound s) (has? 2 t′) (table-same s) (of-size s)
+      answered : (g : Bool) → given ≡ g → Sized n e b t l p → channelsRefusal n e′ l′ g field ≡ refusalOf (content n tails heads g field)
+      answered true h s = given-refusal n tails heads field (sound s) (connectionBy 2 e′ l′) (answers-same s) (of-size s)
       answered false h s = size-taken n (of-size s) ∙ sym (bare-refusal n tails heads field (sound s))
 
       same-answer : Sized n e b t l p → ch .refusal ≡ answer
@@ -175,15 +178,16 @@ module _ (n : ℕ) (ends : List ℕ) (given : Bool) (field e b t l p : List ℕ)
           channels-fail r ne (made ∙ simp (ne-eqb (ch .refusal) 0 ne))
 
     settles : (g : Bool) → given ≡ g → (ch : Channels) (p′ : List ℕ)
-        → Answers n (channelsRefusal n t′ g field) (channelsBy n t′ g field) p₁ ch p′
+        → Answers n (channelsRefusal n e′ l′ g field) (channelsBy n t′ g field) p₁ ch p′
         → (r : Checked) → r ≡ settledBy (d .used) ch → Checks n ends given field e b t l p r e′ b′ t′ l′ p′
     settles g q ch p′ lined =
         settled-when ch p′
-        (subst (λ (x : Bool). Answers n (channelsRefusal n t′ x field) (channelsBy n t′ x field) p₁ ch p′) (sym q) lined) (ch .refusal) refl
+        (subst (λ (x : Bool). Answers n (channelsRefusal n e′ l′ x field) (channelsBy n t′ x field) p₁ ch p′) (sym q) lined)
+        (ch .refusal) refl
 
     module _ (ch : Channels) (p′ : List ℕ) (r : Checked) (made : r ≡ settledBy (d .used) ch) where
-      -- channels are given, or planned, by what reaches what
-      pub given-settles : given ≡ true → Gives n t′ field p₁ ch p′ → Checks n ends given field e b t l p r e′ b′ t′ l′ p′
+      -- channels are given, and the others planned, by what reaches what
+      pub given-settles : given ≡ true → Gives n e′ l′ t′ field p₁ ch p′ → Checks n ends given field e b t l p r e′ b′ t′ l′ p′
       unfolding givenLines
       given-settles g a = settles true g ch p′ a r made
 

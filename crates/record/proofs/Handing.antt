@@ -1,44 +1,53 @@
--- What reading hands over, by what the checks of the record's parts say. Assumes nothing.
-use Rattle.counting.proofs.Prelude.{_≡_, refl, sym, ap, _∙_, subst, _≢_, _↔_, List, ℕ, _+_, _-_, _*_, _<_, arith, replicate, take, drop}
-use Rattle.specification.specs.Sets.{at}
-use Rattle.specification.specs.Graph.{Reachable, tailsOf, headsOf}
+-- What judging a record leaves, by what the checks of the record's parts say. Assumes nothing.
+use Rattle.counting.proofs.Prelude.{_≡_, sym, ap, _∙_, subst, _≢_, List, ℕ, _+_, _-_, _*_, arith, length, replicate, take, drop}
+use Rattle.specification.specs.Graph.{tailsOf, headsOf}
 use Rattle.specification.specs.declared.Fields.{Fields}
 use Rattle.specification.specs.declared.Layout.the-variants.{Good}
 use Rattle.specification.specs.Layout.{layoutOf}
-use Rattle.specification.specs.Checks.{Content, refusalOf, contentOf}
+use Rattle.specification.specs.Checks.{Content, content, refusalOf, contentOf, recordRefusal}
 use Rattle.descent.specs.Promise.{Sized}
 use Rattle.record.specs.declared.checks.Checked.{Checked}
-use Rattle.record.specs.declared.reading.Reading.{Reading}
+use Rattle.record.specs.declared.reading.Judged.{Judged}
 use Rattle.record.specs.Checked.{Checks}
-use Rattle.record.specs.Reading.{unreadBy, Reads}
-use Rattle.record.proofs.Readings.{good-refusal, parts-content, unread-reads, read-reads}
+use Rattle.record.specs.Steps.{Tabled, Judges}
+use Rattle.record.proofs.Readings.{good-refusal, accepted-says, parts-content, judged-refused}
 
--- arrays of the largest size have room for every graph
-fresh : (n : ℕ) → Sized n (replicate 256 0) (replicate 258 0) (replicate 256 0) (replicate 256 0) (replicate 512 0)
-fresh n = record { edges = omega arith; below = omega arith; table = omega arith; longer = omega arith; places = omega arith }
-
-module _ (b : List ℕ) (f : Fields) (good : layoutOf b ≡ Good f) (k : Checked) (e′ b′ t′ l′ p′ : List ℕ) where
+module _ (b : List ℕ) (f : Fields) (good : layoutOf b ≡ Good f) (k : Checked) (e t l e′ b′ t′ l′ p′ : List ℕ) where
   abbrev ends : List ℕ
   ends = take ((f .edges + 2 * f .count) - f .edges) (drop (f .edges) b)
 
   abbrev field : List ℕ
   field = take ((f .lines + f .size) - f .lines) (drop (f .lines) b)
 
-  module _
-      (p : Checks (f .vertices) ends (f .given) field (replicate 256 0) (replicate 258 0) (replicate 256 0) (replicate 256 0)
-      (replicate 512 0) k e′ b′ t′ l′ p′) where
-    answer : k .refusal ≡ refusalOf (contentOf b f)
-    answer = p .answer (fresh (f .vertices)) ∙ ap refusalOf (parts-content b f)
+  module _ (long : (length e ≡ 256) × (length l ≡ 256) × (length t ≡ 256))
+      (p : Checks (f .vertices) ends (f .given) field e (replicate 258 0) t l (replicate 512 0) k e′ b′ t′ l′ p′) where
+    -- lists of the largest size have room for every graph
+    room : (n : ℕ) → Sized n e (replicate 258 0) t l (replicate 512 0)
+    room n = record {
+      edges = omega (arith, long .0);
+      below = omega arith;
+      table = omega (arith, long .2);
+      longer = omega (arith, long .1);
+      places = omega arith;
+    }
 
-    pub read-refused : k .refusal ≢ 0 → (r : Reading) → r ≡ unreadBy (k .refusal) → Reads b r
-    read-refused ne r made = unread-reads b (k .refusal) r (good-refusal b f good ∙ sym answer) ne made
+    answer : k .refusal ≡ recordRefusal b
+    answer = p .answer (room (f .vertices)) ∙ ap refusalOf (parts-content b f) ∙ sym (good-refusal b f good)
 
-    pub read-passed : k .refusal ≡ 0 → (r : Reading) → r ≡ record { refusal = 0; vertices = f .vertices; table = t′ } → Reads b r
-    read-passed z r made =
-        let passes = p .passes z in
-        let bits : (u v : ℕ) → u < 128 → v < 128
-        → at 2 t′ u v ≡ 1 ↔ Reachable (f .vertices) (tailsOf ends) (headsOf ends) u v = passes .descended .closure .bits in
-        subst (Reads b) (sym made)
-        (read-reads b f (record { refusal = 0; vertices = f .vertices; table = t′ }) good (sym answer ∙ z) refl refl (p .long .2)
-        (subst (λ (c : Content). (u v : ℕ) → u < 128 → v < 128 → at 2 t′ u v ≡ 1 ↔ Reachable (c .vertices) (c .tails) (c .heads) u v)
-        (parts-content b f) bits))
+    pub judge-refused : k .refusal ≢ 0 → (r : Judged) → r .refusal ≡ k .refusal → r .vertices ≡ 0 → Judges b r e′ l′ t′
+    judge-refused ne r q n = judged-refused b r e′ l′ t′ (q ∙ answer) (λ z. ne (sym q ∙ z)) n (p .long .2 ∙ long .2)
+
+    pub judge-passed : k .refusal ≡ 0 → (r : Judged) → r .refusal ≡ 0 → r .vertices ≡ f .vertices → Judges b r e′ l′ t′
+    unfolding contentOf
+    judge-passed z r q n =
+        let ok : recordRefusal b ≡ 0 = sym answer ∙ z in
+        let says = accepted-says b f good ok in
+        let d = p .passes z .descended in
+        let tables : Tabled (content (f .vertices) (tailsOf ends) (headsOf ends) (f .given) field) e′ l′ t′ =
+        record { arcs = d .closure .edge-bits; bits = d .closure .bits; longer = d .longer } in
+        record {
+          answer = q ∙ sym ok;
+          vertices = n ∙ sym (ap (λ (c : Content). c .vertices) says);
+          long = p .long .2 ∙ long .2;
+          tables = λ _. subst (λ (c : Content). Tabled c e′ l′ t′) (parts-content b f ∙ sym says) tables;
+        }

@@ -2,9 +2,11 @@
 use Rattle.counting.proofs.Prelude.{_≡_, refl, sym, ap, _∙_, _≢_, Bool, true, false, _&&_, _||_, List, ℕ, _≤_, _<_, arith, eqb, leb, le-leb}
 use Rattle.counting.proofs.Prelude.{lt-leb}
 use Rattle.specification.specs.Count.{choose, some}
-use Rattle.specification.specs.Graph.{edgeCount, outsized?, strange?, verdict, reachable?, duplicate?, unsized?}
+use Rattle.specification.specs.Graph.{edgeCount, outsized?, strange?, verdict, edge?, reachable?, duplicate?, unsized?}
+use Rattle.specification.specs.Connection.{connects}
+use Rattle.specification.specs.declared.Connection.{Connection}
 use Rattle.specification.specs.Channels.{linesOf, verticesOf, unknown?, repeats?, broken?}
-use Rattle.specification.specs.Checks.{Content, content, size?, stranger?, double?, ring?, repeated?, unled?, looseChecks}
+use Rattle.specification.specs.Checks.{Content, content, connectionIn, size?, stranger?, double?, ring?, repeated?, unled?, looseChecks}
 use Rattle.specification.specs.Checks.{laterChecks, firstOf, refusalOf}
 use Rattle.specification.specs.Graph as edges
 use Rattle.descent.specs.Promise.{edgesRefusal}
@@ -69,10 +71,10 @@ module _ (n : ℕ) (tails heads : List ℕ) (given : Bool) (field : List ℕ) wh
   y = some 128 (λ u. reachable? n tails heads u u)
 
   abbrev rest : ℕ
-  rest = lines given (repeats? (verticesOf field)) (broken? (reachable? n tails heads) (linesOf field))
+  rest = lines given (repeats? (verticesOf field)) (broken? (connects (edge? tails heads) n) (linesOf field))
 
   as-whole : refusalOf c ≡ whole o s (given && unknown? n (verticesOf field)) d y rest
-  unfolding refusalOf firstOf looseChecks laterChecks size? stranger? double? ring? repeated? unled? whole lines
+  unfolding refusalOf firstOf looseChecks laterChecks size? stranger? double? ring? repeated? unled? connectionIn whole lines
   as-whole = refl
 
   as-alone : edgesRefusal n tails heads ≡ alone o s d y
@@ -98,17 +100,17 @@ module _ (n : ℕ) (tails heads : List ℕ) (field : List ℕ) (passes : edgesRe
   unfolding lines
   bare-refusal = passed-edges n tails heads false field passes
 
-  -- channels are given, and checked by a relation that says what the graph says
-  pub given-refusal : (leads : ℕ → ℕ → Bool) → ((u v : ℕ) → u < n → v < n → leads u v ≡ reachable? n tails heads u v) → unsized? n ≡ false
-      → givenRefusal leads n field ≡ refusalOf (content n tails heads true field)
+  -- channels are given, and checked by answers that are the graph's
+  pub given-refusal : (ask : ℕ → ℕ → Connection) → ((u v : ℕ) → u < n → v < n → ask u v ≡ connects (edge? tails heads) n u v)
+      → unsized? n ≡ false → givenRefusal ask n field ≡ refusalOf (content n tails heads true field)
   unfolding givenRefusal lines
-  given-refusal leads same small =
-      given-same n leads (reachable? n tails heads) same field
+  given-refusal ask same small =
+      given-same n ask (connects (edge? tails heads) n) same field
       ∙ ap
       (λ (t : Bool). choose {A = ℕ} t (λ _. 2)
       (λ _. choose (unknown? n (verticesOf field)) (λ _. 3)
       (λ _. choose (repeats? (verticesOf field)) (λ _. 6)
-      (λ _. choose (broken? (reachable? n tails heads) (linesOf field)) (λ _. 7) (λ _. 0))))) small
+      (λ _. choose (broken? (connects (edge? tails heads) n) (linesOf field)) (λ _. 7) (λ _. 0))))) small
       ∙ sym (passed-edges n tails heads true field passes)
 
 -- ---- the same, case by case

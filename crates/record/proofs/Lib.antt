@@ -4,3 +4,4 @@ pub mod Soundness
 pub mod Accepted
 pub mod Checking
 pub mod Handing
+pub mod Asking

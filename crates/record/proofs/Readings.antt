@@ -10,7 +10,9 @@ use Rattle.specification.specs.Layout.{layoutOf}
 use Rattle.specification.specs.Checks.{Content, content, refusalOf, contentOf, nothing, refusalIn, recordRefusal, contentIn, said}
 use Rattle.masks.proofs.Tables.{at-zeros}
 use Rattle.record.specs.declared.reading.Reading.{Reading}
+use Rattle.record.specs.declared.reading.Judged.{Judged}
 use Rattle.record.specs.Reading.{unreadBy, Reads}
+use Rattle.record.specs.Steps.{Judges}
 
 pub refused-says : (b : List ℕ) → (recordRefusal b ≡ 0 → ⊥) → said b ≡ nothing
 unfolding said
@@ -65,20 +67,26 @@ unread-reads b k r e ne q =
       none = λ h. refl;
     })
 
-pub read-reads : (b : List ℕ) (f : Fields) (r : Reading) → layoutOf b ≡ Good f → refusalOf (contentOf b f) ≡ 0 → r .refusal ≡ 0
-    → r .vertices ≡ f .vertices → length (r .table) ≡ 256
-    → ((u v : ℕ) → u < 128 → v < 128 → at 2 (r .table) u v ≡ 1
-    ↔ Reachable (contentOf b f .vertices) (contentOf b f .tails) (contentOf b f .heads) u v) → Reads b r
-unfolding contentOf
-read-reads b f r e z a n l bits =
-    let ok : recordRefusal b ≡ 0 = good-refusal b f e ∙ z in
-    let says = accepted-says b f e ok in
-    record {
-      answer = a ∙ sym ok;
-      vertices = n ∙ sym (ap (λ (c : Content). c .vertices) says);
-      masks = l;
-      bits =
-          subst (λ (c : Content). (u v : ℕ) → u < 128 → v < 128
-          → at 2 (r .table) u v ≡ 1 ↔ Reachable (c .vertices) (c .tails) (c .heads) u v) (sym says) bits;
-      none = λ h. absurd (h a);
-    }
+-- ---- what a record that is refused leaves, and one that is not
+
+pub judged-refused : (b : List ℕ) (r : Judged) (e l t : List ℕ) → r .refusal ≡ recordRefusal b → r .refusal ≢ 0 → r .vertices ≡ 0
+    → length t ≡ 256 → Judges b r e l t
+judged-refused b r e l t a ne n long = record {
+  answer = a;
+  vertices = n ∙ sym (ap (λ (c : Content). c .vertices) (refused-says b (λ z. ne (a ∙ z))));
+  long = long;
+  tables = λ z. absurd (ne z);
+}
+
+module _ (b : List ℕ) (j : Judged) (e l t : List ℕ) (judges : Judges b j e l t) (r : Reading) where
+  pub read-refused : j .refusal ≢ 0 → r ≡ unreadBy (j .refusal) → Reads b r
+  read-refused ne q = unread-reads b (j .refusal) r (sym (judges .answer)) ne q
+
+  pub read-passed : j .refusal ≡ 0 → r ≡ record { refusal = 0; vertices = j .vertices; table = t } → Reads b r
+  read-passed z q = subst (Reads b) (sym q) (record {
+    answer = sym z ∙ judges .answer;
+    vertices = judges .vertices;
+    masks = judges .long;
+    bits = judges .tables z .bits;
+    none = λ h. absurd (h refl);
+  })

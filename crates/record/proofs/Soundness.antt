@@ -1,13 +1,14 @@
 -- The sound records are accepted, and no others. Assumes nothing.
-use Rattle.counting.proofs.Prelude.{_≡_, refl, sym, ap, _∙_, subst, _↔_, _⊎_, ⊎-elim, _≢_, Bool, true, false, true≢false, not, _&&_, _||_}
+use Rattle.counting.proofs.Prelude.{_≡_, refl, sym, ap, _∙_, subst, _↔_, _⊎_, ⊎-elim, _≢_, Bool, true, false, true≢false, not, _&&_}
 use Rattle.counting.proofs.Prelude.{List, [], _∷_, ℕ, zero, suc, _≤_, _<_, arith, eqb, leb, length, getD, eq-eqb, eqb-true, le-ltb, lt-leb}
 use Rattle.counting.proofs.Prelude.{leb-false}
 use Rattle.specification.specs.Count.{choose, some}
-use Rattle.specification.specs.Channels.{times, linked, every, allLinked, linesOf, verticesOf, unknown?, repeats?, broken?}
+use Rattle.specification.specs.Channels.{times, linked, every, allLinked, linesOf, verticesOf, unknown?, broken?}
 use Rattle.specification.specs.Graph.{Edge, outsized?, strange?, verdict, refusal, reachable?, alike?, duplicate?}
-use Rattle.specification.specs.Checks.{Content, edgesOf, size?, stranger?, double?, ring?, repeated?, unled?, looseChecks}
-use Rattle.specification.specs.Checks.{laterChecks, firstOf, refusalOf, contentOf, refusalIn, recordRefusal, Sized, EndsKnown, GivenKnown}
-use Rattle.specification.specs.Checks.{Distinct, Acyclic, Once, Led, Sound, SoundRecord}
+use Rattle.specification.specs.Checks.{Content, edgesOf, connectionIn, size?, stranger?, double?, ring?, repeated?, unled?, looseChecks}
+use Rattle.specification.specs.Checks.{laterChecks, firstOf, refusalOf, contentOf, refusalIn, recordRefusal, givenLine, Sized}
+use Rattle.specification.specs.Checks.{EndsKnown, GivenKnown, Distinct, Acyclic, Leads, Once, Led, Sound, SoundRecord}
+use Rattle.specification.specs.Connection.{connectionNumber, leading?, Means}
 use Rattle.specification.specs.declared.Layout.{Layout}
 use Rattle.specification.specs.declared.Layout.the-variants.{Good, Bad}
 use Rattle.specification.specs.Layout.{layoutOf}
@@ -17,6 +18,7 @@ use Rattle.counting.proofs.Somes.{some-found, some-none}
 use Rattle.matching.proofs.Lists.{within-head, within-tail}
 use Rattle.reach.proofs.Decide.{reachable-decided}
 use Rattle.reach.proofs.Routes.{begins-below}
+use Rattle.reach.proofs.Connecting.{graph-means, means-leading}
 use Rattle.channels.proofs.Checks.{unknown-within, repeats-once, once-repeats, broken-linked}
 use Rattle.record.specs.declared.reading.Reading.{Reading}
 use Rattle.record.specs.Reading.{Reads}
@@ -121,6 +123,22 @@ module _ (f : ℕ → ℕ → Bool) where
   linked-led (x ∷ y ∷ l) e zero h = and-elim (f x y) (linked f (y ∷ l)) e .0
   linked-led (x ∷ y ∷ l) e (suc j) h = linked-led (y ∷ l) (and-elim (f x y) (linked f (y ∷ l)) e .1) j (omega arith)
 
+  -- or else some vertex is not
+  linked-lacks : (l : List ℕ) → linked f l ≡ false
+      → (j : ℕ) × (suc j < length l) × (f (getD l j 0) (getD l (suc j) 0) ≡ false)
+  unfolding linked
+  linked-lacks [] e = absurd (true≢false e)
+  linked-lacks (x ∷ []) e = absurd (true≢false e)
+  linked-lacks (x ∷ y ∷ l) e = go (f x y) refl (linked-lacks (y ∷ l))
+    where
+      go : (b : Bool) → f x y ≡ b
+          → (linked f (y ∷ l) ≡ false → (j : ℕ) × (suc j < length (y ∷ l)) × (f (getD (y ∷ l) j 0) (getD (y ∷ l) (suc j) 0) ≡ false))
+          → (j : ℕ) × (suc j < length (x ∷ y ∷ l)) × (f (getD (x ∷ y ∷ l) j 0) (getD (x ∷ y ∷ l) (suc j) 0) ≡ false)
+      go true p again =
+          let r = again (ap (λ (b : Bool). b && linked f (y ∷ l)) (sym p) ∙ e) in
+          (suc (r .0), (let h = r .1 in omega arith), r .2)
+      go false p again = (0, omega arith, p)
+
   led-linked : (l : List ℕ) → ((j : ℕ) → suc j < length l → f (getD l j 0) (getD l (suc j) 0) ≡ true) → linked f l ≡ true
   unfolding linked
   led-linked [] h = refl
@@ -133,6 +151,20 @@ module _ (f : ℕ → ℕ → Bool) where
   all-led [] e k j h = absurd (omega arith)
   all-led (l ∷ ls) e zero j h = linked-led l (and-elim (linked f l) (every (linked f) ls) e .0) j h
   all-led (l ∷ ls) e (suc k) j h = all-led ls (and-elim (linked f l) (every (linked f) ls) e .1) k j h
+
+  all-lacks : (ls : List (List ℕ)) → allLinked f ls ≡ false
+      → (k j : ℕ) × (suc j < length (getD ls k [])) × (f (getD (getD ls k []) j 0) (getD (getD ls k []) (suc j) 0) ≡ false)
+  unfolding every
+  all-lacks [] e = absurd (true≢false e)
+  all-lacks (l ∷ ls) e = go (linked f l) refl (all-lacks ls)
+    where
+      go : (b : Bool) → linked f l ≡ b
+          → (allLinked f ls ≡ false
+          → (k j : ℕ) × (suc j < length (getD ls k [])) × (f (getD (getD ls k []) j 0) (getD (getD ls k []) (suc j) 0) ≡ false))
+          → (k j : ℕ) × (suc j < length (getD (l ∷ ls) k []))
+          × (f (getD (getD (l ∷ ls) k []) j 0) (getD (getD (l ∷ ls) k []) (suc j) 0) ≡ false)
+      go true p again = let r = again (ap (λ (b : Bool). b && every (linked f) ls) (sym p) ∙ e) in (suc (r .0), r .1, r .2, r .3)
+      go false p again = let r = linked-lacks l p in (0, r .0, r .1, r .2)
 
   led-all : (ls : List (List ℕ))
       → ((k j : ℕ) → suc j < length (getD ls k []) → f (getD (getD ls k []) j 0) (getD (getD ls k []) (suc j) 0) ≡ true)
@@ -206,22 +238,48 @@ module _ (c : Content) where
       λ a. some-none 128 (λ u. reach u u) (λ u l. not-true _ (λ e. a u (reachable-decided n (c .tails) (c .heads) u u .1 e .1))),
     )
 
+    -- what the graph's answers mean
+    pub content-means : (u v : ℕ) → Means (Edge (c .tails) (c .heads)) u v (connectionNumber (connectionIn c u v))
+    unfolding connectionIn
+    content-means = graph-means n (c .tails) (c .heads) taken
+
+    -- there is a way where the answer is not 'not at all'
+    way : (u v : ℕ) → Leads c u v ↔ (leading? (connectionIn c u v) ≡ true)
+    way u v = means-leading (connectionIn c u v) (content-means u v)
+
     pub led-says : (unled? c ≡ false) ↔ Led c
     unfolding unled? broken?
     led-says = (
       (λ e g i j h.
-          let all = broken-linked reach ls (given-passes (c .given) _ e g) in
-          reachable-decided n (c .tails) (c .heads) _ _ .1 (all-led reach ls all i j h) .1),
+          let all = broken-linked (connectionIn c) ls (given-passes (c .given) _ e g) in
+          way _ _ .1 (all-led (λ u v. leading? (connectionIn c u v)) ls all i j h)),
       λ a.
           passes-given (c .given) _
-          (λ g. ap not (led-all reach ls (λ i j h. reachable-decided n (c .tails) (c .heads) _ _ .0 (taken, a g i j h)))),
+          (λ g. ap not (led-all (λ u v. leading? (connectionIn c u v)) ls (λ i j h. way _ _ .0 (a g i j h)))),
     )
+
+  -- where it fails, some vertex of a given channel answers 'not at all' to the next
+  pub unled-lacks : unled? c ≡ true → (c .given ≡ true)
+      × ((i j : ℕ) × (suc j < length (givenLine c i))
+      × (leading? (connectionIn c (getD (givenLine c i) j 0) (getD (givenLine c i) (suc j) 0)) ≡ false))
+  unfolding unled? broken?
+  unled-lacks e =
+      let p = and-elim (c .given) (not (allLinked (λ u v. leading? (connectionIn c u v)) ls)) e in
+      (p .0, all-lacks (λ u v. leading? (connectionIn c u v)) ls (unmade (allLinked (λ u v. leading? (connectionIn c u v)) ls) (p .1)))
+    where
+      unmade : (b : Bool) → not b ≡ true → b ≡ false
+      unmade true t = sym t
+      unmade false t = refl
 
   -- ---- the two together
 
   -- a sound graph is taken by the reachability layer
   pub sound-edges : Sound c → refusal n (c .tails) (c .heads) ≡ 0
   sound-edges s = taken (s .size) (s .ends, s .named)
+
+  -- and its answers mean what they say
+  pub sound-means : Sound c → (u v : ℕ) → Means (Edge (c .tails) (c .heads)) u v (connectionNumber (connectionIn c u v))
+  sound-means s = content-means (s .size) (s .ends, s .named)
 
   pub accepted-sound : refusalOf c ≡ 0 → Sound c
   accepted-sound e =

@@ -80,7 +80,7 @@ pub fn check<'a, 'f, 'e, 'b, 't, 'l, 'p>(
         return refused(first_of(d.refusal, n, given, field));
     }
     if given {
-        let laid = channels::given(n, table, field, places);
+        let laid = channels::given(n, edges, longer, table, field, places);
         return settled(d.used, laid);
     }
     let laid = channels::plan(n, table, places);

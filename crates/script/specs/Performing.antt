@@ -1,11 +1,10 @@
 -- What an order does to the machine of a session, and what is answered. Assumes nothing.
 use mathlib.Core.Path.{_≡_}
-use mathlib.Core.Bool.{true, false}
 use mathlib.Core.List.{List, [], _∷_}
 use Prim.Native.Nat.{ℕ}
 use Rattle.editing.specs.declared.Session.{Session}
 use Rattle.editing.specs.declared.Changed.{Changed}
-use Rattle.editing.specs.declared.Reply.{Reply}
+use Rattle.specification.specs.declared.Reply.{Reply}
 use Rattle.specification.specs.Machine.{Graph, Call, Answer, answerNumber, Turn, step, fresh}
 use Rattle.specification.specs.Graph.{sizeRefusal}
 use Rattle.editing.specs.Promise.{Represents, changeAnswer, replyAnswer, StartPromise, AddPromise, LeadsPromise}
@@ -27,9 +26,8 @@ saying a = Said.says (answerNumber a) a
 -- the number and the answer of each case
 unfoldable pub saidOf : Outcome → Said
 saidOf Outcome.Done = Said.says 0 Answer.added
-saidOf Outcome.Yes = Said.says 0 (Answer.told true)
-saidOf Outcome.No = Said.says 0 (Answer.told false)
 saidOf (Outcome.Refused k) = Said.says k (Answer.refused k)
+saidOf (Outcome.Told a) = Said.says 0 (Answer.told a)
 saidOf Outcome.Unreadable = Said.unreadable
 
 -- what an order leaves, and what is said to it
@@ -65,7 +63,7 @@ Effect s (Command.Words n) r =
 Effect s (Command.Add u v) r =
     (x : Changed) × AddPromise s u v x × (r .session ≡ x .session) × (saidOf (r .outcome) ≡ saying (changeAnswer (x .refusal)))
 Effect s (Command.Leads u v) r =
-    (x : Reply) × LeadsPromise s u v x × (r .session ≡ s) × (saidOf (r .outcome) ≡ saying (replyAnswer (x .refusal) (x .reaches)))
+    (x : Reply) × LeadsPromise s u v x × (r .session ≡ s) × (saidOf (r .outcome) ≡ saying (replyAnswer (x .refusal) (x .connection)))
 Effect s Command.Unreadable r = (r .session ≡ s) × (saidOf (r .outcome) ≡ Said.unreadable)
 
 pub record PerformPromise (s : Session) (c : Command) (r : Performed) : Type 0 where

@@ -5,8 +5,9 @@ ghost use Prim.Native.Nat.{min};
 ghost use Rattle.editing.specs.Promise.{changeAnswer, replyAnswer};
 ghost use Rattle.script.specs.Scanning.{advanced, appended, extended, within, scanned, begun, orderOf, finishedTwo, finishedOne, finished};
 ghost use Rattle.script.specs.Performing.{saying, saidOf, PerformPromise};
-use editing::Reply;
 use editing::Session;
+use specification::Connection;
+use specification::Reply;
 
 const BLANK: u8 = 32;
 
@@ -45,8 +46,7 @@ pub enum Command {
 pub enum Outcome {
     Done,
     Refused(u8),
-    Yes,
-    No,
+    Told(Connection),
     Unreadable,
 }
 
@@ -229,15 +229,13 @@ fn changed(refusal: u8) -> Outcome
 
 // The outcome of a question.
 fn replied(reply: Reply) -> Outcome
-    ensures { λ r. ⌜ saidOf r ≡ saying (replyAnswer (reply .refusal) (reply .reaches)) ⌝ }
+    ensures { λ r. ⌜ saidOf r ≡ saying (replyAnswer (reply .refusal) (reply .connection)) ⌝ }
 {
     if reply.refusal != 0 {
         return Outcome::Refused(reply.refusal);
     }
-    if reply.reaches {
-        return Outcome::Yes;
-    }
-    Outcome::No
+    let connection = reply.connection;
+    Outcome::Told(connection)
 }
 
 // What the command does to the session.

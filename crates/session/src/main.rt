@@ -1,5 +1,5 @@
 // Runs a script of a session: a line on standard input is `words N`, `add U V` or `leads U V`, and is answered by a line on standard
-// output, `ok`, `yes`, `no`, `refused` with the number, or `unreadable` (SPECIFICATION.md, 14.3).
+// output: `ok`, `refused` with the number, `unreadable`, or how U leads to V, `no`, `arrow`, `longer` or `both` (SPECIFICATION.md, 14.3).
 ghost use Prim.Native.Nat.{_+_, _≤_};
 ghost use lib.ListN.{length};
 use editing::Session;
@@ -7,6 +7,7 @@ use libc::STDIN_FILENO;
 use libc::STDOUT_FILENO;
 use script::Outcome;
 use script::Scanner;
+use specification::Connection;
 
 // More reads than any input has: the proof asks for a number that falls.
 const MOST_READS: u64 = 18446744073709551615;
@@ -56,14 +57,25 @@ fn put_number(output: &mut [u8], used: usize, n: u8) -> usize
     put_last(output, last, n % 10)
 }
 
+fn put_connection(output: &mut [u8], used: usize, connection: Connection) -> usize
+    requires { ⌜ used + 16 ≤ length (now output) ⌝ }
+    ensures { λ r. ⌜ r ≤ used + 16 ⌝ }
+{
+    match connection {
+        Connection::Unreached => text::put(output, used, b"no\n"),
+        Connection::EdgeOnly => text::put(output, used, b"arrow\n"),
+        Connection::LongerOnly => text::put(output, used, b"longer\n"),
+        Connection::Both => text::put(output, used, b"both\n"),
+    }
+}
+
 fn put_outcome(output: &mut [u8], used: usize, outcome: Outcome) -> usize
     requires { ⌜ used + 16 ≤ length (now output) ⌝ }
     ensures { λ r. ⌜ r ≤ used + 16 ⌝ }
 {
     match outcome {
         Outcome::Done => text::put(output, used, b"ok\n"),
-        Outcome::Yes => text::put(output, used, b"yes\n"),
-        Outcome::No => text::put(output, used, b"no\n"),
+        Outcome::Told(connection) => put_connection(output, used, connection),
         Outcome::Unreadable => text::put(output, used, b"unreadable\n"),
         Outcome::Refused(k) => {
             let at = text::put(output, used, b"refused ");

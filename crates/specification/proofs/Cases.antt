@@ -1,4 +1,4 @@
--- The number and the values tell the case: no two layouts, and no two courses, have the same. Assumes nothing.
+-- The number and the values tell the case: no two layouts, no two courses and no two answers have the same. Assumes nothing.
 use mathlib.Core.Path.{_≡_, refl, sym, ap, _∙_}
 use lib.Dec.{eqb}
 use Rattle.specification.specs.Count.{choose}
@@ -7,6 +7,10 @@ use Rattle.specification.specs.declared.Layout.the-variants.{Good, Bad}
 use Rattle.specification.specs.declared.Course.{Course}
 use Rattle.specification.specs.declared.Course.the-variants.{Straight, Bent}
 use Rattle.specification.specs.declared.Code.{Code}
+use Rattle.specification.specs.declared.Connection.{Connection}
+use Rattle.specification.specs.declared.Connection.the-variants.{Unreached, EdgeOnly, LongerOnly, Both}
+use Rattle.specification.specs.Connection.{connectionNumber}
+use Prim.Native.Nat.{ℕ}
 use Rattle.specification.specs.Layout.{LayoutAnswer, layoutAnswer}
 use Rattle.specification.specs.Numbers.{codeOf, courseCode}
 
@@ -34,3 +38,16 @@ course-told (Bent x y) = refl
 
 pub same-course : (c d : Course) → courseCode c ≡ courseCode d → c ≡ d
 same-course c d e = sym (course-told c) ∙ ap courseBy e ∙ course-told d
+
+abbrev connectionBy : ℕ → Connection
+connectionBy k =
+    choose (eqb k 0) (λ _. Unreached) (λ _. choose (eqb k 1) (λ _. EdgeOnly) (λ _. choose (eqb k 2) (λ _. LongerOnly) (λ _. Both)))
+
+connection-told : (a : Connection) → connectionBy (connectionNumber a) ≡ a
+connection-told Unreached = refl
+connection-told EdgeOnly = refl
+connection-told LongerOnly = refl
+connection-told Both = refl
+
+pub same-connection : (a b : Connection) → connectionNumber a ≡ connectionNumber b → a ≡ b
+same-connection a b e = sym (connection-told a) ∙ ap connectionBy e ∙ connection-told b

@@ -11,10 +11,11 @@ use Rattle.specification.specs.Planning.{matchingTo, successorFrom, succ
 use Rattle.specification.specs.Channels.{has, placeFrom, linked, every, channelFrom, channelOf, positionOf, front, lines, filled}
 use Rattle.specification.specs.Channels.{linesOf, givenLines, unknown?, repeats?, broken?}
 use Rattle.specification.specs.Layout.{sizeAt, fieldAt, lined, withLines, afterEdges, withEdges, withVertices, layoutOf}
-use Rattle.specification.specs.Checks.{Content, edgesOf, size?, stranger?, double?, ring?, repeated?, unled?, looseChecks}
-use Rattle.specification.specs.Checks.{laterChecks, firstOf, refusalOf, contentOf, recordRefusal, said}
+use Rattle.specification.specs.Checks.{Content, edgesOf, connectionIn, size?, stranger?, double?, ring?, repeated?, unled?}
+use Rattle.specification.specs.Checks.{looseChecks, laterChecks, firstOf, refusalOf, contentOf, recordRefusal, said}
 use Rattle.specification.specs.Given.{heldIn, masked, unheld, without, beside, withGiven}
 use Rattle.specification.specs.Rows.{rowWithin}
+use Rattle.specification.specs.Connection.{longer?, connects}
 use Rattle.specification.specs.Marks.{transitive?, reducedCount}
 use Rattle.specification.specs.Bundles.{alike, gathers, takes, bundleOf, joined, waits, waitsAt, load, before, best, made, rounds}
 use Rattle.specification.specs.Bundles.{bundles, adjacent?, apart?, side?, bundlesOf}
@@ -23,11 +24,11 @@ use Rattle.specification.specs.Geometry.{isHit, isBlocked, blockStart, o
 use Rattle.specification.specs.Chart.{leads?, descendantsOf, rowOf, rowCount, transitiveEdge?, reducedEdges, channelsOf, tracked}
 use Rattle.specification.specs.Chart.{bundled, planOf, tracksIn, columnIn, widthOf, kindBetween, vertexEntry, edgeEntry, bundleEntry}
 use Rattle.specification.specs.Chart.{polylineOf}
-use Rattle.specification.specs.Table.{graph1, graph5, housed, graph6, graph7, graph8, graph11, graph12, moving, meeting, touching}
+use Rattle.specification.specs.Table.{graph1, graph5, housed, graph6, graph7, graph8, chain3, graph11, graph12, moving, meeting}
 use Rattle.specification.specs.Numbers.{codeOf, arrowNumber}
 use Rattle.specification.specs.Pass.{stored, next, after}
-use Rattle.specification.specs.Table.{detour, early, alone, earlyAfter, record1, record5, record6, record7, record8, record9}
-use Rattle.specification.specs.Table.{record10, record11, Table}
+use Rattle.specification.specs.Table.{touching, detour, early, alone, earlyAfter, record1, record5, record6, record7, record8}
+use Rattle.specification.specs.Table.{record9, record10, record11, chained, Table}
 use Rattle.specification.specs.Bundles as bundling
 
 -- ---- too many
@@ -52,9 +53,9 @@ more-arrows c m = outsized-refused c (or-right (unsized? (c .vertices)) (ltb 409
 
 pub table : Table
 unfolding leads? descendantsOf rowOf rowCount transitiveEdge? reducedEdges channelsOf tracked bundled planOf tracksIn columnIn widthOf
-    kindBetween vertexEntry edgeEntry bundleEntry polylineOf graph1 graph5 housed graph6 graph7 graph8 graph11 graph12 moving meeting
+    kindBetween vertexEntry edgeEntry bundleEntry polylineOf graph1 graph5 housed graph6 graph7 graph8 chain3 graph11 graph12 moving meeting
     touching detour early alone earlyAfter after next stored codeOf arrowNumber record1 record5 record6 record7 record8 record9 record10
-    record11 sum count some edge? reaches? outsized? unsized?
+    record11 chained longer? connects connectionIn sum count some edge? reaches? outsized? unsized?
     strange? verdict refusal reachable? predecessorOf none? is? candidate marked taken answered freed scan augment asks matchingTo
     successorFrom successor chain begins begun plannedTo planned has placeFrom linked every channelFrom channelOf positionOf front lines
     filled linesOf unknown? repeats? broken? flatten givenLines heldIn masked unheld without beside withGiven sizeAt fieldAt lined
@@ -65,6 +66,7 @@ unfolding leads? descendantsOf rowOf rowCount transitiveEdge? reducedEdges chann
 table = record {
   p1 = (refl, refl, refl, refl);
   p1-only = refl;
+  p1-how = (refl, refl, refl, refl, refl);
   p1-record = (refl, refl);
   p2 = refl;
   p3 = (refl, refl, refl, refl, refl);
@@ -101,6 +103,10 @@ table = record {
   arrows = ((refl, refl, refl), (refl, refl, refl), (refl, refl, refl), (refl, refl, refl), (refl, refl, refl), (refl, refl, refl));
   beside-record = (refl, refl);
   beside-lines = refl;
+  beside-how = refl;
+  longer-led = (refl, refl);
+  edge-led = (refl, refl);
+  unreached-unled = (refl, refl);
   no-arrows-field = (refl, refl);
   empty-lines-field = (refl, refl);
   empty-lines-planned = refl;

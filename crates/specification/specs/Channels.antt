@@ -4,6 +4,8 @@ use mathlib.Core.List.{List, [], _∷_, flatten}
 use Prim.Native.Nat.{ℕ, suc, _+_, zero}
 use lib.Dec.{eqb, leb}
 use Rattle.specification.specs.Count.{indicator, choose}
+use Rattle.specification.specs.Connection.{leading?}
+use Rattle.specification.specs.declared.Connection.{Connection}
 
 -- how often v stands in the list
 unfoldable pub times : ℕ → List ℕ → ℕ
@@ -90,6 +92,6 @@ unfoldable pub repeats? : List ℕ → Bool
 repeats? [] = false
 repeats? (v ∷ l) = has v l || repeats? l
 
--- a vertex that the one before it in its line does not lead to
-unfoldable pub broken? : (ℕ → ℕ → Bool) → List (List ℕ) → Bool
-broken? leads ls = not (allLinked leads ls)
+-- a vertex that the one before it in its line does not lead to: asked how, the answer is 'not at all'
+unfoldable pub broken? : (ask : ℕ → ℕ → Connection) → List (List ℕ) → Bool
+broken? ask ls = not (allLinked (λ u v. leading? (ask u v)) ls)

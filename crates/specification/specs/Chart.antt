@@ -9,7 +9,7 @@ use Rattle.specification.specs.Limits.{mostVertices, pageColumns, pageRo
 use Rattle.specification.specs.Graph.{edge?, reachable?}
 use Rattle.specification.specs.Channels.{channelOf, positionOf}
 use Rattle.specification.specs.Given.{withGiven}
-use Rattle.specification.specs.Checks.{Content, edgesOf, givenOf}
+use Rattle.specification.specs.Checks.{Content, edgesOf, givenOf, connectionIn}
 use Rattle.specification.specs.Rows.{row, rowsUsed}
 use Rattle.specification.specs.Marks.{transitive?, reducedCount}
 use Rattle.specification.specs.Bundles.{Bundle, bundleOf, adjacent?, bundlesOf, empty}
@@ -47,10 +47,10 @@ module _ (c : Content) where
 
   -- transitive and reduced edges (5.1)
   unfoldable pub transitiveEdge? : ℕ → Bool
-  transitiveEdge? e = transitive? leads? (c .vertices) (tailOf e) (headOf e)
+  transitiveEdge? e = transitive? (connectionIn c) (tailOf e) (headOf e)
 
   unfoldable pub reducedEdges : ℕ
-  reducedEdges = reducedCount leads? (c .vertices) (edgesOf c) (c .tails) (c .heads)
+  reducedEdges = reducedCount (connectionIn c) (edgesOf c) (c .tails) (c .heads)
 
 -- ---- what is planned: channels, bundles, and the track of each bundle
 

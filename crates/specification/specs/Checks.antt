@@ -3,7 +3,9 @@ use mathlib.Core.Bool.{Bool, _&&_, _||_, false, true}
 use mathlib.Core.List.{List, [], _∷_}
 use Prim.Native.Nat.{ℕ, _*_, _<_, suc, _≤_}
 use Rattle.specification.specs.Count.{choose, some}
-use Rattle.specification.specs.Graph.{edgeCount, outsized?, strange?, duplicate?, reachable?, tailsOf, headsOf, Reaches, Edge}
+use Rattle.specification.specs.Graph.{edgeCount, outsized?, strange?, duplicate?, edge?, reachable?, tailsOf, headsOf, Reaches, Edge}
+use Rattle.specification.specs.Connection.{connects}
+use Rattle.specification.specs.declared.Connection.{Connection}
 use Rattle.specification.specs.Channels.{linesOf, verticesOf, givenLines, unknown?, repeats?, broken?, times}
 use mathlib.Core.Path.{_≡_}
 use lib.Dec.{eqb}
@@ -28,6 +30,10 @@ content n tails heads given field = record { vertices = n; tails = tails; heads 
 abbrev pub edgesOf : Content → ℕ
 edgesOf c = edgeCount (c .tails) (c .heads)
 
+-- how u reaches v by the edges (2.4)
+unfoldable pub connectionIn : Content → ℕ → ℕ → Connection
+connectionIn c = connects (edge? (c .tails) (c .heads)) (c .vertices)
+
 -- 2 'size': no vertex, or too many vertices or edges
 unfoldable pub size? : Content → Bool
 size? c = outsized? (c .vertices) (edgesOf c)
@@ -49,9 +55,9 @@ ring? c = some mostVertices (λ u. reachable? (c .vertices) (c .tails) (c .heads
 unfoldable pub repeated? : Content → Bool
 repeated? c = c .given && repeats? (verticesOf (c .field))
 
--- 7 'broken': a vertex of a given channel is not reached from the one before
+-- 7 'broken': a vertex of a given channel is not reached from the one before, which answers 'not at all'
 unfoldable pub unled? : Content → Bool
-unled? c = c .given && broken? (reachable? (c .vertices) (c .tails) (c .heads)) (linesOf (c .field))
+unled? c = c .given && broken? (connectionIn c) (linesOf (c .field))
 
 pub record Check : Type 0 where
   pub number : ℕ

@@ -4,6 +4,7 @@ pub mod Sets
 pub mod Layout
 pub mod Writing
 pub mod Graph
+pub mod Connection
 pub mod Channels
 pub mod Planning
 pub mod Given

@@ -7,6 +7,8 @@ use lib.Dec.{eqb, leb}
 use lib.ListN.{length}
 use Rattle.specification.specs.Count.{choose}
 use Rattle.specification.specs.Graph.{Reaches, reaches?, sizeRefusal}
+use Rattle.specification.specs.Connection.{connects}
+use Rattle.specification.specs.declared.Connection.{Connection}
 use Rattle.specification.specs.Limits.{mostVertices, mostEdges}
 
 -- an edge, from its tail to its head
@@ -35,14 +37,14 @@ pub data Answer : Type 0 where
   refused : ℕ → Answer
   -- the edge is in
   added : Answer
-  -- whether the first vertex reaches the second
-  told : Bool → Answer
+  -- how the first vertex reaches the second
+  told : Connection → Answer
 
 -- the number of an answer: that of a refusal, and 0 where nothing is refused
 unfoldable pub answerNumber : Answer → ℕ
 answerNumber (Answer.refused k) = k
 answerNumber Answer.added = 0
-answerNumber (Answer.told b) = 0
+answerNumber (Answer.told a) = 0
 
 -- what a call leaves, and what it answers
 pub record Turn : Type 0 where
@@ -58,6 +60,10 @@ unknown? g u v = leb (g .vertices) u || leb (g .vertices) v
 -- u reaches v by the set's edges
 unfoldable pub reached? : Graph → ℕ → ℕ → Bool
 reached? g u v = reaches? (contains (g .edges)) (g .vertices) u v
+
+-- how it does
+unfoldable pub connected : Graph → ℕ → ℕ → Connection
+connected g u v = connects (contains (g .edges)) (g .vertices) u v
 
 -- the edge from u to v would close a cycle: v is u or reaches it
 unfoldable pub cyclic? : Graph → ℕ → ℕ → Bool
@@ -87,13 +93,13 @@ change g zero h = record { graph = h; answer = Answer.added }
 change g (suc k) h = record { graph = g; answer = Answer.refused (suc k) }
 
 -- an answer, unless a vertex is unknown
-unfoldable pub reply : Graph → Bool → Bool → Turn
-reply g true b = record { graph = g; answer = Answer.refused 3 }
-reply g false b = record { graph = g; answer = Answer.told b }
+unfoldable pub reply : Graph → Bool → Connection → Turn
+reply g true a = record { graph = g; answer = Answer.refused 3 }
+reply g false a = record { graph = g; answer = Answer.told a }
 
 unfoldable pub step : Graph → Call → Turn
 step g (Call.add u v) = change g (refusal g u v) (insert g u v)
-step g (Call.leads u v) = reply g (unknown? g u v) (reached? g u v)
+step g (Call.leads u v) = reply g (unknown? g u v) (connected g u v)
 
 -- the graph after a list of calls
 unfoldable pub run : Graph → List Call → Graph

@@ -1,18 +1,19 @@
 -- The proof table (SPECIFICATION.md, 16): examples, limits, a listing and wrong readings, over the definitions that promises cite.
 -- Assumes nothing.
 use mathlib.Core.Path.{_≡_}
-use mathlib.Core.Bool.{Bool, true, false}
+use mathlib.Core.Bool.{Bool, true, false, _&&_}
 use mathlib.Core.List.{List, [], _∷_}
 use Prim.Native.Nat.{ℕ}
 use lib.ListN.{length}
+use Rattle.specification.specs.Count.{some}
 use Rattle.specification.specs.Graph.{edge?}
-use Rattle.specification.specs.Checks.{Content, content, edgesOf, refusalOf, nothing, recordRefusal, said}
-use Rattle.specification.specs.Marks.{transitive?}
+use Rattle.specification.specs.Checks.{Content, content, edgesOf, connectionIn, refusalOf, nothing, recordRefusal, said}
 use Rattle.specification.specs.Geometry.{Point, point}
 use Rattle.specification.specs.Chart.{leads?, descendantsOf, tailOf, headOf, rowOf, rowCount, transitiveEdge?, reducedEdges}
 use Rattle.specification.specs.Chart.{channelsOf, planOf, tracksIn, columnIn, widthOf, vertexEntry, edgeEntry, bundleEntry}
 use Rattle.specification.specs.Chart.{polylineOf}
 use Rattle.specification.specs.Pass.{State, state, after, asNumbers}
+use Rattle.specification.specs.declared.Connection.the-variants.{Unreached, EdgeOnly, LongerOnly, Both}
 use Rattle.specification.specs.declared.Kind.{Kind}
 use Rattle.specification.specs.declared.Kind.the-variants.{Path, PathTransitive, Straight, Bent}
 
@@ -42,9 +43,13 @@ graph7 = housed (1 ∷ 0 ∷ 1 ∷ 1 ∷ 1 ∷ 2 ∷ 3 ∷ 3 ∷ 4 ∷ 5 ∷ [])
 unfoldable pub graph8 : Content
 graph8 = content 1 [] [] false []
 
--- 0→1, 1→2, with the house line 1
+-- 0→1, 1→2, with house lines
+unfoldable pub chain3 : List ℕ → Content
+chain3 lines = content 3 (0 ∷ 1 ∷ []) (1 ∷ 2 ∷ []) true lines
+
+-- with the house line 1
 unfoldable pub graph11 : Content
-graph11 = content 3 (0 ∷ 1 ∷ []) (1 ∷ 2 ∷ []) true (1 ∷ 1 ∷ [])
+graph11 = chain3 (1 ∷ 1 ∷ [])
 
 -- P8's with a field of house lines that is empty
 unfoldable pub graph12 : Content
@@ -109,6 +114,10 @@ record10 = 1 ∷ 0 ∷ 1 ∷ 2 ∷ 2 ∷ 0 ∷ 4 ∷ 0 ∷ 1 ∷ 0 ∷ 1 ∷ []
 unfoldable pub record11 : List ℕ
 record11 = 1 ∷ 0 ∷ 1 ∷ 3 ∷ 2 ∷ 0 ∷ 4 ∷ 0 ∷ 1 ∷ 1 ∷ 2 ∷ 3 ∷ 0 ∷ 2 ∷ 1 ∷ 1 ∷ []
 
+-- the same vertices and edges with another field of house lines
+unfoldable pub chained : List ℕ → List ℕ
+chained lines = 1 ∷ 0 ∷ 1 ∷ 3 ∷ 2 ∷ 0 ∷ 4 ∷ 0 ∷ 1 ∷ 1 ∷ 2 ∷ 3 ∷ 0 ∷ length lines ∷ lines
+
 -- ---- what is looked up
 
 -- the record is accepted, and says this graph
@@ -152,6 +161,9 @@ pub record Table : Type 0 where
   -- P1: 0 reaches the four others, and nothing else
   pub p1 : (leads? graph1 0 1 ≡ true) × (leads? graph1 0 2 ≡ true) × (leads? graph1 0 3 ≡ true) × (leads? graph1 0 4 ≡ true)
   pub p1-only : descendantsOf graph1 0 ≡ 4
+  -- by an edge only, by both, by longer routes only, and not at all: backwards, and of a vertex asked about itself
+  pub p1-how : (connectionIn graph1 0 1 ≡ EdgeOnly) × (connectionIn graph1 0 3 ≡ Both) × (connectionIn graph1 0 4 ≡ LongerOnly)
+      × (connectionIn graph1 4 0 ≡ Unreached) × (connectionIn graph1 0 0 ≡ Unreached)
   pub p1-record : Says record1 graph1
   -- P2: the channels
   pub p2 : channelsOf graph1 ≡ (0 ∷ 1 ∷ 4 ∷ []) ∷ (2 ∷ 3 ∷ []) ∷ []
@@ -212,6 +224,12 @@ pub record Table : Type 0 where
   -- the given line 1 comes first; 0 reaches 2 through it
   pub beside-record : Says record11 graph11
   pub beside-lines : channelsOf graph11 ≡ (1 ∷ []) ∷ (0 ∷ 2 ∷ []) ∷ []
+  -- 0 and 2, neighbours without an edge between them, are joined by longer routes only; given as a line they pass, as 0 and 1, which have
+  -- the edge alone, do, and 2 before 0 is 7
+  pub beside-how : connectionIn graph11 0 2 ≡ LongerOnly
+  pub longer-led : Says (chained (2 ∷ 0 ∷ 2 ∷ [])) (chain3 (2 ∷ 0 ∷ 2 ∷ []))
+  pub edge-led : Says (chained (2 ∷ 0 ∷ 1 ∷ [])) (chain3 (2 ∷ 0 ∷ 1 ∷ []))
+  pub unreached-unled : Refused (chained (2 ∷ 2 ∷ 0 ∷ [])) 7
   -- limits (16.2): without tag 2 it is 1, with an empty tag 2 accepted (P8), with an empty tag 3 accepted too, and planned as without
   pub no-arrows-field : Refused (1 ∷ 0 ∷ 1 ∷ 1 ∷ []) 1
   pub empty-lines-field : Says (1 ∷ 0 ∷ 1 ∷ 1 ∷ 2 ∷ 0 ∷ 0 ∷ 3 ∷ 0 ∷ 0 ∷ []) graph12
@@ -227,7 +245,7 @@ pub record Table : Type 0 where
   pub shared : Side touching 0 0 0 2 0 × Side touching 1 0 2 4 1 × (tracksIn (planOf touching) 0 ≡ 2)
   -- edge 3 is transitive by a route of three edges; no route of two goes along it
   pub longer : (transitiveEdge? detour 3 ≡ true) × (reducedEdges detour ≡ 3)
-      × (transitive? (edge? (detour .tails) (detour .heads)) 4 0 3 ≡ false)
+      × (some 4 (λ w. edge? (detour .tails) (detour .heads) 0 w && edge? (detour .tails) (detour .heads) w 3) ≡ false)
   -- edge 0 is marked in the state after it, by the two edges that follow; by the first edge alone it would count as reduced
   pub whole-graph : (earlyAfter 1 ≡ state (0 ∷ 1 ∷ 0 ∷ 0 ∷ 1 ∷ 7 ∷ 7 ∷ 7 ∷ 7 ∷ 7 ∷ 7 ∷ 7 ∷ 7 ∷ 7 ∷ 7 ∷ 7 ∷ []) 0)
       × (transitiveEdge? alone 0 ≡ false)

@@ -109,7 +109,22 @@ pub enum Polyline {
     OffPage,
 }
 
-// The refusal, or 0, and 1 where the first word leads to the second; 0 where it does not, and where the call is refused.
+// How one vertex reaches another (2.4): not at all, by an edge alone, by longer routes alone, of two edges or more each, or by both.
+pub enum Connection {
+    Unreached,
+    EdgeOnly,
+    LongerOnly,
+    Both,
+}
+
+// The refusal, or 0, and how one vertex reaches the other: not at all where the call is refused.
+pub struct Reply {
+    pub refusal: u8,
+    pub connection: Connection,
+}
+
+// The same for apps, in the publisher's words: the refusal, or 0, and how the first word leads to the second, 0 not at all, 1 by an arrow
+// only, 2 by longer routes only, 3 by both; 0 where the call is refused.
 #[repr(C)]
 pub struct Leading {
     pub refusal: u8,

@@ -1,6 +1,6 @@
 -- `channels::walk` meets its contract: the bytes before i are looked at, and their channels laid. Assumes nothing.
 use Rattle.counting.proofs.Prelude.{refl, _∙_, _-_, _≤_, arith, length, needs}
-use Rattle.specification.specs.Sets.{has?}
+use Rattle.reach.specs.Closure.{connectionBy}
 use Rattle.planning.specs.Arranged.{Kept}
 use Rattle.planning.proofs.Laying.{kept-same, kept-on}
 use Rattle.channels.proofs.Walking.{Walking, walking-none, walking-length, walked-unknown, walking-more}
@@ -9,18 +9,18 @@ use Rattle.channels.proofs.walk.Statement.{statement}
 use Rattle.channels.proofs.walk.Tie as tie
 
 abbrev Inv-loop : tie.InvT-loop
-Inv-loop n table field places₀ seen₀ fault₀ count₀ vertices₀ p₀ last₀ left₀ i₀
+Inv-loop n edges longer field places₀ seen₀ fault₀ count₀ vertices₀ p₀ last₀ left₀ i₀
     places seen fault count vertices p last left i =
-    (i ≤ length field) × Walking (has? 2 table) n field i left last seen vertices fault
+    (i ≤ length field) × Walking (connectionBy 2 edges longer) n field i left last seen vertices fault
     × Tabling n field i left p vertices count places × Kept n places₀ places
 
 abbrev μ-loop : tie.MeasureT-loop
-μ-loop n table field places₀ seen₀ fault₀ count₀ vertices₀ p₀ last₀ left₀ i₀
+μ-loop n edges longer field places₀ seen₀ fault₀ count₀ vertices₀ p₀ last₀ left₀ i₀
     places seen fault count vertices p last left i = length field - i
 
 -- the places that facts are read from
 abbrev start-of : tie.After-slice-known Inv-loop μ-loop → tie.Start Inv-loop μ-loop
-start-of c = c .before .before .before
+start-of c = c .before .before .before .before
 
 abbrev head-of : tie.Else1 Inv-loop μ-loop → tie.At-loop Inv-loop μ-loop
 head-of c = c .before .before .before .before
@@ -75,7 +75,7 @@ loop-again-2 c =
     let room = start-of (head .before) .pre .2 in (
       omega arith,
       walking-more _ _ _ (l .i) (h .loop-test .taken) (l .left) (l .last) (l .seen) (l .vertices) (l .fault) (l .inv .1)
-          _ (byte .0) (d .if1 .left) (byte .1) _ (w .weigh .ensures .1) (y .if2 .left) (w .weigh .kept .1 .0 ∙ l .inv .1 .masks) _
+          _ (byte .0) (d .if1 .left) (byte .1) _ (w .weigh .ensures .1) (y .if2 .left) (w .weigh .kept .1 .1 .0 ∙ l .inv .1 .masks) _
           (w .weigh .ensures .0),
       tabling-more _ _ (l .i) (h .loop-test .taken) (l .left) (l .p) (l .vertices) _ _ (l .inv .2) _ (byte .0)
           (l .inv .1 .counted) (d .if1 .left) (omega (arith, l .inv .3 .long)) _ _ t,

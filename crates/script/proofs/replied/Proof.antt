@@ -1,4 +1,5 @@
-use Rattle.counting.proofs.Prelude.{_≡_, refl, _≢_, Bool, ℕ, zero, suc}
+use Rattle.counting.proofs.Prelude.{_≡_, refl, _≢_, ℕ, zero, suc}
+use Rattle.specification.specs.declared.Connection.{Connection}
 use Rattle.specification.specs.Machine.{answerNumber}
 use Rattle.editing.specs.Promise.{replyAnswer}
 use Rattle.script.specs.declared.Outcome.{Outcome}
@@ -6,21 +7,17 @@ use Rattle.script.specs.Performing.{saying, saidOf}
 use Rattle.script.proofs.replied.Statement.{statement}
 use Rattle.script.proofs.replied.Tie as tie
 
-refused : (k : ℕ) (b : Bool) → k ≢ 0 → saidOf (Outcome.Refused k) ≡ saying (replyAnswer k b)
+refused : (k : ℕ) (a : Connection) → k ≢ 0 → saidOf (Outcome.Refused k) ≡ saying (replyAnswer k a)
 unfolding saidOf answerNumber replyAnswer
-refused zero b h = absurd (h refl)
-refused (suc k) b h = refl
+refused zero a h = absurd (h refl)
+refused (suc k) a h = refl
 
 returns : tie.Need-returns
 returns c = refused _ _ (c .if1 .taken)
 
 returns-2 : tie.Need-returns-2
 unfolding saidOf answerNumber replyAnswer
-returns-2 c = rw (c .before .if1 .left, c .if2 .taken)
-
-returns-3 : tie.Need-returns-3
-unfolding saidOf answerNumber replyAnswer
-returns-3 c = rw (c .before .if1 .left, c .if2 .left)
+returns-2 c = rw (c .if1 .left)
 
 pub replied-spec : {M : Type 1} → statement M
-replied-spec = tie.close (tie.spec returns returns-2 returns-3)
+replied-spec = tie.close (tie.spec returns returns-2)

@@ -1,11 +1,13 @@
 -- Worked examples of the machine, by computation. Assumes nothing.
 use mathlib.Core.Path.{_≡_, refl}
-use mathlib.Core.Bool.{true, false}
 use mathlib.Core.List.{List, [], _∷_}
 use Prim.Native.Nat.{ℕ, zero, suc}
+use Rattle.specification.specs.Count.{some}
 use Rattle.specification.specs.Graph.{reaches?, sizeRefusal, unsized?}
+use Rattle.specification.specs.Connection.{longer?, connects}
+use Rattle.specification.specs.declared.Connection.the-variants.{Unreached, EdgeOnly, LongerOnly, Both}
 use Rattle.specification.specs.Machine.{Edge, Graph, contains, unknown?, reached?, cyclic?, full?, verdict, refusal, insert, change}
-use Rattle.specification.specs.Machine.{reply, step, run, answers, startVertices, fresh}
+use Rattle.specification.specs.Machine.{reply, connected, step, run, answers, startVertices, fresh}
 use Rattle.specification.specs.Machine.Edge.{edge}
 use Rattle.specification.specs.Machine.Call.{add, leads}
 use Rattle.specification.specs.Machine.Answer.{refused, added, told}
@@ -30,7 +32,10 @@ pub record Worked : Type 0 where
   pub empty : answers (fresh 129) (add 0 1 ∷ leads 0 0 ∷ []) ≡ refused 3 ∷ refused 3 ∷ []
   -- a refused edge changes nothing
   pub session : answers (fresh 3) (add 0 1 ∷ add 1 2 ∷ leads 0 2 ∷ add 2 0 ∷ leads 2 0 ∷ add 0 3 ∷ leads 3 0 ∷ add 0 2 ∷ [])
-      ≡ added ∷ added ∷ told true ∷ refused 5 ∷ told false ∷ refused 3 ∷ refused 3 ∷ added ∷ []
+      ≡ added ∷ added ∷ told LongerOnly ∷ refused 5 ∷ told Unreached ∷ refused 3 ∷ refused 3 ∷ added ∷ []
+  -- an edge beside a longer route
+  pub beside : answers (fresh 3) (add 0 1 ∷ add 1 2 ∷ leads 0 1 ∷ add 0 2 ∷ leads 0 2 ∷ leads 0 0 ∷ [])
+      ≡ added ∷ added ∷ told EdgeOnly ∷ added ∷ told Both ∷ told Unreached ∷ []
   -- the order of the refusals: 3, 4, 5, 9
   pub strange : refusal crowded 0 4 ≡ 3
   pub duplicate : refusal crowded 0 1 ≡ 4
@@ -38,8 +43,8 @@ pub record Worked : Type 0 where
   pub full : refusal crowded 2 3 ≡ 9
 
 pub worked : Worked
-unfolding answers run step change reply insert refusal verdict unknown? reached? cyclic? full? contains reaches? fresh machine.empty
-    sizeRefusal unsized? startVertices crowded copies
+unfolding answers run step change reply insert refusal verdict unknown? reached? connected longer? connects some cyclic? full? contains
+    reaches? fresh machine.empty sizeRefusal unsized? startVertices crowded copies
 worked = record {
   p9 = refl;
   p10 = refl;
@@ -48,6 +53,7 @@ worked = record {
   most = refl;
   empty = refl;
   session = refl;
+  beside = refl;
   strange = refl;
   duplicate = refl;
   loop = refl;

@@ -1,12 +1,15 @@
--- `ceviloneth::state::told` meets its contract, by the test. Assumes nothing.
+-- `ceviloneth::state::told` meets its contract, by the number of the answer. Assumes nothing.
+use Rattle.counting.proofs.Prelude.{ap, ℕ, needs}
+use Rattle.specification.specs.declared.Leading.{Leading}
 use Rattle.ceviloneth.proofs.state.told.Statement.{statement}
 use Rattle.ceviloneth.proofs.state.told.Tie as tie
 
-returns : tie.Need-returns
-returns c = simp (c .if1 .taken)
+told-by : ℕ → ℕ → Leading
+told-by k a = record { refusal = k; leads = a }
 
-returns-2 : tie.Need-returns-2
-returns-2 c = simp (c .if1 .left)
+returns : tie.Need-returns
+unfolding told-by
+returns c = ap (told-by _) (c .number-of .ensures)
 
 pub told-spec : {M : Type 1} → statement M
-told-spec = tie.close (tie.spec returns returns-2)
+told-spec = tie.close (tie.spec (λ c κs. search needs) returns)

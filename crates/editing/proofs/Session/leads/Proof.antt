@@ -1,12 +1,17 @@
-use Rattle.counting.proofs.Prelude.{arith, needs}
+use Rattle.counting.proofs.Prelude.{ap₂, _∙_, arith, needs}
 use Rattle.specification.specs.Sets.{at, has?}
+use Rattle.specification.specs.Connection.{connection}
+use Rattle.editing.specs.Promise.{connectionOf}
 use Rattle.editing.proofs.Sessions.{outside-tail, outside-head, inside, leads-outside, leads-inside}
 use Rattle.editing.proofs.Session.leads.Statement.{statement}
 use Rattle.editing.proofs.Session.leads.Tie as tie
 
 -- the places that facts are read from
-abbrev capped-of : tie.After-reach2 → tie.After-capped
-capped-of c = c .before .before .before .before
+abbrev contains-of : tie.After-detour → tie.After-contains
+contains-of c = c .before .before .before
+
+abbrev capped-of : tie.After-contains → tie.After-capped
+capped-of c = c .before .before .before .before .before .before
 
 returns : tie.Need-returns
 returns c =
@@ -22,18 +27,27 @@ returns-2 c =
     let k = capped .capped .ensures in
     leads-outside (a .self) (a .tail) (a .head) (outside-head (a .self) (a .tail) (a .head) (omega arith))
 
-mul-contains : tie.Need-mul-contains
-mul-contains c = let k = capped-of c .capped .ensures in omega arith
-
 returns-3 : tie.Need-returns-3
-unfolding at has?
+unfolding at has? connectionOf
 returns-3 c =
-    let capped = capped-of (c .before) in
+    let detour = c .before in let contains = contains-of detour in let capped = capped-of contains in
     let a = capped .before .args in
     let k = capped .capped .ensures in
-    leads-inside (a .self) (a .tail) (a .head) _ (inside (a .self) (a .tail) (a .head) (omega arith) (omega arith)) (c .contains .ensures)
+    leads-inside (a .self) (a .tail) (a .head) _ (inside (a .self) (a .tail) (a .head) (omega arith) (omega arith))
+    (c .connected .ensures .0 ∙ ap₂ connection (contains .contains .ensures) (detour .detour .ensures))
 
 pub leads-spec : {M : Type 1} → statement M
 leads-spec =
     tie.close
-    (tie.spec (λ c κs. search needs) returns returns-2 (λ c. search needs) mul-contains (λ c κs. search needs) returns-3)
+    (tie.spec
+    (λ c κs. search needs)
+    returns
+    returns-2
+    (λ c. search needs)
+    (λ c. search needs)
+    (λ c κs. search needs)
+    (λ c. search needs)
+    (λ c. search needs)
+    (λ c κs. search needs)
+    (λ c κs. search needs)
+    returns-3)

@@ -20,7 +20,8 @@ returns c =
 
 returns-2 : tie.Need-returns-2
 returns-2 c =
-    let laid = c .before .before .before in let test = laid .before .before .before in let past = test .before in let d = descend-of past in
+    let laid = c .before .before .before in let test = laid .before .before .before .before .before in let past = test .before in
+    let d = descend-of past in
     let a = start-of d .args in
     given-settles _ _ (a .given) (a .field .now) _ _ _ _ _ _ _ _ _ _ _ (d .descend .ensures) (past .if1 .left)
     _ _ _ (c .settled .ensures) (test .if2 .taken) (laid .given .ensures)
