@@ -55,7 +55,7 @@ fn channels_repeat_no_vertex(record: &Record) -> bool {
 
 fn channels_follow_reachability(record: &Record) -> bool {
     let reach = Reachability::of(record.vertex_count, &record.edges);
-    let follows = |pair: &[usize]| reach.reaches(pair[0], pair[1]);
+    let follows = |pair: &[usize]| reach.connection(pair[0], pair[1]).reaches();
     let mut given = record.given().iter();
     given.all(|channel| channel.windows(2).all(follows))
 }

@@ -1,10 +1,12 @@
 //! Reachability (descent): which vertex leads to which (2).
 
+use crate::connection::Connection;
 use crate::record::{Edge, MAX_VERTICES};
 
-/// For each vertex, which vertices it reaches by one or more edges.
+/// For each vertex, its successors, and which vertices it reaches by one or more edges.
 #[derive(Clone, Debug, PartialEq, Eq)]
 pub struct Reachability {
+    successors: Vec<Vec<usize>>,
     reached: Vec<Vec<bool>>,
 }
 
@@ -15,7 +17,10 @@ impl Reachability {
         let reached = (0..vertex_count)
             .map(|start| search(start, &successors))
             .collect();
-        Reachability { reached }
+        Reachability {
+            successors,
+            reached,
+        }
     }
 
     /// The number of vertices.
@@ -26,6 +31,13 @@ impl Reachability {
     /// Whether one or more edges lead from `u` to `v`.
     pub fn reaches(&self, u: usize, v: usize) -> bool {
         self.reached[u][v]
+    }
+
+    /// How `u` leads to `v`. A longer route begins with an edge to a vertex that reaches `v`.
+    pub fn connection(&self, u: usize, v: usize) -> Connection {
+        let successors = &self.successors[u];
+        let longer = successors.iter().any(|&next| self.reaches(next, v));
+        Connection::by(successors.contains(&v), longer)
     }
 
     /// The vertices that `u` reaches, ascending.

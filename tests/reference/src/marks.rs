@@ -1,11 +1,10 @@
 //! Transitive and reduced edges: implied and firm arrows (5).
 
+use crate::connection::Connection;
 use crate::descent::Reachability;
 use crate::record::Edge;
 
-/// Whether some vertex lies between: the tail reaches it and it reaches the head.
+/// Whether the tail leads to the head by a longer route too.
 pub fn is_transitive(edge: Edge, reach: &Reachability) -> bool {
-    reach
-        .descendants(edge.tail)
-        .any(|between| reach.reaches(between, edge.head))
+    reach.connection(edge.tail, edge.head) == Connection::Both
 }

@@ -1,5 +1,6 @@
 //! A session: a graph that grows edge by edge, by value (11).
 
+use crate::connection::Connection;
 use crate::record::{MAX_EDGES, MAX_VERTICES};
 use crate::refusal::Refusal;
 use std::collections::BTreeSet;
@@ -16,7 +17,7 @@ pub struct Session {
 pub enum Call {
     /// Adds the edge from the first to the second vertex.
     Add(usize, usize),
-    /// Asks whether the first vertex reaches the second.
+    /// Asks how the first vertex leads to the second.
     Leads(usize, usize),
 }
 
@@ -34,8 +35,8 @@ pub enum LentCall {
 pub enum Answer {
     /// The edge was added.
     Added,
-    /// Whether the first vertex reaches the second.
-    Leads(bool),
+    /// How the first vertex leads to the second.
+    Leads(Connection),
     /// The call was refused, and the session is as it was.
     Refused(Refusal),
 }
@@ -74,10 +75,10 @@ impl Session {
         (self, refusal)
     }
 
-    /// Whether `u` reaches `v`; refused where one of them is unknown.
-    pub fn leads(self, u: usize, v: usize) -> (Session, Result<bool, Refusal>) {
+    /// How `u` leads to `v`; refused where one of them is unknown.
+    pub fn leads(self, u: usize, v: usize) -> (Session, Result<Connection, Refusal>) {
         let answer = if self.knows(u, v) {
-            Ok(self.reaches(u, v))
+            Ok(self.connection(u, v))
         } else {
             Err(Refusal::UnknownVertex)
         };
@@ -114,7 +115,7 @@ impl Session {
             Some(Refusal::UnknownVertex)
         } else if self.edges.contains(&(u, v)) {
             Some(Refusal::DuplicateEdge)
-        } else if u == v || self.reaches(v, u) {
+        } else if u == v || self.connection(v, u).reaches() {
             Some(Refusal::Cycle)
         } else if self.edges.len() == MAX_EDGES {
             Some(Refusal::Full)
@@ -127,12 +128,23 @@ impl Session {
         u < self.vertex_count && v < self.vertex_count
     }
 
-    /// Searches the set of edges from `u` until `v` is met.
-    fn reaches(&self, u: usize, v: usize) -> bool {
+    /// A longer route begins with any edge from `u`; what follows is searched for.
+    fn connection(&self, u: usize, v: usize) -> Connection {
+        let edge = self.edges.contains(&(u, v));
+        Connection::by(edge, self.any_reaches(self.successors(u).collect(), v))
+    }
+
+    /// The heads of the edges from `tail`.
+    fn successors(&self, tail: usize) -> impl Iterator<Item = usize> + '_ {
+        let own = self.edges.range((tail, 0)..=(tail, usize::MAX));
+        own.map(|&(_, head)| head)
+    }
+
+    /// Searches the set of edges from all vertices in `open` until `v` is met.
+    fn any_reaches(&self, mut open: Vec<usize>, v: usize) -> bool {
         let mut met = BTreeSet::new();
-        let mut open = vec![u];
         while let Some(tail) = open.pop() {
-            for &(_, head) in self.edges.range((tail, 0)..=(tail, usize::MAX)) {
+            for head in self.successors(tail) {
                 if head == v {
                     return true;
                 }

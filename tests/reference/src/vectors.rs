@@ -1,4 +1,4 @@
-//! Files of vectors: a name, a record in hexadecimal, its listing, a blank line.
+//! Files of vectors: a name, a record in hexadecimal, its listing, a blank line; or a script.
 
 use crate::hex::{from_hex, to_hex};
 use crate::listing::listing;
@@ -41,6 +41,21 @@ fn parse_block(block: &str) -> Result<Vector, String> {
         bytes,
         listing,
     })
+}
+
+/// A script and its answers, from a file that has each line of the script behind `> ` and its answer
+/// below. Comments and blank lines are passed over.
+pub fn parse_script(text: &str) -> (String, String) {
+    let (mut script, mut answers) = (String::new(), String::new());
+    let lines = text.lines();
+    for line in lines.filter(|line| !line.is_empty() && !line.starts_with('#')) {
+        let (part, line) = match line.strip_prefix("> ") {
+            Some(order) => (&mut script, order),
+            None => (&mut answers, line),
+        };
+        part.extend([line, "\n"]);
+    }
+    (script, answers)
 }
 
 /// A record as a block of such a file, with the listing that this reading gives.

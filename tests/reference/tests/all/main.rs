@@ -2,6 +2,7 @@
 
 mod breadth;
 mod chart;
+mod connections;
 mod damage;
 mod edges;
 mod geometry;
@@ -11,6 +12,7 @@ mod programs;
 mod proof_table;
 mod random;
 mod rules;
+mod scripts;
 mod sessions;
 mod shrink;
 mod strokes;

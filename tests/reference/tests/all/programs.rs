@@ -3,12 +3,13 @@
 use crate::support::{graph, layered, rising};
 use reference::listing::listing;
 use reference::random::{record, Generator};
-use reference::vectors::parse;
+use reference::vectors::{parse, parse_script};
 use std::io::Write;
 use std::process::{Command, Output, Stdio};
 
 const REFERENCE: &str = env!("CARGO_BIN_EXE_reference");
 const RECORDS: &str = env!("CARGO_BIN_EXE_records");
+const SESSION: &str = env!("CARGO_BIN_EXE_session");
 const COMPARE: &str = env!("CARGO_BIN_EXE_compare");
 
 fn run(program: &str, arguments: &[&str], input: &[u8]) -> Output {
@@ -63,6 +64,14 @@ fn records_prints_vectors() {
         assert_eq!(vector.bytes, record(&mut generator));
         assert_eq!(vector.listing, listing(&vector.bytes));
     }
+}
+
+#[test]
+fn session_answers_the_script() {
+    let (script, expected) = parse_script(include_str!("../../vectors/d.txt"));
+    let output = run(SESSION, &[], script.as_bytes());
+    assert!(output.status.success());
+    assert_eq!(text(&output), expected);
 }
 
 #[test]

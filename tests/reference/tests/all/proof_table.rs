@@ -31,6 +31,15 @@ fn p1_word_0_leads_to_all_others() {
 }
 
 #[test]
+fn p1_how_words_lead_to_each_other() {
+    let record = five_words();
+    let reach = Reachability::of(5, &record.edges);
+    let from_0: Vec<&str> = (0..5).map(|v| reach.connection(0, v).word()).collect();
+    assert_eq!(from_0, ["no", "arrow", "arrow", "both", "longer"]);
+    assert_eq!(reach.connection(4, 0).word(), "no");
+}
+
+#[test]
 fn p2_two_lines() {
     assert_eq!(channels(&draw(&five_words())), [vec![0, 1, 4], vec![2, 3]]);
 }

@@ -1,6 +1,7 @@
 //! Sessions: their refusals, and the machine of a set of edges.
 
 use crate::support::rising;
+use reference::connection::Connection;
 use reference::lawful::Relation;
 use reference::random::{calls, Generator};
 use reference::refusal::Refusal;
@@ -29,7 +30,7 @@ fn refused(session: &Session, u: usize, v: usize) -> Option<u8> {
     refusal.map(Refusal::number)
 }
 
-fn leads(session: &Session, u: usize, v: usize) -> Result<bool, Refusal> {
+fn leads(session: &Session, u: usize, v: usize) -> Result<Connection, Refusal> {
     let (after, answer) = session.clone().leads(u, v);
     assert_eq!(after, *session);
     answer
@@ -107,15 +108,30 @@ fn full_is_not_said_too_early() {
 }
 
 #[test]
-fn leads_goes_over_one_or_more_arrows() {
+fn leads_tells_an_arrow_from_longer_routes() {
     let session = with_edges(4, &[(0, 1), (1, 2)]);
-    assert_eq!(leads(&session, 0, 1), Ok(true));
-    assert_eq!(leads(&session, 0, 2), Ok(true));
-    assert_eq!(leads(&session, 2, 0), Ok(false));
-    assert_eq!(leads(&session, 0, 0), Ok(false));
-    assert_eq!(leads(&session, 0, 3), Ok(false));
+    assert_eq!(leads(&session, 0, 1), Ok(Connection::EdgeOnly));
+    assert_eq!(leads(&session, 0, 2), Ok(Connection::LongerOnly));
+    assert_eq!(leads(&session, 2, 0), Ok(Connection::Unreached));
+    assert_eq!(leads(&session, 0, 0), Ok(Connection::Unreached));
+    assert_eq!(leads(&session, 0, 3), Ok(Connection::Unreached));
     assert_eq!(leads(&session, 0, 4), Err(Refusal::UnknownVertex));
     assert_eq!(leads(&session, 4, 0), Err(Refusal::UnknownVertex));
+}
+
+/// An arrow added makes longer routes of the pairs around it, and of its own pair none.
+#[test]
+fn answers_change_as_the_session_grows() {
+    let session = with_edges(4, &[(0, 1), (2, 3), (0, 3)]);
+    assert_eq!(leads(&session, 0, 3), Ok(Connection::EdgeOnly));
+    assert_eq!(leads(&session, 0, 2), Ok(Connection::Unreached));
+    let (session, _) = session.add(1, 2);
+    assert_eq!(leads(&session, 1, 2), Ok(Connection::EdgeOnly));
+    assert_eq!(leads(&session, 0, 2), Ok(Connection::LongerOnly));
+    assert_eq!(leads(&session, 1, 3), Ok(Connection::LongerOnly));
+    assert_eq!(leads(&session, 0, 3), Ok(Connection::Both));
+    let (session, _) = session.add(1, 3);
+    assert_eq!(leads(&session, 1, 3), Ok(Connection::Both));
 }
 
 #[test]
@@ -123,9 +139,9 @@ fn calls_answer_as_the_functions_do() {
     let (session, answer) = fresh(2).call(Call::Add(0, 1));
     assert_eq!(answer, Answer::Added);
     let (session, answer) = session.call(Call::Leads(0, 1));
-    assert_eq!(answer, Answer::Leads(true));
+    assert_eq!(answer, Answer::Leads(Connection::EdgeOnly));
     let (session, answer) = session.call(Call::Leads(1, 0));
-    assert_eq!(answer, Answer::Leads(false));
+    assert_eq!(answer, Answer::Leads(Connection::Unreached));
     let (session, answer) = session.call(Call::Add(0, 1));
     assert_eq!(answer, Answer::Refused(Refusal::DuplicateEdge));
     let (_, answer) = session.call(Call::Leads(2, 0));
@@ -140,7 +156,8 @@ fn machine(size: usize, edges: &mut BTreeSet<(usize, usize)>, call: Call) -> Ans
     }
     if let Call::Leads(..) = call {
         let descent = Relation::of(size, edges.iter().copied()).closed();
-        return Answer::Leads(descent.has(u, v));
+        let longer = (0..size).any(|w| edges.contains(&(u, w)) && descent.has(w, v));
+        return Answer::Leads(Connection::by(edges.contains(&(u, v)), longer));
     }
     let mut grown = edges.clone();
     if !grown.insert((u, v)) {
@@ -176,5 +193,5 @@ fn random_calls_do_as_the_machine_does() {
             session = after;
         }
     }
-    assert_eq!(answers.len(), 6, "{answers:?}");
+    assert_eq!(answers.len(), 8, "{answers:?}");
 }

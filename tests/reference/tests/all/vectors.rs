@@ -1,13 +1,15 @@
-//! The 110 records whose listings are given, byte for byte.
+//! The 110 records whose listings are given, and the script whose answers are, byte for byte.
 
 use reference::listing::listing;
 use reference::record::Record;
-use reference::vectors::{block, parse, Vector};
+use reference::script::answers;
+use reference::vectors::{block, parse, parse_script, Vector};
 use std::collections::BTreeSet;
 
 const BASE: &str = include_str!("../../vectors/base.txt");
 const HOUSE_LINES: &str = include_str!("../../vectors/a.txt");
 const BREADTH: &str = include_str!("../../vectors/b.txt");
+const SCRIPT: &str = include_str!("../../vectors/d.txt");
 const FILES: [&str; 3] = [BASE, HOUSE_LINES, BREADTH];
 
 fn vectors(text: &str) -> Vec<Vector> {
@@ -31,6 +33,22 @@ fn all_listings_agree() {
     for vector in all() {
         assert_eq!(listing(&vector.bytes), vector.listing, "{}", vector.name);
     }
+}
+
+#[test]
+fn the_answers_to_the_script_agree() {
+    let (script, expected) = parse_script(SCRIPT);
+    assert_eq!((script.lines().count(), expected.lines().count()), (14, 14));
+    assert_eq!(answers(script.as_bytes()), expected);
+    let words: BTreeSet<&str> = expected.lines().collect();
+    let all = ["arrow", "both", "longer", "no", "ok", "refused 3"];
+    assert!(words.into_iter().eq(all));
+}
+
+#[test]
+fn a_changed_answer_is_noticed() {
+    let (script, changed) = parse_script(&SCRIPT.replacen("both", "longer", 1));
+    assert_ne!(answers(script.as_bytes()), changed);
 }
 
 #[test]
