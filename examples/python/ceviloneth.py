@@ -1,27 +1,33 @@
 #!/usr/bin/env python3
-"""Draws a record, or checks a folder of records: the shared library by ctypes alone.
+"""Draws a record, asks how its words lead to each other, or checks a folder of records: the shared library by ctypes alone.
 
     rt staticlib ceviloneth && tools/shared-library.sh
     python3 examples/python/ceviloneth.py draw samples/p5.record
+    python3 examples/python/ceviloneth.py leads samples/p5.record 0 3
     python3 examples/python/ceviloneth.py check samples
 
-`draw` prints the chart's counts and entries as a listing (docs/SPECIFICATION.md, 14.1), or `refused` and the number. `check` prints a line
-for each file of the folder that ends in `.record`, by name: accepted, or refused with the number and its word. Exit status 1 where a record
-is refused; 2 where the library, the file or the folder can't be used. CEVILONETH_LIBRARY names a library that lies elsewhere.
+`draw` prints the chart's counts and entries as a listing (docs/SPECIFICATION.md, 14.1), or `refused` and the number. `leads`
+prints how one word leads to another: `no`, `arrow`, `longer` or `both`, or `refused` and the number. `check` prints a line for each file
+of the folder that ends in `.record`, by name: accepted, or refused with the number and its word. Exit status 1 where something is refused;
+2 where the library, the file or the folder can't be used. CEVILONETH_LIBRARY names a library that lies elsewhere.
 """
 import ctypes
 import os
 import sys
 from pathlib import Path
 
-# What include/ceviloneth.h says: its version, the numbers of lists that hold every chart, the numbers of an entry, the refusals.
-VERSION = 3
+# What include/ceviloneth.h says: its version, the numbers of lists that hold every chart, the numbers of an entry, the refusals,
+# and how one word leads to another, in the words of the program `session`.
+VERSION = 4
 ROOM = [640, 20480, 1024]
 NUMBERS = [5, 5, 4]
 WORDS = ['', 'layout', 'size', 'stranger', 'double', 'ring', 'cover', 'broken', 'short', 'full', 'off page', 'broad']
+LEADS = ['no', 'arrow', 'longer', 'both']
 
 # One byte more than a record may have, so that a longer file is refused.
 MOST_BYTES = 65536
+
+LARGEST = ctypes.c_size_t(-1).value
 
 LIBRARY = Path(__file__).resolve().parents[2] / 'target' / 'shared' / 'libceviloneth.so'
 
@@ -45,6 +51,11 @@ class Counts(ctypes.Structure):
     ]
 
 
+class Answer(ctypes.Structure):
+    """`ceviloneth_answer`."""
+    _fields_ = [('refusal', ctypes.c_uint8), ('leads', ctypes.c_uint8)]
+
+
 def load(path):
     """The library with the types of its calls, if it is of the header's version."""
     if not Path(path).is_file():
@@ -55,6 +66,8 @@ def load(path):
         library.ceviloneth_version.restype = ctypes.c_uint32
         library.ceviloneth_chart.argtypes = [ctypes.c_char_p, ctypes.c_size_t] + 3 * [ctypes.POINTER(ctypes.c_uint16), ctypes.c_size_t]
         library.ceviloneth_chart.restype = Counts
+        library.ceviloneth_leads.argtypes = [ctypes.c_char_p] + 3 * [ctypes.c_size_t]
+        library.ceviloneth_leads.restype = Answer
     except (OSError, AttributeError) as error:
         raise Unusable(f'{path} is no library of this engine: {error}') from error
     if library.ceviloneth_version() != VERSION:
@@ -73,6 +86,10 @@ class Engine:
         """The counts of a record's chart. Where it is not refused, the lists begin with its entries."""
         lent = [part for numbers in self.lists for part in (numbers, len(numbers))]
         return self.library.ceviloneth_chart(record, len(record), *lent)
+
+    def leads(self, record, tail, head):
+        """How one word of a record leads to another; no chart is drawn for it."""
+        return self.library.ceviloneth_leads(record, len(record), tail, head)
 
     def entries(self, counts):
         """The words, the arrows and the bundles of the chart drawn last, each entry a list of numbers."""
@@ -113,6 +130,15 @@ def draw(engine, path):
     return 0
 
 
+def leads(engine, path, *words):
+    if not all(word.isdecimal() for word in words):
+        raise Unusable(f'words are numbers, and not {" and ".join(words)}')
+    # ctypes would let a larger number come round to a small one
+    answer = engine.leads(read(path), *(min(int(word), LARGEST) for word in words))
+    print(f'refused {answer.refusal}' if answer.refusal else LEADS[answer.leads])
+    return 1 if answer.refusal else 0
+
+
 def check(engine, folder):
     if not Path(folder).is_dir():
         raise Unusable(f'{folder} is no folder')
@@ -125,13 +151,14 @@ def check(engine, folder):
 
 
 def main():
-    commands = {'draw': draw, 'check': check}
-    if len(sys.argv) != 3 or sys.argv[1] not in commands:
+    commands = {('draw', 1): draw, ('leads', 3): leads, ('check', 1): check}
+    command = commands.get((sys.argv[1], len(sys.argv) - 2)) if len(sys.argv) > 1 else None
+    if command is None:
         print(__doc__, file=sys.stderr)
         return 2
     try:
         engine = Engine(os.environ.get('CEVILONETH_LIBRARY', LIBRARY))
-        return commands[sys.argv[1]](engine, sys.argv[2])
+        return command(engine, *sys.argv[2:])
     except Unusable as error:
         print(f'ceviloneth: {error}', file=sys.stderr)
         return 2

@@ -1,4 +1,5 @@
-/* The edge test: header and archive are of one version, and each list of each call may be (NULL, 0).
+/* The edge test: header and archive are of one version, each list of each call may be (NULL, 0), and questions are answered by the
+ * header's names.
  *
  *     rt staticlib ceviloneth
  *     cc -std=c99 -O1 -Wall -Iinclude -o target/edge tests/edge/edge.c target/staticlib/libceviloneth.a
@@ -21,14 +22,15 @@ static void expect(const char *what, unsigned said, unsigned expected) {
 }
 
 /* One word, also with an empty field of house lines; two words and an arrow, also with a house line of the second, and with two of it;
- * three words in a line with an arrow over it, which makes a bundle; as many words without arrows as a chart may have lines, and one more;
- * no record at all. */
+ * three words in a line with an arrow over it, which makes a bundle; four in a line with an arrow from the first to the last; as many
+ * words without arrows as a chart may have lines, and one more; no record at all. */
 static const uint8_t one[] = {1, 0, 1, 1, 2, 0, 0};
 static const uint8_t empty[] = {1, 0, 1, 1, 2, 0, 0, 3, 0, 0};
 static const uint8_t two[] = {1, 0, 1, 2, 2, 0, 2, 0, 1};
 static const uint8_t some[] = {1, 0, 1, 2, 2, 0, 2, 0, 1, 3, 0, 2, 1, 1};
 static const uint8_t twice[] = {1, 0, 1, 2, 2, 0, 2, 0, 1, 3, 0, 4, 1, 1, 1, 1};
 static const uint8_t three[] = {1, 0, 1, 3, 2, 0, 6, 0, 1, 1, 2, 0, 2};
+static const uint8_t four[] = {1, 0, 1, 4, 2, 0, 8, 0, 1, 1, 2, 2, 3, 0, 3};
 static const uint8_t most[] = {1, 0, 1, CEVILONETH_LINES, 2, 0, 0};
 static const uint8_t broad[] = {1, 0, 1, CEVILONETH_LINES + 1, 2, 0, 0};
 static const uint8_t broken[] = {9};
@@ -63,6 +65,34 @@ static void try_charts(void) {
     }
 }
 
+/* How words 0 to 3 of the record `four` lead to each other, and a word that is not there. */
+static const struct {
+    size_t from, to;
+    unsigned refusal, leads;
+} answers[] = {
+    {0, 1, 0, CEVILONETH_ARROW},      {0, 2, 0, CEVILONETH_LONGER},     {0, 3, 0, CEVILONETH_BOTH},
+    {1, 3, 0, CEVILONETH_LONGER},     {2, 3, 0, CEVILONETH_ARROW},      {3, 0, 0, CEVILONETH_NOT_AT_ALL},
+    {2, 2, 0, CEVILONETH_NOT_AT_ALL}, {0, 4, 3, CEVILONETH_NOT_AT_ALL}, {4, 4, 3, CEVILONETH_NOT_AT_ALL},
+};
+
+static void expect_answer(ceviloneth_answer a, size_t i) {
+    expect("whether a question is refused", a.refusal, answers[i].refusal);
+    expect("how a word leads to another", a.leads, answers[i].leads);
+}
+
+/* The same questions of the record, and of a session with its arrows. */
+static void try_answers(void) {
+    static uint64_t state[CEVILONETH_STATE];
+    expect("a start", ceviloneth_session_start(state, CEVILONETH_STATE, 4), 0);
+    for (size_t at = 7; at < sizeof four; at += 2) {
+        expect("an arrow", ceviloneth_session_add(state, CEVILONETH_STATE, four[at], four[at + 1]), 0);
+    }
+    for (size_t i = 0; i < sizeof answers / sizeof *answers; i++) {
+        expect_answer(ceviloneth_leads(four, sizeof four, answers[i].from, answers[i].to), i);
+        expect_answer(ceviloneth_session_leads(state, CEVILONETH_STATE, answers[i].from, answers[i].to), i);
+    }
+}
+
 static void try_questions(void) {
     ceviloneth_answer a = ceviloneth_leads(NULL, 0, 0, 0);
     expect("a question about no record", a.refusal, 1);
@@ -84,6 +114,7 @@ int main(void) {
     expect("the archive's version", ceviloneth_version(), CEVILONETH_VERSION);
     try_charts();
     try_questions();
+    try_answers();
     try_sessions();
     printf("%u answers\nok\n", calls);
     return 0;

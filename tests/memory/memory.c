@@ -307,6 +307,26 @@ static void kept(uint64_t *state, size_t length, const uint64_t *before, size_t 
     unchanged(state_pages, (uint8_t *)state, 8 * length);
 }
 
+static unsigned long led[4]; /* how often each way to lead was answered */
+
+/* A question answers one of four, and where it is refused the first. */
+static void hear(ceviloneth_answer told) {
+    if (told.leads > CEVILONETH_BOTH || (told.refusal != 0 && told.leads != CEVILONETH_NOT_AT_ALL)) {
+        fail("an answer that is none");
+    }
+    led[told.leads] += told.refusal == 0;
+}
+
+/* All of them must have been answered since they were last counted. */
+static void all_ways_led(void) {
+    for (int i = 0; i < 4; i++) {
+        if (led[i] == 0) {
+            fail("one of the ways to lead was never answered");
+        }
+        led[i] = 0;
+    }
+}
+
 /* Calls on a state of a length, whatever is in it. */
 static void session_calls(uint64_t *state, size_t length, int count) {
     static uint64_t before[STATE + 8];
@@ -320,11 +340,9 @@ static void session_calls(uint64_t *state, size_t length, int count) {
             fail("a short state isn't refused with 8");
         }
         memcpy(before, state, 8 * length);
-        ceviloneth_answer told = ceviloneth_session_leads(state, length, from, to);
+        ceviloneth_answer told = ceviloneth_session_leads(state, length, from, word());
         kept(state, length, before, 0);
-        if (told.leads > 1 || (told.refusal != 0 && told.leads != 0)) {
-            fail("an answer that is none");
-        }
+        hear(told);
     }
 }
 
@@ -365,8 +383,9 @@ static void try_questions(void) {
         protect(record_pages, PROT_READ);
         ceviloneth_answer told = ceviloneth_leads(place, size, word(), word());
         calls++;
-        if (told.refusal > 7 || told.leads > 1 || (told.refusal != 0 && told.leads != 0)) {
-            fail("an answer that is none");
+        hear(told);
+        if (told.refusal > 7) {
+            fail("a refusal that isn't a question's");
         }
     }
 }
@@ -420,7 +439,9 @@ int main(void) {
     try_broad();
     all_answers_given();
     try_sessions();
+    all_ways_led();
     try_questions();
+    all_ways_led();
     try_strokes();
     printf("%lu calls\nok\n", calls);
     return 0;

@@ -1,5 +1,6 @@
 #!/usr/bin/env python3
-"""The example in Python: what it draws is each sample's listing, what it checks is what the program `chart` says, and errors are told.
+"""The example in Python: what it draws is each sample's listing, what it checks is what the program `chart` says, words lead to each other
+by the arrows, and errors are told.
 
 Needs target/shared/libceviloneth.so (tools/shared-library.sh) and target/bin/chart. Exit status 1 where something differs.
 """
@@ -76,10 +77,20 @@ def test_checking(folder):
     expect('refused files beside sound ones', run('check', folder), checked(sorted(folder.glob('*.record'))))
 
 
+def test_leading():
+    for tail, head, answer in [(0, 1, 'arrow'), (0, 3, 'both'), (0, 4, 'longer'), (3, 0, 'no'), (4, 4, 'no')]:
+        said = run('leads', ROOT / 'samples' / 'p1.record', str(tail), str(head))
+        expect(f'p1, {tail} to {head}', said, (0, f'{answer}\n', ''))
+    for name, head, number in [('p1', 5, 3), ('p1', 2 ** 64 + 1, 3), ('ring', 1, 5)]:
+        said = run('leads', ROOT / 'samples' / f'{name}.record', '0', str(head))
+        expect(f'{name}, 0 to {head}', said, (1, f'refused {number}\n', ''))
+    expect('a question of a broad record', run('leads', ROOT / 'samples' / 'broad.record', '0', '0'), (0, 'no\n', ''))
+
+
 def of_another_version(folder):
     """A library that has the calls and says another version."""
     library = folder / 'other.so'
-    source = 'unsigned ceviloneth_version(void) { return 77; } void ceviloneth_chart(void) {}'
+    source = 'unsigned ceviloneth_version(void) { return 77; } void ceviloneth_chart(void) {} void ceviloneth_leads(void) {}'
     subprocess.run(['cc', '-shared', '-fPIC', '-o', library, '-x', 'c', '-'], input=source, text=True, check=True)
     return library
 
@@ -92,11 +103,15 @@ def test_errors(folder):
     expect_error('another version', run('draw', record, library=of_another_version(folder)), 'other.so has version 77')
     expect_error('no file', run('draw', folder / 'no.record'), 'no.record can\'t be read')
     expect_error('no folder', run('check', folder / 'no'), 'no is no folder')
-    expect('wrong use', run('paint', record)[0], 2)
+    expect_error('no number', run('leads', record, '0', 'x'), 'words are numbers')
+    expect_error('a question of no file', run('leads', folder / 'no.record', '0', '1'), 'no.record can\'t be read')
+    for arguments in [('paint', record), (), ('leads', record), ('draw', record, '0', '1')]:
+        expect('wrong use', run(*arguments)[0], 2)
 
 
 def main():
     test_drawing()
+    test_leading()
     with tempfile.TemporaryDirectory() as folder:
         test_checking(Path(folder))
     with tempfile.TemporaryDirectory() as folder:

@@ -80,6 +80,7 @@ static void call_session(void) {
         hear(ceviloneth_session_add(state, CEVILONETH_STATE, record[at], record[at + 1]));
         doing = "ceviloneth_session_leads";
         hear_answer(ceviloneth_session_leads(state, CEVILONETH_STATE, record[at + 1], record[at]));
+        hear_answer(ceviloneth_session_leads(state, CEVILONETH_STATE, record[7], record[at + 1]));
     }
 }
 

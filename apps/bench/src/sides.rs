@@ -4,6 +4,7 @@ use crate::inputs::{Input, ROOM};
 use ceviloneth::raw::ChartCounts;
 use ceviloneth::{raw, ARROW_NUMBERS, BUNDLE_NUMBERS, STATE_NUMBERS, WORD_NUMBERS};
 use reference::chart::Room;
+use reference::connection::leads;
 use reference::geometry::Place;
 use reference::record::MAX_VERTICES;
 use reference::session::{Answer, Call, Session};
@@ -98,6 +99,36 @@ pub fn run_second(script: &[Call]) -> u64 {
         session = after;
     }
     session.edges().len() as u64
+}
+
+/// Asks a session of the proved library how words lead to each other.
+pub fn ask_proved(state: &[u64; STATE_NUMBERS], pairs: &[(usize, usize)]) {
+    for &(u, v) in pairs {
+        black_box(raw::session_leads(black_box(state), u, v));
+    }
+}
+
+/// The same with the second implementation.
+pub fn ask_second(session: &mut Session, pairs: &[(usize, usize)]) {
+    for &(u, v) in pairs {
+        let (after, answer) = std::mem::take(session).leads(u, v);
+        *session = after;
+        let _ = black_box(answer);
+    }
+}
+
+/// Asks the proved library the same of a record.
+pub fn ask_record_proved(record: &[u8], pairs: &[(usize, usize)]) {
+    for &(u, v) in pairs {
+        black_box(raw::leads(black_box(record), u, v));
+    }
+}
+
+/// The same with the second implementation.
+pub fn ask_record_second(record: &[u8], pairs: &[(usize, usize)]) {
+    for &(u, v) in pairs {
+        let _ = black_box(leads(black_box(record), u, v));
+    }
 }
 
 /// Makes side strokes with the proved library.

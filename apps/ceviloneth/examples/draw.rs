@@ -49,7 +49,7 @@ fn show(record: &[u8], chart: &Chart) -> Result<(), Refusal> {
     }
     let last = chart.words.len() - 1;
     println!(
-        "word 0 leads to word {last}: {}",
+        "word 0 leads to word {last} {}",
         ceviloneth::leads(record, 0, last)?
     );
     let places = [&chart.words[0], &chart.words[last]].map(|word| Place {
@@ -60,12 +60,14 @@ fn show(record: &[u8], chart: &Chart) -> Result<(), Refusal> {
     grow()
 }
 
-/// A session: two arrows go in, a third would close a ring.
+/// A session: three arrows go in, a fourth would close a ring.
 fn grow() -> Result<(), Refusal> {
     let mut session = Session::start(3)?;
     session.add(0, 1)?;
     session.add(1, 2)?;
-    println!("in a session 0 leads to 2: {}", session.leads(0, 2)?);
+    println!("in a session 0 leads to 2 {}", session.leads(0, 2)?);
+    session.add(0, 2)?;
+    println!("after an arrow of their own, {}", session.leads(0, 2)?);
     if let Err(refusal) = session.add(2, 0) {
         println!("arrow 2 to 0 is refused: {refusal}");
     }

@@ -8,6 +8,7 @@
 //!     println!("{} rows, {} lines", chart.counts.rows, chart.counts.lines);
 
 mod chart;
+mod leads;
 pub mod raw;
 mod refusal;
 mod session;
@@ -17,19 +18,15 @@ pub use chart::{
     chart, chart_into, Arrow, Bundle, Chart, Counts, Kind, Lists, Word, ARROW_NUMBERS,
     BUNDLE_NUMBERS, MOST_ARROWS, MOST_BUNDLES, MOST_LINES, MOST_WORDS, WORD_NUMBERS,
 };
+pub use leads::{leads, Leads};
 pub use refusal::Refusal;
 pub use session::{Session, STATE_NUMBERS};
 pub use stroke::{stroke_bent, stroke_side, stroke_straight, Place, Point};
 
 /// The version of the header that this crate was written by.
-pub const VERSION: u32 = 3;
+pub const VERSION: u32 = 4;
 
 /// The version of the archive that is linked; where it isn't [`VERSION`] an app must not go on.
 pub fn version() -> u32 {
     raw::version()
-}
-
-/// Whether a word of a record leads to another, by one arrow or more; of a broad record too.
-pub fn leads(record: &[u8], from: usize, to: usize) -> Result<bool, Refusal> {
-    raw::leads(record, from, to).answer()
 }

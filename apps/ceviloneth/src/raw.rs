@@ -31,7 +31,8 @@ pub struct ChartCounts {
 pub struct Answer {
     /// Why it is refused, or 0.
     pub refusal: u8,
-    /// 1 where the first word leads to the second; 0 where it doesn't or the call is refused.
+    /// How the first word leads to the second: 0 not at all, 1 by an arrow only, 2 by longer routes
+    /// only, 3 by both; 0 where the call is refused.
     pub leads: u8,
 }
 
@@ -117,13 +118,13 @@ pub fn session_add(state: &mut [u64], from: usize, to: usize) -> u8 {
     unsafe { ceviloneth_session_add(state.as_mut_ptr(), state.len(), from, to) }
 }
 
-/// Whether a word leads to another in the session in the lent state.
+/// How a word leads to another in the session in the lent state.
 pub fn session_leads(state: &[u64], from: usize, to: usize) -> Answer {
     // SAFETY: the pointer comes with the length of its slice.
     unsafe { ceviloneth_session_leads(state.as_ptr(), state.len(), from, to) }
 }
 
-/// Whether a word of a record leads to another.
+/// How a word of a record leads to another.
 pub fn leads(record: &[u8], from: usize, to: usize) -> Answer {
     // SAFETY: the pointer comes with the length of its slice.
     unsafe { ceviloneth_leads(record.as_ptr(), record.len(), from, to) }

@@ -1,5 +1,6 @@
 //! Sessions: a graph that grows arrow by arrow.
 
+use crate::leads::Leads;
 use crate::raw;
 use crate::refusal::Refusal;
 
@@ -25,8 +26,8 @@ impl Session {
         Refusal::of_number(raw::session_add(&mut self.state, from, to))
     }
 
-    /// Whether the arrows added lead from one word to the other.
-    pub fn leads(&self, from: usize, to: usize) -> Result<bool, Refusal> {
+    /// How the arrows added lead from one word to the other.
+    pub fn leads(&self, from: usize, to: usize) -> Result<Leads, Refusal> {
         raw::session_leads(&self.state, from, to).answer()
     }
 
@@ -38,12 +39,5 @@ impl Session {
     /// The number of arrows.
     pub fn arrows(&self) -> u64 {
         self.state[1]
-    }
-}
-
-impl raw::Answer {
-    /// The answer, or why there is none.
-    pub fn answer(self) -> Result<bool, Refusal> {
-        Refusal::of_number(self.refusal).map(|()| self.leads == 1)
     }
 }

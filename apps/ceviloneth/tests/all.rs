@@ -2,7 +2,7 @@
 
 use ceviloneth::{
     chart, chart_into, leads, stroke_bent, stroke_side, stroke_straight, version, Bundle, Kind,
-    Lists, Place, Point, Refusal, Session, Word, MOST_LINES, VERSION,
+    Leads, Lists, Place, Point, Refusal, Session, Word, MOST_LINES, VERSION,
 };
 
 const P5: &[u8] = &[1, 0, 1, 4, 2, 0, 12, 0, 1, 0, 2, 0, 3, 1, 2, 1, 3, 2, 3];
@@ -18,6 +18,37 @@ fn header_wrapper_and_archive_are_of_one_version() {
     let line = format!("#define CEVILONETH_LINES {MOST_LINES}\n");
     assert!(header.contains(&line), "the header's most lines");
     assert_eq!(version(), VERSION);
+}
+
+#[test]
+fn answers_have_the_numbers_of_the_header_and_their_words() {
+    let header = include_str!("../../../include/ceviloneth.h");
+    let number = |name: &str| {
+        let mut words = header.lines().map(|line| line.split_whitespace());
+        let mut found = words.find(|words| words.clone().take(2).eq(["#define", name]));
+        found.as_mut().and_then(|words| words.nth(2))
+    };
+    for (answer, name, said) in [
+        (Leads::NotAtAll, "CEVILONETH_NOT_AT_ALL", "not at all"),
+        (Leads::Arrow, "CEVILONETH_ARROW", "by an arrow only"),
+        (Leads::Longer, "CEVILONETH_LONGER", "by longer routes only"),
+        (Leads::Both, "CEVILONETH_BOTH", "by both"),
+    ] {
+        assert_eq!(number(name), Some(answer.number().to_string().as_str()));
+        assert_eq!(answer.to_string(), said);
+        assert_eq!(answer.at_all(), answer != Leads::NotAtAll);
+    }
+}
+
+#[test]
+#[should_panic]
+fn a_number_that_is_no_answer_is_not_taken_for_one() {
+    let beyond = Leads::Both.number() + 1;
+    let _ = ceviloneth::raw::Answer {
+        refusal: 0,
+        leads: beyond,
+    }
+    .answer();
 }
 
 #[test]
@@ -151,7 +182,7 @@ fn a_chart_of_more_lines_than_the_most_is_broad() {
         assert_eq!(refused, Err(Refusal::Broad));
     }
     assert_eq!((words, arrows, bundles), ([7; 200], [7; 1], [7; 1]));
-    assert_eq!(leads(&broad, 0, MOST_LINES), Ok(false));
+    assert_eq!(leads(&broad, 0, MOST_LINES), Ok(Leads::NotAtAll));
 }
 
 #[test]
@@ -164,18 +195,42 @@ fn sessions_grow_and_refuse() {
     assert_eq!(session.add(0, 3), Err(Refusal::Stranger));
     assert_eq!(session.add(0, 1), Err(Refusal::Double));
     assert_eq!(session.add(2, 0), Err(Refusal::Ring));
-    assert_eq!(
-        (session.leads(0, 2), session.leads(2, 0)),
-        (Ok(true), Ok(false))
-    );
+    assert_eq!(session.leads(2, 0), Ok(Leads::NotAtAll));
+    assert_eq!(session.leads(0, 1), Ok(Leads::Arrow));
+    assert_eq!(session.leads(0, 2), Ok(Leads::Longer));
     assert_eq!(session.leads(usize::MAX, 0), Err(Refusal::Stranger));
     assert_eq!((session.words(), session.arrows()), (3, 2));
+    assert_eq!(session.add(0, 2), Ok(()));
+    assert_eq!(session.leads(0, 2), Ok(Leads::Both));
+    assert_eq!(session.leads(0, 0), Ok(Leads::NotAtAll));
+}
+
+/// Neighbours of a line are led to, and an arrow is implied where its ends answer both.
+#[test]
+fn lines_and_marks_go_by_the_answers() {
+    let chart = chart(P6).expect("a chart");
+    for (from, word) in chart.words.iter().enumerate() {
+        let next = (word.line, word.position + 1);
+        let mut words = chart.words.iter();
+        if let Some(to) = words.position(|word| (word.line, word.position) == next) {
+            assert!(leads(P6, from, to).is_ok_and(Leads::at_all));
+        }
+    }
+    let chart = ceviloneth::chart(P5).expect("a chart");
+    for (arrow, ends) in chart.arrows.iter().zip(P5[7..].chunks(2)) {
+        let answer = leads(P5, ends[0].into(), ends[1].into());
+        assert_eq!(answer == Ok(Leads::Both), arrow.implied);
+    }
 }
 
 #[test]
 fn questions_and_strokes() {
-    assert_eq!((leads(P5, 0, 3), leads(P5, 3, 0)), (Ok(true), Ok(false)));
+    let both_ways = (leads(P5, 0, 3), leads(P5, 3, 0));
+    assert_eq!(both_ways, (Ok(Leads::Both), Ok(Leads::NotAtAll)));
+    assert_eq!(leads(P5, 0, 1), Ok(Leads::Arrow));
+    assert_eq!(leads(P6, 3, 5), Ok(Leads::Longer));
     assert_eq!(leads(P5, 0, 4), Err(Refusal::Stranger));
+    assert_eq!(leads(&[], 0, 0), Err(Refusal::Layout));
     let at = |column, row| Place { column, row };
     let point = |across, up| Point { across, up };
     let straight = stroke_straight([at(0, 0), at(3, 3)]);

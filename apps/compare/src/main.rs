@@ -5,6 +5,7 @@ mod answers;
 mod broad;
 mod edges;
 mod least;
+mod pairs;
 mod questions;
 mod records;
 mod sessions;
@@ -17,11 +18,11 @@ use tester::{Outcome, Tester};
 
 const HELP: &str = "usage: compare [--quick] [--seed NUMBER]
 
-Compares the proved library with the second implementation: all small graphs with all house lines,
-the limits, damaged and random records, lists of every length, sessions, strokes; and tries by
-brute force whether a small graph has a smaller lawful chart that has the house lines whole, and
-whether every division into lines of a broad one has too many. Every chart is also drawn by the peer
-(tests/peer), which must agree. --quick does less of what chance makes.
+Compares the proved library with the second implementation: all small graphs with all house lines
+and all pairs of their words, the limits, damaged and random records, lists of every length, sessions,
+strokes; and tries by brute force whether a small graph has a smaller lawful chart that has the house
+lines whole, and whether every division into lines of a broad one has too many. Every chart is also
+drawn by the peer (tests/peer), which must agree. --quick does less of what chance makes.
 
 Exit status: 0 all agree; 1 a difference, printed with the smallest record found; 2 wrong use.
 ";
@@ -108,6 +109,7 @@ fn all_small(stages: &mut Stages) -> Outcome {
     stages.run("all house lines of small graphs", |t, _| {
         records::all_house_lines(t)
     })?;
+    stages.run("all pairs of words of small graphs", |t, _| pairs::pairs(t))?;
     stages.run("no smaller lawful chart", |t, _| least::least(t))
 }
 
@@ -141,6 +143,10 @@ fn summary(tester: &Tester) -> Outcome {
     // 9 and 10 are no answers of a chart.
     if let Some(number) = (0..=8).chain([11]).find(|&number| tester.seen[number] == 0) {
         return Err(format!("no record was answered with {number}"));
+    }
+    println!("words led to each other by number: {:?}", tester.led);
+    if tester.led.contains(&0) {
+        return Err("one of the four ways to lead was never answered".to_string());
     }
     println!("{} comparisons agree", tester.compared);
     Ok(())

@@ -1,5 +1,6 @@
 //! Questions about a record's descent, and page strokes.
 
+use crate::pairs::chart_tells;
 use crate::tester::{Outcome, Tester};
 use ceviloneth::raw;
 use reference::descent::Reachability;
@@ -7,15 +8,17 @@ use reference::geometry::Place;
 use reference::hex::to_hex;
 use reference::random::{self, Generator};
 use reference::record::Record;
+use reference::refusal::Refusal;
 use reference::shrink::shrink;
 use reference::strokes::{Polyline, PAGE_COLUMNS, PAGE_ROWS};
 
-/// Asks of random records whether words lead to each other, unknown words too.
+/// Asks of random records how words lead to each other, unknown words too; their charts must say so.
 pub fn leads(tester: &mut Tester, generator: &mut Generator, count: usize) -> Outcome {
     for _ in 0..count {
         let bytes = random::record(generator);
         let far = generator.pick(&[128, 255, 256, usize::MAX]).unwrap_or(128);
         leads_of(tester, &bytes, far)?;
+        chart_tells(tester, &bytes)?;
     }
     Ok(())
 }
@@ -30,24 +33,41 @@ pub fn leads_of(tester: &mut Tester, bytes: &[u8], far: usize) -> Outcome {
     Err(format!("leads differs on record {}", to_hex(&small)))
 }
 
+/// What the second implementation answers of one record.
+pub struct Expected(Result<Reachability, Refusal>);
+
+impl Expected {
+    /// Reads the record.
+    pub fn of(bytes: &[u8]) -> Expected {
+        let record = Record::read(bytes);
+        Expected(record.map(|record| Reachability::of(record.vertex_count, &record.edges)))
+    }
+
+    /// The number of words, 1 where the record is refused.
+    fn size(&self) -> usize {
+        self.0.as_ref().map_or(1, Reachability::vertex_count)
+    }
+
+    /// The refusal's number, and that of how one word leads to the other.
+    pub fn answer(&self, u: usize, v: usize) -> (u8, u8) {
+        match &self.0 {
+            Err(refusal) => (refusal.number(), 0),
+            Ok(reach) if u.max(v) >= reach.vertex_count() => (Refusal::UnknownVertex.number(), 0),
+            Ok(reach) => (0, reach.connection(u, v).number()),
+        }
+    }
+}
+
 /// Whether both sides answer alike for all pairs of some words.
 fn agree(bytes: &[u8], far: usize) -> bool {
-    let record = Record::read(bytes);
-    let size = record.as_ref().map_or(1, |record| record.vertex_count);
-    let reach = record
-        .as_ref()
-        .map(|record| Reachability::of(size, &record.edges));
+    let expected = Expected::of(bytes);
+    let size = expected.size();
     let words: Vec<usize> = (0..size + 2).step_by(1 + size / 12).chain([far]).collect();
-    let expected = |u: usize, v: usize| match &reach {
-        Err(refusal) => (refusal.number(), 0),
-        Ok(_) if u >= size || v >= size => (3, 0),
-        Ok(reach) => (0, u8::from(reach.reaches(u, v))),
-    };
     let found = |u, v| {
         let told = raw::leads(bytes, u, v);
         (told.refusal, told.leads)
     };
-    let alike = |u: usize| words.iter().all(|&v| found(u, v) == expected(u, v));
+    let alike = |u: usize| words.iter().all(|&v| found(u, v) == expected.answer(u, v));
     words.iter().all(|&u| alike(u))
 }
 

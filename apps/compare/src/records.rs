@@ -25,7 +25,8 @@ pub fn all_graphs(tester: &mut Tester) -> Outcome {
     Ok(())
 }
 
-fn all_arrow_sets(size: usize) -> impl Iterator<Item = Record> {
+/// Every set of arrows over so many words.
+pub fn all_arrow_sets(size: usize) -> impl Iterator<Item = Record> {
     choices(size * size, 2).map(move |chosen| {
         let arrows = (0..size * size).filter(|&pair| chosen[pair] == 1);
         Record {

@@ -2,6 +2,7 @@
 
 use crate::tester::{Outcome, Tester};
 use ceviloneth::{raw, STATE_NUMBERS};
+use reference::connection::Connection;
 use reference::random::{lent_calls, Generator};
 use reference::record::{MAX_EDGES, MAX_VERTICES};
 use reference::refusal::Refusal;
@@ -30,10 +31,10 @@ fn filling(generator: &mut Generator) -> Vec<LentCall> {
     generator.shuffle(&mut pairs);
     let more = [(0, 128), (usize::MAX, 1), pairs[0], (127, 0), (5, 5)];
     let adds = pairs[..MAX_EDGES + 40].iter().chain(&more);
-    let asks = pairs[MAX_EDGES..].iter();
+    let asks = pairs.iter().step_by(3).flat_map(|&(u, v)| [(u, v), (v, u)]);
     let start = LentCall::Start(MAX_VERTICES);
     let adds = adds.map(|&(u, v)| LentCall::On(Call::Add(u, v)));
-    let asks = asks.map(|&(u, v)| LentCall::On(Call::Leads(v, u)));
+    let asks = asks.map(|(u, v)| LentCall::On(Call::Leads(u, v)));
     [start].into_iter().chain(adds).chain(asks).collect()
 }
 
@@ -124,10 +125,10 @@ fn too_short(length: usize, script: Vec<LentCall>) -> Outcome {
     let mut state = any_numbers(length);
     for call in script {
         let found = match call {
-            LentCall::Start(words) => (raw::session_start(&mut state, words), false),
+            LentCall::Start(words) => (raw::session_start(&mut state, words), 0),
             LentCall::On(call) => proved(&mut state, call),
         };
-        if found != (Refusal::Short.number(), false) {
+        if found != (Refusal::Short.number(), 0) {
             return Err(format!("{call:?} on {length} numbers answers {found:?}"));
         }
         same("a list too short", &state, &any_numbers(length))?;
@@ -135,21 +136,21 @@ fn too_short(length: usize, script: Vec<LentCall>) -> Outcome {
     Ok(())
 }
 
-/// The number of the refusal, and the answer.
-fn numbers(answer: Answer) -> (u8, bool) {
+/// The numbers of the refusal and of the answer.
+fn numbers(answer: Answer) -> (u8, u8) {
     match answer {
-        Answer::Added => (0, false),
-        Answer::Leads(leads) => (0, leads),
-        Answer::Refused(refusal) => (refusal.number(), false),
+        Answer::Added => (0, 0),
+        Answer::Leads(connection) => (0, connection.number()),
+        Answer::Refused(refusal) => (refusal.number(), 0),
     }
 }
 
-fn proved(state: &mut [u64], call: Call) -> (u8, bool) {
+fn proved(state: &mut [u64], call: Call) -> (u8, u8) {
     match call {
-        Call::Add(u, v) => (raw::session_add(state, u, v), false),
+        Call::Add(u, v) => (raw::session_add(state, u, v), 0),
         Call::Leads(u, v) => {
             let told = raw::session_leads(state, u, v);
-            (told.refusal, told.leads == 1)
+            (told.refusal, told.leads)
         }
     }
 }
@@ -177,7 +178,7 @@ fn spelt(session: &Session) -> Vec<u64> {
         for v in 0..session.vertex_count() {
             let (after, leads) = known.leads(u, v);
             known = after;
-            let bit = u64::from(leads == Ok(true)) << (v % 64);
+            let bit = u64::from(leads.is_ok_and(Connection::reaches)) << (v % 64);
             state[258 + 2 * u + v / 64] |= bit;
         }
     }

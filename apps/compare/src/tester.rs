@@ -12,6 +12,8 @@ pub struct Tester {
     pub compared: usize,
     /// How often each answer came, 0 for a chart.
     pub seen: [usize; 12],
+    /// How often words led to each other in each of the four ways.
+    pub led: [usize; 4],
 }
 
 /// The first difference, for a person to read.
@@ -24,6 +26,7 @@ impl Tester {
             second: Second::new(),
             compared: 0,
             seen: [0; 12],
+            led: [0; 4],
         }
     }
 
