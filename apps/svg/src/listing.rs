@@ -3,8 +3,10 @@
 use reference::columns::track_column;
 use reference::geometry::Place;
 
-/// A word's place; its number is its index.
+/// A word's line and place; its number is its index.
 pub struct Word {
+    /// The line it is in.
+    pub line: usize,
     /// Where it stands.
     pub place: Place,
 }
@@ -128,9 +130,9 @@ fn parse_header(line: &str) -> Result<Listing, String> {
 }
 
 fn word(next: usize, rest: &[&str]) -> Option<Word> {
-    let [number, _, _, column, row] = numbers(rest)?;
+    let [number, line, _, column, row] = numbers(rest)?;
     let place = Place::new(column, row);
-    (number == next).then_some(Word { place })
+    (number == next).then_some(Word { line, place })
 }
 
 fn arrow(next: usize, rest: &[&str]) -> Option<Arrow> {

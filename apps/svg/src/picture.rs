@@ -23,9 +23,39 @@ const STYLE: &str = "
   text { font: 5px sans-serif; text-anchor: middle; fill: #222 }
 ";
 
+/// What stands around the parts of a picture.
+pub trait Form {
+    /// The opening tag of a picture of these points across and up.
+    fn opening(&self, width: f32, height: f32) -> String;
+    /// Further attributes of an arrow.
+    fn arrow(&self, number: usize) -> String;
+    /// A word's point at `(x, y)`, with what goes around it.
+    fn word(&self, number: usize, at: (f32, f32), point: &str) -> String;
+}
+
+/// A picture in a file of its own.
+pub struct File;
+
+impl Form for File {
+    fn opening(&self, width: f32, height: f32) -> String {
+        format!(
+            "<svg xmlns=\"http://www.w3.org/2000/svg\" width=\"{width}pt\" height=\"{height}pt\" \
+             viewBox=\"0 0 {width} {height}\">"
+        )
+    }
+
+    fn arrow(&self, _: usize) -> String {
+        String::new()
+    }
+
+    fn word(&self, _: usize, _: (f32, f32), point: &str) -> String {
+        point.to_string()
+    }
+}
+
 /// The listing as SVG; the error names what lies off the page.
-pub fn svg(listing: &Listing) -> Result<String, String> {
-    let mut canvas = Canvas::new(listing)?;
+pub fn svg(listing: &Listing, form: &dyn Form) -> Result<String, String> {
+    let mut canvas = Canvas::new(listing, form)?;
     // Faint strokes first, so that no firm one is covered.
     let (implied, firm): (Vec<_>, Vec<_>) = (0..)
         .zip(&listing.arrows)
@@ -39,29 +69,28 @@ pub fn svg(listing: &Listing) -> Result<String, String> {
     Ok(canvas.finish())
 }
 
-struct Canvas {
+struct Canvas<'a> {
+    form: &'a dyn Form,
     height: f32,
     text: String,
 }
 
-impl Canvas {
-    fn new(listing: &Listing) -> Result<Canvas, String> {
+impl<'a> Canvas<'a> {
+    fn new(listing: &Listing, form: &'a dyn Form) -> Result<Canvas<'a>, String> {
         let (columns, rows) = (listing.width.max(1) - 1, listing.rows.max(1) - 1);
         let corner = point(Place::new(columns, rows))?;
         let (width, height) = (corner.across() + 2.0 * MARGIN, corner.up() + 2.0 * MARGIN);
-        let mut text = String::new();
+        let mut text = form.opening(width, height);
         let _ = write!(
             text,
-            "<svg xmlns=\"http://www.w3.org/2000/svg\" width=\"{width}pt\" height=\"{height}pt\" \
-             viewBox=\"0 0 {width} {height}\">\n\
-             <!-- column pitch {COLUMN_PITCH}, row pitch {ROW_PITCH} quarter points -->\n\
+            "\n<!-- column pitch {COLUMN_PITCH}, row pitch {ROW_PITCH} quarter points -->\n\
              <style>{STYLE}</style>\n\
              <defs><marker id=\"head\" viewBox=\"0 0 6 6\" refX=\"6\" refY=\"3\" markerWidth=\"4\" \
              markerHeight=\"4\" markerUnits=\"userSpaceOnUse\" orient=\"auto\">\
              <path d=\"M0 0 L6 3 L0 6 z\" fill=\"#444\"/></marker></defs>\n\
              <rect width=\"100%\" height=\"100%\"/>\n"
         );
-        Ok(Canvas { height, text })
+        Ok(Canvas { form, height, text })
     }
 
     fn arrow(&mut self, number: usize, arrow: &Arrow, listing: &Listing) -> Result<(), String> {
@@ -78,9 +107,10 @@ impl Canvas {
         };
         let implied = if arrow.implied { " implied" } else { "" };
         let (from, to) = (arrow.from, arrow.to);
+        let more = self.form.arrow(number);
         let _ = writeln!(
             self.text,
-            "<path class=\"arrow {class}{implied}\" d=\"{}\"><title>{number}: {from} to {to}, \
+            "<path class=\"arrow {class}{implied}\"{more} d=\"{}\"><title>{number}: {from} to {to}, \
              {class}{implied}</title></path>",
             path(&places)
         );
@@ -90,10 +120,11 @@ impl Canvas {
     fn word(&mut self, number: usize, place: Place) -> Result<(), String> {
         let (x, y) = self.at(point(place)?);
         let base = y + 1.8;
-        let _ = writeln!(
-            self.text,
+        let point = format!(
             "<circle cx=\"{x}\" cy=\"{y}\" r=\"{RADIUS}\"/><text x=\"{x}\" y=\"{base}\">{number}</text>"
         );
+        self.text.push_str(&self.form.word(number, (x, y), &point));
+        self.text.push('\n');
         Ok(())
     }
 

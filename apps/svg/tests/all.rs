@@ -5,6 +5,9 @@ use reference::vectors::{parse, Vector};
 use std::io::Write;
 use std::process::{Command, Output, Stdio};
 
+/// Samples that have a page.
+const SAMPLES: [&str; 6] = ["p1", "p5", "p6", "editor", "house", "large"];
+
 fn vector(name: &str) -> Vector {
     let text = include_str!("../../../tests/reference/vectors/base.txt");
     let vectors = parse(text).expect("vectors");
@@ -13,22 +16,64 @@ fn vector(name: &str) -> Vector {
 }
 
 fn draw(listing: &str) -> Output {
+    run(&[], listing)
+}
+
+fn run(arguments: &[&str], listing: &str) -> Output {
     let mut child = Command::new(env!("CARGO_BIN_EXE_svg"))
+        .args(arguments)
         .stdin(Stdio::piped())
         .stdout(Stdio::piped())
         .stderr(Stdio::piped())
         .spawn()
         .expect("the program runs");
     let mut input = child.stdin.take().expect("its input");
-    input.write_all(listing.as_bytes()).expect("it reads");
+    // Called in a wrong way it ends without reading.
+    let _ = input.write_all(listing.as_bytes());
     drop(input);
     child.wait_with_output().expect("it ends")
 }
 
 fn picture(listing: &str) -> String {
-    let output = draw(listing);
+    text(draw(listing))
+}
+
+fn page(listing: &str) -> String {
+    text(run(&["--html"], listing))
+}
+
+fn text(output: Output) -> String {
     assert!(output.status.success(), "{output:?}");
     String::from_utf8(output.stdout).expect("text")
+}
+
+/// A file of the repository.
+fn kept(path: &str) -> String {
+    let root = concat!(env!("CARGO_MANIFEST_DIR"), "/../..");
+    std::fs::read_to_string(format!("{root}/{path}")).expect(path)
+}
+
+fn sample_listing(name: &str) -> String {
+    kept(&format!("samples/{name}.listing"))
+}
+
+/// The text before the first place of another.
+fn before<'a>(text: &'a str, end: &str) -> &'a str {
+    text.split(end).next().expect("a part")
+}
+
+/// The texts that begin after one text and end before another, in their order.
+fn between<'a>(text: &'a str, begin: &str, end: &str) -> Vec<&'a str> {
+    let parts = text.split(begin).skip(1);
+    parts.map(|part| before(part, end)).collect()
+}
+
+/// The lines of a listing that begin with a letter, as their parts.
+fn entries<'a>(listing: &'a str, letter: &str) -> Vec<Vec<&'a str>> {
+    let lines = listing.lines().map(|line| line.split(' ').collect());
+    lines
+        .filter(|parts: &Vec<&str>| parts[0] == letter)
+        .collect()
 }
 
 #[test]
@@ -64,9 +109,8 @@ fn the_pictures_in_docs_are_what_it_draws() {
         let root = concat!(env!("CARGO_MANIFEST_DIR"), "/../..");
         let sample = name.to_lowercase();
         let record = std::fs::read(format!("{root}/samples/{sample}.record"));
-        let kept = std::fs::read_to_string(format!("{root}/docs/pictures/{name}.svg"));
         let drawn = picture(&listing(&record.expect("the record")));
-        assert_eq!(drawn, kept.expect("the picture"), "{name}");
+        assert_eq!(drawn, kept(&format!("docs/pictures/{name}.svg")), "{name}");
     }
 }
 
@@ -91,5 +135,150 @@ fn what_is_no_chart_is_refused() {
         let output = draw(listing);
         assert_eq!(output.status.code(), Some(1), "{listing}");
         assert!(output.stderr.starts_with(b"svg: "));
+    }
+}
+
+#[test]
+fn every_word_is_on_the_page() {
+    for sample in SAMPLES {
+        let listing = sample_listing(sample);
+        let page = page(&listing);
+        let expected = entries(&listing, "w")
+            .iter()
+            .map(|word| format!("word {}, line {}", word[1], word[2]))
+            .collect::<Vec<_>>();
+        let words = between(&page, "<g class=\"word\"", "</g>");
+        let labels = words
+            .iter()
+            .flat_map(|word| between(word, "aria-label=\"", "\""));
+        assert_eq!(labels.collect::<Vec<_>>(), expected, "{sample}");
+        assert!(words.iter().all(|word| word.contains(" tabindex=\"0\"")));
+    }
+}
+
+#[test]
+fn every_arrow_is_on_the_page_as_data_and_as_a_stroke() {
+    for sample in SAMPLES {
+        let listing = sample_listing(sample);
+        let page = page(&listing);
+        let arrows = entries(&listing, "a");
+        let pairs = arrows
+            .iter()
+            .map(|arrow| format!("[{},{}]", arrow[2], arrow[3]));
+        let data = format!("[{}]", pairs.collect::<Vec<_>>().join(","));
+        assert_eq!(
+            between(&page, "\"application/json\">", "<"),
+            [data],
+            "{sample}"
+        );
+        let mut strokes = between(&page, " data-arrow=\"", " d=");
+        strokes.sort_by_key(|stroke| before(stroke, "\"").parse::<usize>().expect("a number"));
+        let expected = arrows.iter().map(|arrow| {
+            let [_, number, from, to, ..] = arrow[..] else {
+                panic!("an arrow")
+            };
+            format!("{number}\" role=\"img\" aria-label=\"arrow from word {from} to word {to}\"")
+        });
+        assert_eq!(strokes, expected.collect::<Vec<_>>(), "{sample}");
+    }
+}
+
+#[test]
+fn the_page_has_the_strokes_and_points_of_the_picture() {
+    for sample in SAMPLES {
+        let listing = sample_listing(sample);
+        let (picture, page) = (picture(&listing), page(&listing));
+        // After the head of the arrows; the page has one more head, after the picture.
+        let strokes = |text| between(text, " d=\"", "</title>").split_off(1);
+        let page_strokes = strokes(before(&page, "class=\"heads\""));
+        assert_eq!(page_strokes, strokes(&picture), "{sample}");
+        for point in between(&picture, "\n<circle", "\n") {
+            assert!(page.contains(&format!("<circle{point}</g>")), "{point}");
+        }
+    }
+}
+
+#[test]
+fn the_page_needs_nothing_from_elsewhere() {
+    for sample in SAMPLES {
+        let page = page(&sample_listing(sample));
+        let page = page.replace("http://www.w3.org/2000/svg", "");
+        for other in [
+            "http:", "https:", "file:", "\"//", "src=", "@import", "import(", "fetch(",
+        ] {
+            assert!(!page.contains(other), "{sample}: {other}");
+        }
+        assert_eq!(between(&page, "href=\"", "\""), ["data:,"]);
+        let links = between(&page, "url(", ")");
+        assert!(links.iter().all(|link| link.starts_with('#')), "{links:?}");
+        assert!(page.contains("content=\"default-src 'none'; "));
+    }
+}
+
+#[test]
+fn every_name_is_on_the_page_once_and_every_element_is_closed() {
+    let page = page(&sample_listing("editor"));
+    let mut names = between(&page, " id=\"", "\"");
+    names.sort();
+    assert_eq!(
+        names,
+        ["answer", "arrows", "chart", "clear", "head", "keys", "lit-head"]
+    );
+    for element in [
+        "html", "head", "body", "style", "script", "svg", "g", "marker",
+    ] {
+        let opened = [' ', '>'].map(|end| page.matches(&format!("<{element}{end}")).count());
+        let closed = page.matches(&format!("</{element}>")).count();
+        assert_eq!(opened[0] + opened[1], closed, "{element}");
+    }
+}
+
+#[test]
+fn of_the_listing_only_numbers_get_into_the_page() {
+    let page_with = |count: &str, number: &str| {
+        page(&format!(
+            "chart {count} 1 rows 2 lines {count} firm 1 bundles 0 width 3\n\
+             w {number} 0 {number} 1 0\nw 1 0 1 1 1\na 0 {number} 1 S f\n"
+        ))
+    };
+    // The counts of the first line are not read, and numbers are written anew.
+    assert_eq!(page_with("</script><b>&\"'", "+0"), page_with("2", "0"));
+    for line in [
+        "w <b> 0 0 1 0",
+        "w 0 <b> 0 1 0",
+        "w 0 0 <b> 1 0",
+        "a 0 0 1 <b> f",
+    ] {
+        let listing = format!("chart 1 0 rows 1 lines 1 firm 0 bundles 0 width 3\n{line}\n");
+        let output = run(&["--html"], &listing);
+        assert_eq!(output.status.code(), Some(1), "{line}");
+        assert!(output.stdout.is_empty());
+    }
+}
+
+#[test]
+fn the_title_counts_words_and_arrows() {
+    let one = "chart 1 0 rows 1 lines 1 firm 0 bundles 0 width 3\nw 0 0 0 1 0\n";
+    assert!(page(one).contains("<title>Descent chart: 1 word, 0 arrows</title>"));
+    let page = page(&sample_listing("editor"));
+    assert!(page.contains("<title>Descent chart: 11 words, 15 arrows</title>"));
+}
+
+#[test]
+fn the_page_in_docs_is_what_it_draws() {
+    let drawn = page(&sample_listing("editor"));
+    assert!(
+        drawn == kept("docs/pictures/editor.html"),
+        "docs/pictures/README.md tells how to draw editor.html again"
+    );
+}
+
+#[test]
+fn wrong_use_is_told() {
+    for arguments in [&["--htm"][..], &["--html", "--html"], &["chart"], &[""]] {
+        let output = run(arguments, &sample_listing("p1"));
+        assert_eq!(output.status.code(), Some(2), "{arguments:?}");
+        assert!(output.stderr.starts_with(b"usage: svg "));
+        assert!(output.stdout.is_empty());
     }
 }
