@@ -33,40 +33,41 @@ module _ (w : ℕ) (t : List ℕ) (mask base v x : ℕ) (s : Visited mask x (Lac
       let b = and-elim (eqb (bit mask (p .0)) 1) (has? w t (base + p .0) v) (p .2) in
       true≢false (sym (b .1) ∙ visited-all mask x (Lacks w t base v) s z (p .0) (eqb-true _ 1 (b .0))))
 
--- ---- both masks of u
+-- ---- the masks of u, w of them
 
-module _ (e t : List ℕ) (u v : ℕ) where
+module _ (w : ℕ) (e t : List ℕ) (u v : ℕ) where
   -- bit j of mask i is vertex 64 i + j
-  row-bit : (i j : ℕ) → j < 64 → has? 2 e u (64 * i + j) ≡ eqb (bit (getD e (2 * u + i) 0) j) 1
+  row-bit : (i j : ℕ) → j < 64 → has? w e u (64 * i + j) ≡ eqb (bit (getD e (w * u + i) 0) j) 1
   unfolding has? at member
   row-bit i j h =
       let q : (64 * i + j) / 64 ≡ i = omega arith in
       let r : (64 * i + j) % 64 ≡ j = omega arith in rw (q, r)
 
   -- m is that mask, which begins at vertex b: by way of x, which is in it
-  passing-by : (i b m x : ℕ) → b ≡ 64 * i → m ≡ getD e (2 * u + i) 0 → b ≤ x → x < b + 64 → has? 2 e u x ≡ true → has? 2 t x v ≡ true
-      → passing? 2 t m b v ≡ true
+  passing-by : (i b m x : ℕ) → b ≡ 64 * i → m ≡ getD e (w * u + i) 0 → b ≤ x → x < b + 64 → has? w e u x ≡ true → has? w t x v ≡ true
+      → passing? w t m b v ≡ true
   unfolding passing?
   passing-by i b m x q same l h p r =
       let j : x - b < 64 = omega arith in
       some-found 64 _ (x - b) j
       (and-intro _ _
       (ap (λ (y : ℕ). eqb (bit y (x - b)) 1) same ∙ sym (row-bit i (x - b) j)
-      ∙ ap (has? 2 e u) (let z : 64 * i + (x - b) ≡ x = omega arith in z) ∙ p)
-      (ap (λ (y : ℕ). has? 2 t y v) (let z : b + (x - b) ≡ x = omega arith in z) ∙ r))
+      ∙ ap (has? w e u) (let z : 64 * i + (x - b) ≡ x = omega arith in z) ∙ p)
+      (ap (λ (y : ℕ). has? w t y v) (let z : b + (x - b) ≡ x = omega arith in z) ∙ r))
 
   -- .. and by way of a member
-  pub detour-by : (i b m : ℕ) → i < 2 → b ≡ 64 * i → m ≡ getD e (2 * u + i) 0 → passing? 2 t m b v ≡ true → detour? 2 e t u v ≡ true
+  pub detour-by : (i b m : ℕ) → i < w → b ≡ 64 * i → m ≡ getD e (w * u + i) 0 → passing? w t m b v ≡ true → detour? w e t u v ≡ true
   unfolding passing? detour?
   detour-by i b m h q same p =
-      let s = some-which 64 (λ j. eqb (bit m j) 1 && has? 2 t (b + j) v) p in
+      let s = some-which 64 (λ j. eqb (bit m j) 1 && has? w t (b + j) v) p in
       let l = s .1 in
-      let c = and-elim (eqb (bit m (s .0)) 1) (has? 2 t (b + s .0) v) (s .2) in
-      some-found 128 _ (b + s .0) (omega arith)
+      let c = and-elim (eqb (bit m (s .0)) 1) (has? w t (b + s .0) v) (s .2) in
+      some-found (w * 64) _ (b + s .0) (omega arith)
       (and-intro _ _
-      (ap (λ (y : ℕ). has? 2 e u (y + s .0)) q ∙ row-bit i (s .0) l ∙ ap (λ (y : ℕ). eqb (bit y (s .0)) 1) (sym same) ∙ c .0) (c .1))
+      (ap (λ (y : ℕ). has? w e u (y + s .0)) q ∙ row-bit i (s .0) l ∙ ap (λ (y : ℕ). eqb (bit y (s .0)) 1) (sym same) ∙ c .0) (c .1))
 
-  -- by the second mask alone, where it is not by the first
+-- of two masks: by the second alone, where it is not by the first
+module _ (e t : List ℕ) (u v : ℕ) where
   pub detour-second : (m n : ℕ) → m ≡ getD e (2 * u + 0) 0 → n ≡ getD e (2 * u + 1) 0 → passing? 2 t m 0 v ≡ false
       → detour? 2 e t u v ≡ passing? 2 t n 64 v
   unfolding detour?
@@ -77,7 +78,7 @@ module _ (e t : List ℕ) (u v : ℕ) where
       let l = s .1 in
       let c = and-elim (has? 2 e u (s .0)) (has? 2 t (s .0) v) (s .2) in
       ⊎-elim
-      (λ h. absurd (true≢false (sym (passing-by 0 0 m (s .0) refl first (omega arith) h (c .0) (c .1)) ∙ none)))
-      (λ h. passing-by 1 64 n (s .0) refl second h (omega arith) (c .0) (c .1))
+      (λ h. absurd (true≢false (sym (passing-by 2 e t u v 0 0 m (s .0) refl first (omega arith) h (c .0) (c .1)) ∙ none)))
+      (λ h. passing-by 2 e t u v 1 64 n (s .0) refl second h (omega arith) (c .0) (c .1))
       (lt-or-le (s .0) 64))
-      (detour-by 1 64 n (omega arith) refl second)
+      (detour-by 2 e t u v 1 64 n (omega arith) refl second)

@@ -6,7 +6,7 @@ use Rattle.editing.proofs.detour.Tie as tie
 returns : tie.Need-returns
 returns c =
     let passes = c .before in
-    sym (detour-by _ _ _ _ 0 0 _ (omega arith) refl (passes .before .mask-at .ensures) (sym (passes .passes .ensures) ∙ c .if1 .taken))
+    sym (detour-by 2 _ _ _ _ 0 0 _ (omega arith) refl (passes .before .mask-at .ensures) (sym (passes .passes .ensures) ∙ c .if1 .taken))
 
 returns-2 : tie.Need-returns-2
 returns-2 c =
