@@ -8,12 +8,13 @@ use Rattle.specification.specs.Count.{indicator, count}
 use Rattle.specification.specs.Sets.{member, member?}
 use Rattle.specification.specs.Bundles.{Bundle, gathers, taken, along, waits, waitsAt, lowest, highest, made, empty}
 use Rattle.counting.specs.Quads.{quad}
-use Rattle.counting.proofs.Truth.{true-or-false, lt-or-le, and-elim, two-cases}
+use Rattle.counting.proofs.Truth.{true-or-false, lt-or-le, and-elim}
 use Rattle.counting.proofs.Falsity.{not-true}
 use Rattle.counting.proofs.Sums.{sum-ext, sum-less}
 use Rattle.counting.proofs.Classes.{sum-term}
 use Rattle.counting.proofs.Quads.{quad-same, quad-other, quad-zero}
 use Rattle.masks.proofs.Sets.{member-lt}
+use Rattle.reach.proofs.Closures.{test-value}
 use Rattle.bundles.specs.Promise.{numberFrom, Listed}
 use Rattle.bundles.specs.Steps.{
   endOf,
@@ -89,9 +90,6 @@ part-empty (suc (suc (suc k))) = refl
 blank-entry : (l : List ℕ) → Filled 0 (length l) l → (k b : ℕ) → quad k l b ≡ part k empty
 blank-entry l f k b = quad-zero l (blank-value l f) k b ∙ sym (part-empty k)
 
-indicator-member : (x : ℕ) → x < 2 → x ≡ indicator (eqb x 1)
-indicator-member x l = ⊎-elim (λ e. rw e) (λ e. rw e) (two-cases x l)
-
 module _ (m n : ℕ) (small : n ≤ m * 64) (side : ℕ → ℕ → Bool) (inside : (u v : ℕ) → side u v ≡ true → (u < n) × (v < n)) where
   along-inside : (d : Bool) (v w : ℕ) → n ≤ w → along d side v w ≡ false
   along-inside true v w l = not-true (side w v) (λ e. let i = inside w v e in omega arith)
@@ -116,7 +114,7 @@ module _ (m n : ℕ) (small : n ≤ m * 64) (side : ℕ → ℕ → Bool) (insid
     };
     load = λ d v h. l .value d v h
         ∙ sum-ext (m * 64) (member sets (m * endOf d v)) (λ w. indicator (along d side v w))
-        (λ w k. indicator-member (member sets (m * endOf d v) w) (member-lt sets (m * endOf d v) w) ∙ ap indicator (s .has d v w h k))
+        (λ w k. test-value (member sets (m * endOf d v) w) (member-lt sets (m * endOf d v) w) ∙ ap indicator (s .has d v w h k))
         ∙ sum-less n (m * 64) (λ w. indicator (along d side v w)) small (λ w a b. ap indicator (along-inside d v w a))
         ∙ sum-ext n (λ w. indicator (along d side v w)) (λ w. indicator (waitsAt side [] d v w))
         (λ w k. ap indicator (nothing-taken d v w));

@@ -3,6 +3,7 @@ use Rattle.counting.proofs.Prelude.{_≡_, refl, ap, ap₂, _∙_, Bool, true, 
 use Rattle.counting.proofs.Prelude.{arith, getD, set}
 use native.Mathlib.Nat.{add-zero}
 use Rattle.specification.specs.Count.{indicator}
+use Rattle.counting.proofs.Truth.{indicator-le}
 use Rattle.counting.specs.Quads.{quad}
 use Rattle.specification.specs.Numbers.{codeOf, wordNumber, arrowNumber, bundleNumber, bundles}
 use Rattle.specification.specs.Pass.{asNumbers, stored, state, next}
@@ -23,12 +24,8 @@ unmarked : (b : Bool) (x : ℕ) → x ≡ indicator b → 1 - x ≡ indicator (n
 unmarked true x e = rw e refl
 unmarked false x e = rw e refl
 
-low : (b : Bool) (x : ℕ) → x ≡ indicator b → x ≤ 1
-low true x e = omega arith
-low false x e = omega arith
-
 pub mark-low : (longer : List ℕ) (u v x : ℕ) → x ≡ indicator (transitiveIn? longer u v) → x ≤ 1
-mark-low longer u v = low (transitiveIn? longer u v)
+mark-low longer u v x e = omega (arith, e, indicator-le (transitiveIn? longer u v))
 
 -- ---- a vertex and a bundle
 
