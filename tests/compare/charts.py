@@ -11,17 +11,12 @@ compared; the exit status is 1 at a difference.
 import resource
 import subprocess
 import sys
-import time
 
 sys.dont_write_bytecode = True
-from records import EDGES, ROOT, VECTORS, WORST, build, listing, random_records, vectors
+from records import EDGES, ROOT, VECTORS, WORST, build, by_pieces, listing, output, random_records, vectors
 
 PROGRAM = ROOT / 'target' / 'bin' / 'chart'
 STACK = 160 * 1024
-
-
-def output(status, text):
-    return text if status == 0 else f'ended with status {status}'.encode()
 
 
 def printed(record):
@@ -30,14 +25,7 @@ def printed(record):
 
 
 def printed_by_pieces(record):
-    """The record comes in pieces, so that a read gets less than was asked for."""
-    with subprocess.Popen([PROGRAM], stdin=subprocess.PIPE, stdout=subprocess.PIPE) as program:
-        for start in range(0, len(record), 777):
-            program.stdin.write(record[start:start + 777])
-            program.stdin.flush()
-            time.sleep(0.002)
-        text = program.communicate()[0]
-    return output(program.returncode, text)
+    return by_pieces(PROGRAM, record, 777)
 
 
 def printed_on_small_stack(record):

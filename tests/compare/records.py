@@ -1,6 +1,7 @@
-"""Records to compare programs on, and what the second implementation prints for them."""
+"""Records to compare programs on, what the second implementation prints for them, and how programs are run."""
 import re
 import subprocess
+import time
 from pathlib import Path
 
 ROOT = Path(__file__).resolve().parents[2]
@@ -11,6 +12,21 @@ VECTORS = 67 + 34 + 9
 
 # a name, a record in hexadecimal, its listing
 BLOCK = re.compile(r'^# (.*)\n([0-9A-Fa-f]*)\n((?:chart|refused) .*\n(?:[wab] .*\n)*)', re.M)
+
+
+def output(status, text):
+    return text if status == 0 else f'ended with status {status}'.encode()
+
+
+def by_pieces(program, data, size):
+    """What a program prints whose input comes in pieces of so many bytes: a read gets less than it asks for, a line is cut anywhere."""
+    with subprocess.Popen([program], stdin=subprocess.PIPE, stdout=subprocess.PIPE) as running:
+        for start in range(0, len(data), size):
+            running.stdin.write(data[start:start + size])
+            running.stdin.flush()
+            time.sleep(0.002)
+        text = running.communicate()[0]
+    return output(running.returncode, text)
 
 
 def field(tag, data):

@@ -11,10 +11,9 @@ import itertools
 import random
 import subprocess
 import sys
-import time
 
 sys.dont_write_bytecode = True
-from records import REFERENCE, ROOT, build, dense
+from records import REFERENCE, ROOT, build, by_pieces, dense, output
 
 PROGRAM = ROOT / 'target' / 'bin' / 'session'
 SECOND = REFERENCE / 'target' / 'release' / 'session'
@@ -26,17 +25,12 @@ ODD = ['', ' ', 'words', 'words 3 ', 'words  3', 'wordss 3', 'add 0', 'add 0 1 '
 
 
 def answers(program, script):
-    return subprocess.run([program], input=script, stdout=subprocess.PIPE, check=True).stdout
+    ran = subprocess.run([program], input=script, stdout=subprocess.PIPE)
+    return output(ran.returncode, ran.stdout)
 
 
 def answers_by_pieces(script):
-    """The script comes in pieces, so that lines are cut anywhere."""
-    with subprocess.Popen([PROGRAM], stdin=subprocess.PIPE, stdout=subprocess.PIPE) as program:
-        for start in range(0, len(script), 37):
-            program.stdin.write(script[start:start + 37])
-            program.stdin.flush()
-            time.sleep(0.001)
-        return program.communicate()[0]
+    return by_pieces(PROGRAM, script, 37)
 
 
 def text(lines):
