@@ -9,7 +9,7 @@ use Rattle.specification.specs.declared.Course.the-variants.{Straight, B
 use Rattle.specification.specs.declared.Code.{Code}
 use Rattle.specification.specs.declared.Connection.{Connection}
 use Rattle.specification.specs.declared.Connection.the-variants.{Unreached, EdgeOnly, LongerOnly, Both}
-use Rattle.specification.specs.Connection.{connectionNumber}
+use Rattle.specification.specs.Connection.{connectionNumber, numbered}
 use Prim.Native.Nat.{ℕ}
 use Rattle.specification.specs.Layout.{LayoutAnswer, layoutAnswer}
 use Rattle.specification.specs.Numbers.{codeOf, courseCode}
@@ -39,15 +39,12 @@ course-told (Bent x y) = refl
 pub same-course : (c d : Course) → courseCode c ≡ courseCode d → c ≡ d
 same-course c d e = sym (course-told c) ∙ ap courseBy e ∙ course-told d
 
-abbrev connectionBy : ℕ → Connection
-connectionBy k =
-    choose (eqb k 0) (λ _. Unreached) (λ _. choose (eqb k 1) (λ _. EdgeOnly) (λ _. choose (eqb k 2) (λ _. LongerOnly) (λ _. Both)))
-
-connection-told : (a : Connection) → connectionBy (connectionNumber a) ≡ a
+pub connection-told : (a : Connection) → numbered (connectionNumber a) ≡ a
+unfolding numbered
 connection-told Unreached = refl
 connection-told EdgeOnly = refl
 connection-told LongerOnly = refl
 connection-told Both = refl
 
 pub same-connection : (a b : Connection) → connectionNumber a ≡ connectionNumber b → a ≡ b
-same-connection a b e = sym (connection-told a) ∙ ap connectionBy e ∙ connection-told b
+same-connection a b e = sym (connection-told a) ∙ ap numbered e ∙ connection-told b

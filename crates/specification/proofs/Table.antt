@@ -10,9 +10,11 @@ use Rattle.specification.specs.Planning.{predecessorOf, none?, is?, cand
 use Rattle.specification.specs.Planning.{matchingTo, successorFrom, successor, chain, begins, begun, plannedTo, planned}
 use Rattle.specification.specs.Channels.{has, placeFrom, linked, every, channelFrom, channelOf, positionOf, front, lines, filled}
 use Rattle.specification.specs.Channels.{linesOf, givenLines, unknown?, repeats?, broken?}
-use Rattle.specification.specs.Layout.{sizeAt, fieldAt, lined, withLines, afterEdges, withEdges, withVertices, layoutOf}
-use Rattle.specification.specs.Checks.{Content, edgesOf, connectionIn, size?, stranger?, double?, ring?, repeated?, unled?}
-use Rattle.specification.specs.Checks.{looseChecks, laterChecks, firstOf, refusalOf, contentOf, recordRefusal, said}
+use Rattle.specification.specs.Layout.{sizeAt, fieldAt, lined, withFloors, afterLines, withLines, afterEdges, withEdges}
+use Rattle.specification.specs.Layout.{withVertices, layoutOf}
+use Rattle.specification.specs.Checks.{Content, edgesOf, connectionIn, size?, unfloored?, floor?, stranger?, double?, ring?}
+use Rattle.specification.specs.Checks.{repeated?, unled?, looseChecks, laterChecks, firstOf, refusalOf, contentOf, recordRefusal}
+use Rattle.specification.specs.Checks.{said}
 use Rattle.specification.specs.Given.{heldIn, masked, unheld, without, beside, withGiven}
 use Rattle.specification.specs.Rows.{rowWithin}
 use Rattle.specification.specs.Connection.{longer?, connects}
@@ -21,14 +23,15 @@ use Rattle.specification.specs.Bundles.{alike, gathers, takes, bundleOf,
 use Rattle.specification.specs.Bundles.{bundles, adjacent?, apart?, side?, bundlesOf}
 use Rattle.specification.specs.Tracks.{lowestFree, earlier, meet, blocks, busy, placed, inRow, inRows, tracks}
 use Rattle.specification.specs.Geometry.{isHit, isBlocked, blockStart, ownColumn, bendBeside, courseOf}
-use Rattle.specification.specs.Chart.{leads?, descendantsOf, rowOf, rowCount, transitiveEdge?, reducedEdges, channelsOf, tracked}
+use Rattle.specification.specs.Chart.{leads?, descendantsOf, floorOf, rowOf, rowCount, transitiveEdge?, reducedEdges, channelsOf}
+use Rattle.specification.specs.Chart.{tracked}
 use Rattle.specification.specs.Chart.{bundled, planOf, tracksIn, columnIn, widthOf, kindBetween, vertexEntry, edgeEntry, bundleEntry}
 use Rattle.specification.specs.Chart.{polylineOf}
 use Rattle.specification.specs.Table.{graph1, graph5, housed, graph6, graph7, graph8, chain3, graph11, graph12, moving, meeting}
 use Rattle.specification.specs.Numbers.{codeOf, arrowNumber}
 use Rattle.specification.specs.Pass.{stored, next, after}
 use Rattle.specification.specs.Table.{touching, detour, early, alone, earlyAfter, record1, record5, record6, record7, record8}
-use Rattle.specification.specs.Table.{record9, record10, record11, chained, Table}
+use Rattle.specification.specs.Table.{record9, record10, record11, chained, lifted, raised, Table}
 use Rattle.specification.specs.Bundles as bundling
 
 -- ---- too many
@@ -52,14 +55,17 @@ more-arrows c m = outsized-refused c (or-right (unsized? (c .vertices)) (ltb 409
 -- ---- the table
 
 pub table : Table
-unfolding leads? descendantsOf rowOf rowCount transitiveEdge? reducedEdges channelsOf tracked bundled planOf tracksIn columnIn widthOf
-    kindBetween vertexEntry edgeEntry bundleEntry polylineOf graph1 graph5 housed graph6 graph7 graph8 chain3 graph11 graph12 moving meeting
+unfolding leads? descendantsOf floorOf rowOf rowCount transitiveEdge? reducedEdges channelsOf tracked bundled planOf tracksIn columnIn
+    widthOf
+    kindBetween vertexEntry edgeEntry bundleEntry polylineOf graph1 graph5 housed graph6 graph7 graph8 chain3 graph11 graph12 lifted
+    raised moving meeting
     touching detour early alone earlyAfter after next stored codeOf arrowNumber record1 record5 record6 record7 record8 record9 record10
     record11 chained longer? connects connectionIn sum count some edge? reaches? outsized? unsized?
     strange? verdict refusal reachable? predecessorOf none? is? candidate marked taken answered freed scan augment asks matchingTo
     successorFrom successor chain begins begun plannedTo planned has placeFrom linked every channelFrom channelOf positionOf front lines
     filled linesOf unknown? repeats? broken? flatten givenLines heldIn masked unheld without beside withGiven sizeAt fieldAt lined
-    withLines afterEdges withEdges withVertices layoutOf alternate tailsOf headsOf alike? duplicate? size? stranger? double? ring?
+    withFloors afterLines withLines afterEdges withEdges withVertices layoutOf alternate tailsOf headsOf alike? duplicate? size?
+    unfloored? floor? stranger? double? ring?
     repeated? unled? looseChecks laterChecks firstOf refusalOf contentOf recordRefusal said above rowWithin transitive? reducedCount alike
     gathers takes bundling.taken bundleOf joined waits waitsAt load before best made rounds bundles adjacent? apart? side? bundlesOf
     lowestFree earlier meet blocks busy placed inRow inRows tracks isHit isBlocked blockStart ownColumn bendBeside courseOf
@@ -107,6 +113,18 @@ table = record {
   longer-led = (refl, refl);
   edge-led = (refl, refl);
   unreached-unled = (refl, refl);
+  floor-record = (refl, refl);
+  floor-rows = (refl, refl, refl, refl);
+  floor-words = (refl, refl, refl);
+  floors-short = (refl, refl);
+  floors-long = (refl, refl);
+  floors-none = (refl, refl);
+  floor-over = (refl, refl);
+  floor-most = refl;
+  size-first = (refl, refl);
+  floor-first = (refl, refl);
+  floors-last = (refl, refl);
+  floors-before = (refl, refl);
   no-arrows-field = (refl, refl);
   empty-lines-field = (refl, refl);
   empty-lines-planned = refl;

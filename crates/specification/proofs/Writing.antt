@@ -1,7 +1,7 @@
 -- A list of bytes is well laid out exactly when it is the fields of a record written one after the other. Assumes nothing.
 use mathlib.Core.Path.{_≡_, refl, sym, ap, ap₂, _∙_, subst}
 use mathlib.Core.Logic.{_↔_}
-use mathlib.Core.Bool.{Bool, true, false, true≢false, false≢true, _&&_, and-eq-true-iff}
+use mathlib.Core.Bool.{Bool, true, false, true≢false, false≢true}
 use mathlib.Core.List.{List, [], _∷_, _++_, append-nil}
 use Prim.Native.Nat.{ℕ, zero, suc, _+_, _/_, _%_, _≤_, _<_}
 use native.Mathlib.Omega.{arith}
@@ -16,12 +16,14 @@ use Rattle.specification.specs.declared.Field.the-variants.{Found, Missi
 use Rattle.specification.specs.declared.Fields.{Fields}
 use Rattle.specification.specs.declared.Layout.the-variants.{Good}
 use Rattle.specification.specs.Limits.{mostBytes}
-use Rattle.specification.specs.Layout.{sizeAt, fieldAt, lined, withLines, afterEdges, withEdges, withVertices, layoutOf}
-use Rattle.specification.specs.Writing.{Draft, field, endBytes, lineBytes, channelField, written, Bytes, Lines, Writable, fieldsOf}
+use Rattle.specification.specs.Layout.{sizeAt, fieldAt, lined, bareFields, linedFields, flooredFields}
+use Rattle.specification.specs.Layout.{withFloors, afterLines, withLines, afterEdges, withEdges, withVertices, layoutOf}
+use Rattle.specification.specs.Writing.{Draft, field, endBytes, lineBytes, channelField, floorField, written, Bytes, Lines, Writable}
+use Rattle.specification.specs.Writing.{fieldsOf}
 use Rattle.specification.specs.Writing.Lines.{none, more}
 use Rattle.specification.proofs.Placing.{byte, Inside, found-inside, bad-good, good-same, chosen}
 use Rattle.specification.proofs.Fitting.{bytes-none, bytes-cons, bytes-left, bytes-append, bytes-part, bytes-field, bytes-lines}
-use Rattle.specification.proofs.Written.{ends-length, written-length, longer, written-reads-back}
+use Rattle.specification.proofs.Written.{ends-length, written-length, written-reads-back}
 
 -- ---- one field
 
@@ -110,65 +112,90 @@ record Told : Type 0 where
   lines : Lines channels
   bare : given ≡ false → channels ≡ []
 
+-- the floors, or that there are none
+record Raised : Type 0 where
+  floored : Bool
+  floors : List ℕ
+  bytes : Bytes floors
+  floorless : floored ≡ false → floors ≡ []
+
 abbrev told : Told → List ℕ
 told c = channelField (c .given) (c .channels)
 
-abbrev draft : ℕ → List (ℕ × ℕ) → Told → Draft
-draft n es c = record { vertices = n; edges = es; given = c .given; channels = c .channels }
+abbrev raised : Raised → List ℕ
+raised h = floorField (h .floored) (h .floors)
+
+abbrev draft : ℕ → List (ℕ × ℕ) → Told → Raised → Draft
+draft n es c h =
+    record { vertices = n; edges = es; given = c .given; channels = c .channels; floored = h .floored; floors = h .floors }
 
 -- what is bytes when it is written can be written
-writable : (n : ℕ) (es : List (ℕ × ℕ)) (c : Told) → n < 256 → Bytes (written (draft n es c)) → length (written (draft n es c)) ≤ mostBytes
-    → Writable (draft n es c)
+writable : (n : ℕ) (es : List (ℕ × ℕ)) (c : Told) (h : Raised) → n < 256 → Bytes (written (draft n es c h))
+    → length (written (draft n es c h)) ≤ mostBytes → Writable (draft n es c h)
 unfolding written field
-writable n es c h bytes short = record {
-  vertices = h;
-  edges = bytes-left (endBytes es) (told c) (λ i. bytes (suc (suc (suc (suc (suc (suc (suc i))))))));
+writable n es c h few bytes short = record {
+  vertices = few;
+  edges = bytes-left (endBytes es) (told c ++ raised h) (λ i. bytes (suc (suc (suc (suc (suc (suc (suc i))))))));
   channels = c .lines;
   bare = c .bare;
+  floors = h .bytes;
+  floorless = h .floorless;
   short = short;
 }
 
 module _ (b : List ℕ) (bytes : Bytes b) (f : Fields) where
-  abbrev LinesAt : ℕ → Type 0
-  LinesAt at = (ls : List (List ℕ)) × Lines ls × (drop at b ≡ field 3 (lineBytes ls))
+  abbrev RaisedAt : ℕ → Type 0
+  RaisedAt at = (h : Raised) × (drop at b ≡ raised h)
 
-  lines-laid : (n e m at : ℕ) → withLines b n e m (fieldAt 3 b at) ≡ Good f → LinesAt at
-  unfolding withLines
-  lines-laid n e m at = go (fieldAt 3 b at) refl
+  floors-laid : (g : Fields) (at : ℕ) → withFloors b g (fieldAt 4 b at) ≡ Good f → RaisedAt at
+  unfolding withFloors floorField
+  floors-laid g at = go (fieldAt 4 b at) refl
     where
-      go : (fd : Field) → fieldAt 3 b at ≡ fd → withLines b n e m fd ≡ Good f → LinesAt at
+      go : (fd : Field) → fieldAt 4 b at ≡ fd → withFloors b g fd ≡ Good f → RaisedAt at
       go Missing i p = absurd (bad-good f p)
       go (Found s l) i p =
           let t = take l (drop s b) in
-          let g : Fields = record { vertices = n; edges = e; count = m; given = true; lines = s; size = l } in
-          let q = chosen (eqb (s + l) (length b) && lined 0 t) (Good g) f p in
-          let a = and-eq-true-iff (eqb (s + l) (length b)) (lined 0 t) .0 (q .0) in
-          let ends : s + l ≡ length b = eqb-true _ _ (a .0) in
+          let ends : s + l ≡ length b = eqb-true _ _ (chosen (eqb (s + l) (length b)) (Good (flooredFields g s l)) f p .0) in
           let last : drop (s + l) b ≡ [] = drop-of-length-le b {i = s + l} (omega arith) in
-          let here = found-written 3 b at s l (found-inside 3 b at s l i) bytes in
-          let r = lines-read 0 t (bytes-part b s l bytes) (a .1) in
-          (r .next, r .lines, here ∙ ap (λ k. field 3 t ++ k) last ∙ append-nil (field 3 t) ∙ ap (field 3) (all-lines t r))
+          let here = found-written 4 b at s l (found-inside 4 b at s l i) bytes in (
+            record { floored = true; floors = t; bytes = bytes-part b s l bytes; floorless = λ z. absurd (true≢false z) },
+            here ∙ ap (λ k. field 4 t ++ k) last ∙ append-nil (field 4 t),
+          )
 
-  abbrev ToldAt : ℕ → Type 0
-  ToldAt at = (c : Told) × (drop at b ≡ told c)
-
-  after-laid : (n e m end : ℕ) → afterEdges b n e m end ≡ Good f → ToldAt end
-  unfolding afterEdges channelField
-  after-laid n e m end = go (eqb end (length b)) refl
+  end-laid : (g : Fields) (end : ℕ) → afterLines b g end ≡ Good f → RaisedAt end
+  unfolding afterLines floorField
+  end-laid g end = go (eqb end (length b)) refl
     where
-      g : Fields
-      g = record { vertices = n; edges = e; count = m; given = false; lines = 0; size = 0 }
-
-      go : (t : Bool) → eqb end (length b) ≡ t → choose t (λ _. Good g) (λ _. withLines b n e m (fieldAt 3 b end)) ≡ Good f → ToldAt end
+      go : (t : Bool) → eqb end (length b) ≡ t → choose t (λ _. Good g) (λ _. withFloors b g (fieldAt 4 b end)) ≡ Good f → RaisedAt end
       go true t p =
           let ends : end ≡ length b = eqb-true _ _ t in
-          (record { given = false; channels = []; lines = none; bare = λ _. refl }, drop-of-length-le b {i = end} (omega arith))
-      go false t p =
-          let r = lines-laid n e m end p in
-          (record { given = true; channels = r .0; lines = r .1; bare = λ z. absurd (true≢false z) }, r .2)
+          (record { floored = false; floors = []; bytes = bytes-none; floorless = λ _. refl }, drop-of-length-le b {i = end} (omega arith))
+      go false t p = floors-laid g end p
+
+  abbrev ToldAt : ℕ → Type 0
+  ToldAt at = (c : Told) × (h : Raised) × (drop at b ≡ told c ++ raised h)
+
+  lines-laid : (n e m end : ℕ) → afterEdges b n e m end ≡ Good f → ToldAt end
+  unfolding afterEdges withLines channelField
+  lines-laid n e m end = go (fieldAt 3 b end) refl
+    where
+      go : (fd : Field) → fieldAt 3 b end ≡ fd → withLines b n e m end fd ≡ Good f → ToldAt end
+      go Missing i p =
+          let h = end-laid (bareFields n e m) end p in
+          (record { given = false; channels = []; lines = none; bare = λ _. refl }, h .0, h .1)
+      go (Found s l) i p =
+          let t = take l (drop s b) in
+          let q = chosen (lined 0 t) (afterLines b (linedFields n e m s l) (s + l)) f p in
+          let r = lines-read 0 t (bytes-part b s l bytes) (q .0) in
+          let h = end-laid (linedFields n e m s l) (s + l) (q .1) in
+          let here = found-written 3 b end s l (found-inside 3 b end s l i) bytes in (
+            record { given = true; channels = r .next; lines = r .lines; bare = λ z. absurd (true≢false z) },
+            h .0,
+            here ∙ ap₂ (λ (x y : List ℕ). field 3 x ++ y) (all-lines t r) (h .1),
+          )
 
   abbrev EdgesAt : ℕ → Type 0
-  EdgesAt at = (es : List (ℕ × ℕ)) × (c : Told) × (drop at b ≡ field 2 (endBytes es) ++ told c)
+  EdgesAt at = (es : List (ℕ × ℕ)) × (c : Told) × (h : Raised) × (drop at b ≡ field 2 (endBytes es) ++ (told c ++ raised h))
 
   edges-laid : (n at : ℕ) → withEdges b n (fieldAt 2 b at) ≡ Good f → EdgesAt at
   unfolding withEdges
@@ -181,8 +208,8 @@ module _ (b : List ℕ) (bytes : Bytes b) (f : Fields) where
           let inside = found-inside 2 b at s l i in
           let even = ap (λ k. k % 2) (found-length 2 b at s l inside) ∙ eqb-true _ _ (q .0) in
           let r = ends-read (take l (drop s b)) even in
-          let c = after-laid n s (l / 2) (s + l) (q .1) in
-          (r .0, c .0, found-written 2 b at s l inside bytes ∙ ap₂ (λ (x y : List ℕ). field 2 x ++ y) (r .1) (c .1))
+          let c = lines-laid n s (l / 2) (s + l) (q .1) in
+          (r .0, c .0, c .1, found-written 2 b at s l inside bytes ∙ ap₂ (λ (x y : List ℕ). field 2 x ++ y) (r .1) (c .2))
 
   is-written : layoutOf b ≡ Good f → (x : Draft) × Writable x × (b ≡ written x)
   unfolding layoutOf withVertices written
@@ -197,39 +224,43 @@ module _ (b : List ℕ) (bytes : Bytes b) (f : Fields) where
           let w = chosen (eqb l 1) (withEdges b (getD b s 0) (fieldAt 2 b (s + l))) f q in
           let r = edges-laid (getD b s 0) (s + l) (w .1) in
           let c = r .1 in
+          let h = r .2 in
           let inside = found-inside 1 b 0 s l i in
           let one : l ≡ 1 = eqb-true _ _ (w .0) in
           let first = byte b s (s + 1) refl (omega (arith, inside .ends)) in
           let n : take l (drop s b) ≡ getD b s 0 ∷ [] = ap (λ k. take k (drop s b)) one ∙ ap (take 1) first in
-          let x = draft (getD b s 0) (r .0) c in
-          let same : b ≡ written x = found-written 1 b 0 s l inside bytes ∙ ap₂ (λ (u v : List ℕ). field 1 u ++ v) n (r .2) in
+          let x = draft (getD b s 0) (r .0) c h in
+          let same : b ≡ written x = found-written 1 b 0 s l inside bytes ∙ ap₂ (λ (u v : List ℕ). field 1 u ++ v) n (r .3) in
           let short : length b ≤ mostBytes = leb-true _ _ (whole .0) in
-          (x, writable (getD b s 0) (r .0) c (bytes s) (subst Bytes same bytes) (omega (arith, ap length same)), same)
+          (x, writable (getD b s 0) (r .0) c h (bytes s) (subst Bytes same bytes) (omega (arith, ap length same)), same)
 
 -- ---- the theorem
 
-module _ (x : Draft) (w : Writable x) where
-  abbrev last : List ℕ
-  last = channelField (x .given) (x .channels)
+-- a field that may be left out
+channel-bytes : (given : Bool) (ls : List (List ℕ)) → Lines ls → length (channelField given ls) ≤ mostBytes → Bytes (channelField given ls)
+unfolding channelField field
+channel-bytes true ls w h = bytes-field 3 (lineBytes ls) (omega arith) (omega (arith, h)) (bytes-lines ls w)
+channel-bytes false ls w h = bytes-none
 
-  last-bytes : Bytes last
-  unfolding channelField
-  last-bytes = go (x .given) refl
-    where
-      go : (g : Bool) → x .given ≡ g → Bytes (channelField g (x .channels))
-      go true e =
-          let short : length (lineBytes (x .channels)) ≤ mostBytes = omega (arith, longer x e, w .short) in
-          bytes-field 3 (lineBytes (x .channels)) (omega arith) short (bytes-lines (x .channels) (w .channels))
-      go false e = bytes-none
+floor-bytes : (floored : Bool) (s : List ℕ) → Bytes s → length (floorField floored s) ≤ mostBytes → Bytes (floorField floored s)
+unfolding floorField field
+floor-bytes true s w h = bytes-field 4 s (omega arith) (omega (arith, h)) w
+floor-bytes false s w h = bytes-none
 
-  written-bytes : Bytes (written x)
-  unfolding written
-  written-bytes =
-      let n = bytes-field 1 (x .vertices ∷ []) (omega arith) (omega arith) (bytes-cons (x .vertices) [] (w .vertices) bytes-none) in
-      let ends = endBytes (x .edges) in
-      let short : length ends ≤ mostBytes = omega (arith, ends-length (x .edges), written-length x, w .short) in
-      let e = bytes-field 2 ends (omega arith) short (w .edges) in
-      bytes-append (field 1 (x .vertices ∷ [])) (field 2 ends ++ last) n (bytes-append (field 2 ends) last e last-bytes)
+written-bytes : (x : Draft) → Writable x → Bytes (written x)
+unfolding written
+written-bytes x w =
+    let n = bytes-field 1 (x .vertices ∷ []) (omega arith) (omega arith) (bytes-cons (x .vertices) [] (w .vertices) bytes-none) in
+    let ends = endBytes (x .edges) in
+    let whole = written-length x in
+    let short = w .short in
+    let e = bytes-field 2 ends (omega arith) (omega (arith, ends-length (x .edges))) (w .edges) in
+    let middle = channelField (x .given) (x .channels) in
+    let final = floorField (x .floored) (x .floors) in
+    let c = channel-bytes (x .given) (x .channels) (w .channels) (omega arith) in
+    let h = floor-bytes (x .floored) (x .floors) (w .floors) (omega arith) in
+    bytes-append (field 1 (x .vertices ∷ [])) (field 2 ends ++ (middle ++ final)) n
+    (bytes-append (field 2 ends) (middle ++ final) e (bytes-append middle final c h))
 
 -- a list is of bytes and well laid out, with its fields where f says, exactly when it is a draft's fields written one after the other and
 -- f says where these stand

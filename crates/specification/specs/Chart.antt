@@ -9,7 +9,7 @@ use Rattle.specification.specs.Limits.{mostVertices, pageColumns, pageRo
 use Rattle.specification.specs.Graph.{edge?, reachable?}
 use Rattle.specification.specs.Channels.{channelOf, positionOf}
 use Rattle.specification.specs.Given.{withGiven}
-use Rattle.specification.specs.Checks.{Content, edgesOf, givenOf, connectionIn}
+use Rattle.specification.specs.Checks.{Content, edgesOf, givenOf, connectionIn, floorAt}
 use Rattle.specification.specs.Rows.{row, rowsUsed}
 use Rattle.specification.specs.Marks.{transitive?, reducedCount}
 use Rattle.specification.specs.Bundles.{Bundle, bundleOf, adjacent?, bundlesOf, empty}
@@ -38,12 +38,15 @@ module _ (c : Content) where
   abbrev pub headOf : ℕ → ℕ
   headOf e = getD (c .heads) e 0
 
-  -- rows (4.1)
+  -- floors, and rows by them (4.1)
+  unfoldable pub floorOf : ℕ → ℕ
+  floorOf = floorAt (c .floored) (c .floors)
+
   unfoldable pub rowOf : ℕ → ℕ
-  rowOf v = row (edge? (c .tails) (c .heads)) (c .vertices) v
+  rowOf v = row (edge? (c .tails) (c .heads)) floorOf (c .vertices) v
 
   unfoldable pub rowCount : ℕ
-  rowCount = rowsUsed (edge? (c .tails) (c .heads)) (c .vertices)
+  rowCount = rowsUsed (edge? (c .tails) (c .heads)) floorOf (c .vertices)
 
   -- transitive and reduced edges (5.1)
   unfoldable pub transitiveEdge? : ℕ → Bool
@@ -126,6 +129,7 @@ vertexEntry c p v = record {
   column = columnIn p v;
   row = rowOf c v;
   descendants = descendantsOf c v;
+  floor = floorOf c v;
 }
 
 unfoldable pub edgeEntry : Content → Plan → ℕ → EdgeEntry

@@ -1,5 +1,5 @@
 -- The checks of a graph and of a record in their order, and what is sound (SPECIFICATION.md, 1 and 13). Assumes nothing.
-use mathlib.Core.Bool.{Bool, _&&_, _||_, false, true}
+use mathlib.Core.Bool.{Bool, _&&_, _||_, not, false, true}
 use mathlib.Core.List.{List, [], _∷_}
 use Prim.Native.Nat.{ℕ, _*_, _<_, suc, _≤_}
 use Rattle.specification.specs.Count.{choose, some}
@@ -8,24 +8,34 @@ use Rattle.specification.specs.Connection.{connects}
 use Rattle.specification.specs.declared.Connection.{Connection}
 use Rattle.specification.specs.Channels.{linesOf, verticesOf, givenLines, unknown?, repeats?, broken?, times}
 use mathlib.Core.Path.{_≡_}
-use lib.Dec.{eqb}
+use lib.Dec.{eqb, ltb}
 use lib.ListN.{length, take, drop, getD}
 use Rattle.specification.specs.declared.Fields.{Fields}
 use Rattle.specification.specs.declared.Layout.{Layout}
 use Rattle.specification.specs.declared.Layout.the-variants.{Good, Bad}
 use Rattle.specification.specs.Layout.{layoutOf, layoutAnswer}
-use Rattle.specification.specs.Limits.{mostVertices, mostEdges}
+use Rattle.specification.specs.Limits.{mostVertices, mostEdges, mostFloor}
 
--- what is checked: vertices, edges, and the bytes of the given channels, if any are given
+-- what is checked: vertices, edges, the bytes of the given channels, if any are given, and the floors, if there are any
 pub record Content : Type 0 where
   pub vertices : ℕ
   pub tails : List ℕ
   pub heads : List ℕ
   pub given : Bool
   pub field : List ℕ
+  pub floored : Bool
+  pub floors : List ℕ
 
-abbrev pub content : ℕ → List ℕ → List ℕ → Bool → List ℕ → Content
-content n tails heads given field = record { vertices = n; tails = tails; heads = heads; given = given; field = field }
+abbrev pub content : ℕ → List ℕ → List ℕ → Bool → List ℕ → Bool → List ℕ → Content
+content n tails heads given field floored floors = record {
+  vertices = n;
+  tails = tails;
+  heads = heads;
+  given = given;
+  field = field;
+  floored = floored;
+  floors = floors;
+}
 
 abbrev pub edgesOf : Content → ℕ
 edgesOf c = edgeCount (c .tails) (c .heads)
@@ -37,6 +47,18 @@ connectionIn c = connects (edge? (c .tails) (c .heads)) (c .vertices)
 -- 2 'size': no vertex, or too many vertices or edges
 unfoldable pub size? : Content → Bool
 size? c = outsized? (c .vertices) (edgesOf c)
+
+-- 12 'floor': the floors are not one a vertex, or one of them is over the highest
+unfoldable pub unfloored? : ℕ → Bool → List ℕ → Bool
+unfloored? n floored floors =
+    floored && (not (eqb (length floors) n) || some (length floors) (λ v. ltb mostFloor (getD floors v 0)))
+
+unfoldable pub floor? : Content → Bool
+floor? c = unfloored? (c .vertices) (c .floored) (c .floors)
+
+-- the floor of a vertex: 0 where there are none
+abbrev pub floorAt : Bool → List ℕ → ℕ → ℕ
+floorAt floored floors v = choose floored (λ _. getD floors v 0) (λ _. 0)
 
 -- 3 'stranger': an edge or a given channel names a vertex of n or more
 unfoldable pub stranger? : Content → Bool
@@ -66,9 +88,9 @@ pub record Check : Type 0 where
 abbrev pub check : ℕ → (Content → Bool) → Check
 check k f = record { number = k; fails = f }
 
--- those of edges alone, and then the others
+-- those of vertices and edges alone, and then the others
 unfoldable pub looseChecks : List Check
-looseChecks = check 2 size? ∷ check 3 stranger? ∷ check 4 double? ∷ []
+looseChecks = check 2 size? ∷ check 12 floor? ∷ check 3 stranger? ∷ check 4 double? ∷ []
 
 unfoldable pub laterChecks : List Check
 laterChecks = check 5 ring? ∷ check 6 repeated? ∷ check 7 unled? ∷ []
@@ -81,14 +103,14 @@ firstOf (k ∷ ks) c rest = choose (k .fails c) (λ _. k .number) (λ _. firstOf
 unfoldable pub refusalOf : Content → ℕ
 refusalOf c = firstOf looseChecks c (firstOf laterChecks c 0)
 
--- the vertices, edges and given channels of a record whose fields stand as they must
+-- the vertices, edges, given channels and floors of a record whose fields stand as they must
 unfoldable pub contentOf : List ℕ → Fields → Content
 contentOf b f =
     content (f .vertices) (tailsOf (take (2 * f .count) (drop (f .edges) b))) (headsOf (take (2 * f .count) (drop (f .edges) b))) (f .given)
-    (take (f .size) (drop (f .lines) b))
+    (take (f .size) (drop (f .lines) b)) (f .floored) (take (f .extent) (drop (f .floors) b))
 
 abbrev pub nothing : Content
-nothing = content 0 [] [] false []
+nothing = content 0 [] [] false [] false []
 
 -- the number that a record gets by some of the checks: 1 'layout' before everything, then the first of them that its content fails
 abbrev pub refusalIn : (Content → ℕ) → List ℕ → Layout → ℕ
@@ -124,6 +146,10 @@ givenLine c k = getD (linesOf (c .field)) k []
 abbrev pub Sized : Content → Type 0
 Sized c = (0 < c .vertices) × (c .vertices ≤ mostVertices) × (edgesOf c ≤ mostEdges)
 
+-- not 12: a floor a vertex, and none over the highest
+abbrev pub Floored : Content → Type 0
+Floored c = c .floored ≡ true → (length (c .floors) ≡ c .vertices) × ((v : ℕ) → getD (c .floors) v 0 ≤ mostFloor)
+
 -- not 3: edges and given channels name vertices alone
 abbrev pub EndsKnown : Content → Type 0
 EndsKnown c = (i : ℕ) → i < edgesOf c → (getD (c .tails) i 0 < c .vertices) × (getD (c .heads) i 0 < c .vertices)
@@ -153,6 +179,7 @@ Led c =
 
 pub record Sound (c : Content) : Type 0 where
   pub size : Sized c
+  pub floors : Floored c
   pub ends : EndsKnown c
   pub named : GivenKnown c
   pub distinct : Distinct c

@@ -2,7 +2,7 @@
 use mathlib.Core.Path.{_≡_}
 use mathlib.Core.Logic.{_↔_}
 use mathlib.Core.Bool.{Bool, true, false, _&&_}
-use Prim.Native.Nat.{ℕ}
+use Prim.Native.Nat.{ℕ, zero, suc}
 use Rattle.specification.specs.Count.{some}
 use Rattle.specification.specs.Graph.{Reaches, Longer, reaches?}
 use Rattle.specification.specs.declared.Connection.{Connection}
@@ -22,6 +22,13 @@ connectionNumber EdgeOnly = 1
 connectionNumber LongerOnly = 2
 connectionNumber Both = 3
 
+-- the answer that a number stands for
+unfoldable pub numbered : ℕ → Connection
+numbered zero = Unreached
+numbered (suc zero) = EdgeOnly
+numbered (suc (suc zero)) = LongerOnly
+numbered (suc (suc (suc k))) = Both
+
 -- there is a way: any answer but 'not at all'
 abbrev pub leading? : Connection → Bool
 leading? Unreached = false
@@ -29,6 +36,7 @@ leading? EdgeOnly = true
 leading? LongerOnly = true
 leading? Both = true
 
+-- there is an edge, and a longer route beside it
 abbrev pub both? : Connection → Bool
 both? Unreached = false
 both? EdgeOnly = false

@@ -40,12 +40,14 @@ judged k c = record { refusal = k; graph = choose (eqb k 0) (λ _. c) (λ _. not
 unfoldable pub recordDrawn : List ℕ → Drawn
 recordDrawn b = judged (refusalIn chartRefusal b (layoutOf b)) (contentIn b (layoutOf b))
 
--- a neutral graph: so many vertices, the bytes of its edges' ends, two an edge, and the bytes of its given channels, if any are given
-unfoldable pub graphContent : ℕ → List ℕ → Bool → List ℕ → Content
-graphContent n ends given field = content n (tailsOf ends) (headsOf ends) given field
+-- a neutral graph: so many vertices, the bytes of its edges' ends, two an edge, the bytes of its given channels, if any are given, and its
+-- floors, if there are any
+unfoldable pub graphContent : ℕ → List ℕ → Bool → List ℕ → Bool → List ℕ → Content
+graphContent n ends given field floored floors = content n (tailsOf ends) (headsOf ends) given field floored floors
 
-unfoldable pub graphDrawn : ℕ → List ℕ → Bool → List ℕ → Drawn
-graphDrawn n ends given field = judged (chartRefusal (graphContent n ends given field)) (graphContent n ends given field)
+unfoldable pub graphDrawn : ℕ → List ℕ → Bool → List ℕ → Bool → List ℕ → Drawn
+graphDrawn n ends given field floored floors =
+    judged (chartRefusal (graphContent n ends given field floored floors)) (graphContent n ends given field floored floors)
 
 -- ---- 8 'short'
 

@@ -10,7 +10,7 @@ use Rattle.specification.specs.Graph.{Reaches}
 use Rattle.specification.specs.Checks.{Content, edgesOf, Leads}
 use Rattle.specification.specs.Marks.{Linked, linkCount}
 use Rattle.specification.specs.Tracks.{differentIn}
-use Rattle.specification.specs.Chart.{tailOf, headOf}
+use Rattle.specification.specs.Chart.{tailOf, headOf, floorOf}
 
 -- any rows, parts, links, bundles and tracks
 pub record Chart : Type 0 where
@@ -49,6 +49,10 @@ pub record Lawful (c : Content) (x : Chart) : Type 0 where
   pub lined : (b : ℕ) → b < x .bundles → x .line b < x .parts
   -- two bundles of one part with a row in common have different tracks
   pub apart : (a b : ℕ) → a < x .bundles → b < x .bundles → a ≢ b → x .line a ≡ x .line b → ShareRow x a b → x .side a ≢ x .side b
+
+-- every vertex is at or above its floor. Asked where counts of rows are compared, and no part of the five rules
+pub record Keeps (c : Content) (x : Chart) : Type 0 where
+  pub floors : (v : ℕ) → v < c .vertices → floorOf c v ≤ x .row v
 
 -- ---- counts (10.2); that of lines is `parts`
 

@@ -33,20 +33,64 @@ lined (suc left) (v ∷ s) = lined left s
 
 -- ---- one field after the other; `Bad` where one is missing or not as it must be
 
--- tag 3: the given channels, to the end of the record
-unfoldable pub withLines : List ℕ → ℕ → ℕ → ℕ → Field → Layout
-withLines b n edges m Missing = Bad
-withLines b n edges m (Found start size) =
-    choose (eqb (start + size) (length b) && lined 0 (take size (drop start b)))
-    (λ _. Good (record { vertices = n; edges = edges; count = m; given = true; lines = start; size = size }))
-    (λ _. Bad)
+-- the vertices and edges alone, and with given channels
+abbrev pub bareFields : ℕ → ℕ → ℕ → Fields
+bareFields n edges m = record {
+  vertices = n;
+  edges = edges;
+  count = m;
+  given = false;
+  lines = 0;
+  size = 0;
+  floored = false;
+  floors = 0;
+  extent = 0;
+}
 
--- after the edges: the end of the record, or tag 3
+abbrev pub linedFields : ℕ → ℕ → ℕ → ℕ → ℕ → Fields
+linedFields n edges m lines size = record {
+  vertices = n;
+  edges = edges;
+  count = m;
+  given = true;
+  lines = lines;
+  size = size;
+  floored = false;
+  floors = 0;
+  extent = 0;
+}
+
+-- these, and floors
+abbrev pub flooredFields : Fields → ℕ → ℕ → Fields
+flooredFields f floors extent = record {
+  vertices = f .vertices;
+  edges = f .edges;
+  count = f .count;
+  given = f .given;
+  lines = f .lines;
+  size = f .size;
+  floored = true;
+  floors = floors;
+  extent = extent;
+}
+
+-- tag 4: the floors, to the end of the record
+unfoldable pub withFloors : List ℕ → Fields → Field → Layout
+withFloors b f Missing = Bad
+withFloors b f (Found start size) = choose (eqb (start + size) (length b)) (λ _. Good (flooredFields f start size)) (λ _. Bad)
+
+-- the end of the record, or tag 4
+unfoldable pub afterLines : List ℕ → Fields → ℕ → Layout
+afterLines b f end = choose (eqb end (length b)) (λ _. Good f) (λ _. withFloors b f (fieldAt 4 b end))
+
+-- tag 3: the given channels, if there are any
+unfoldable pub withLines : List ℕ → ℕ → ℕ → ℕ → ℕ → Field → Layout
+withLines b n edges m end Missing = afterLines b (bareFields n edges m) end
+withLines b n edges m end (Found start size) =
+    choose (lined 0 (take size (drop start b))) (λ _. afterLines b (linedFields n edges m start size) (start + size)) (λ _. Bad)
+
 unfoldable pub afterEdges : List ℕ → ℕ → ℕ → ℕ → ℕ → Layout
-afterEdges b n edges m end =
-    choose (eqb end (length b))
-    (λ _. Good (record { vertices = n; edges = edges; count = m; given = false; lines = 0; size = 0 }))
-    (λ _. withLines b n edges m (fieldAt 3 b end))
+afterEdges b n edges m end = withLines b n edges m end (fieldAt 3 b end)
 
 -- tag 2: the edges, two bytes each
 unfoldable pub withEdges : List ℕ → ℕ → Field → Layout
@@ -68,7 +112,7 @@ pub record LayoutAnswer : Type 0 where
   pub fields : Fields
 
 abbrev pub noFields : Fields
-noFields = record { vertices = 0; edges = 0; count = 0; given = false; lines = 0; size = 0 }
+noFields = bareFields 0 0 0
 
 -- the number and the fields of each case
 abbrev pub layoutAnswer : Layout → LayoutAnswer

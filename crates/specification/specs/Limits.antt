@@ -21,13 +21,17 @@ mostBytes = 65535
 abbrev pub pageColumns : ℕ
 pageColumns = 640
 
--- rows of a page
-abbrev pub pageRows : ℕ
-pageRows = 128
+-- the floor of a vertex, which is the lowest row that it may have
+abbrev pub mostFloor : ℕ
+mostFloor = 127
 
--- vertices of a path, and so rows of a chart; a row that is not below it is that of a vertex that a cycle leads to
+-- vertices of a path
 abbrev pub longestPath : ℕ
 longestPath = mostVertices
+
+-- rows of a page, and so of a chart: the longest path may begin at the highest floor
+abbrev pub pageRows : ℕ
+pageRows = mostFloor + longestPath
 
 -- the highest number of a row, which is a byte
 abbrev pub highestRow : ℕ

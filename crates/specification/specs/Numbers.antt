@@ -22,13 +22,24 @@ codeOf (Bent b) = record { code = 3; value = b .column; row = b .row }
 abbrev pub courseCode : Course → Code
 courseCode c = codeOf (crossing c)
 
--- number f of a word: line, position, column, row, descendants
+-- how many numbers an entry has
+abbrev pub wordNumbers : ℕ
+wordNumbers = 6
+
+abbrev pub arrowNumbers : ℕ
+arrowNumbers = 5
+
+abbrev pub bundleNumbers : ℕ
+bundleNumbers = 4
+
+-- number f of a word: line, position, column, row, descendants, floor
 unfoldable pub wordNumber : VertexEntry → ℕ → ℕ
 wordNumber e f =
     choose (eqb f 0) (λ _. e .channel) (λ _.
     choose (eqb f 1) (λ _. e .position) (λ _.
     choose (eqb f 2) (λ _. e .column) (λ _.
-    choose (eqb f 3) (λ _. e .row) (λ _. e .descendants))))
+    choose (eqb f 3) (λ _. e .row) (λ _.
+    choose (eqb f 4) (λ _. e .descendants) (λ _. e .floor)))))
 
 -- of an arrow: its number, its kind as three numbers (`codeOf`), and 1 if it is implied
 unfoldable pub arrowNumber : EdgeEntry → ℕ → ℕ
@@ -45,12 +56,12 @@ bundleNumber e f =
     choose (eqb f 1) (λ _. e .«first_row») (λ _.
     choose (eqb f 2) (λ _. e .«last_row») (λ _. e .track)))
 
--- number i of a list of entries that have five, or four, numbers each
+-- number i of a list of entries
 abbrev pub words : (ℕ → VertexEntry) → ℕ → ℕ
-words g i = wordNumber (g (i / 5)) (i % 5)
+words g i = wordNumber (g (i / wordNumbers)) (i % wordNumbers)
 
 abbrev pub arrows : (ℕ → EdgeEntry) → ℕ → ℕ
-arrows g i = arrowNumber (g (i / 5)) (i % 5)
+arrows g i = arrowNumber (g (i / arrowNumbers)) (i % arrowNumbers)
 
 abbrev pub bundles : (ℕ → BundleEntry) → ℕ → ℕ
-bundles g i = bundleNumber (g (i / 4)) (i % 4)
+bundles g i = bundleNumber (g (i / bundleNumbers)) (i % bundleNumbers)

@@ -6,7 +6,7 @@ use Prim.Native.Nat.{ℕ, zero, suc, _+_, _*_}
 use lib.Dec.{eqb}
 use lib.ListN.{set}
 use Rattle.specification.specs.Count.{indicator}
-use Rattle.specification.specs.Numbers.{arrowNumber}
+use Rattle.specification.specs.Numbers.{arrowNumbers, arrowNumber}
 use Rattle.specification.specs.declared.EdgeEntry.{EdgeEntry}
 
 -- how edges stand in a list: so many values an edge, which they are, at which of them its mark stands, and how it is read
@@ -16,9 +16,9 @@ pub record Form (E : Type 0) : Type 0 where
   pub mark : ℕ
   pub marked? : E → Bool
 
--- five numbers an edge, the last of them 1 where it is transitive (9.4)
+-- the numbers of an edge, the last of them 1 where it is transitive (9.4)
 abbrev pub asNumbers : Form ℕ
-asNumbers = record { width = 5; value = arrowNumber; mark = 4; marked? = λ x. eqb x 1 }
+asNumbers = record { width = arrowNumbers; value = arrowNumber; mark = 4; marked? = λ x. eqb x 1 }
 
 -- an entry an edge
 abbrev pub asEntries : Form EdgeEntry

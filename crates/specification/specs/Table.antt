@@ -21,15 +21,15 @@ use Rattle.specification.specs.declared.Kind.the-variants.{Path, PathTra
 
 -- P1 to P4: 0→1, 0→2, 1→3, 2→3, 3→4, 0→3
 unfoldable pub graph1 : Content
-graph1 = content 5 (0 ∷ 0 ∷ 1 ∷ 2 ∷ 3 ∷ 0 ∷ []) (1 ∷ 2 ∷ 3 ∷ 3 ∷ 4 ∷ 3 ∷ []) false []
+graph1 = content 5 (0 ∷ 0 ∷ 1 ∷ 2 ∷ 3 ∷ 0 ∷ []) (1 ∷ 2 ∷ 3 ∷ 3 ∷ 4 ∷ 3 ∷ []) false [] false []
 
 -- P5: four vertices, an edge from each to every higher one
 unfoldable pub graph5 : Content
-graph5 = content 4 (0 ∷ 0 ∷ 0 ∷ 1 ∷ 1 ∷ 2 ∷ []) (1 ∷ 2 ∷ 3 ∷ 2 ∷ 3 ∷ 3 ∷ []) false []
+graph5 = content 4 (0 ∷ 0 ∷ 0 ∷ 1 ∷ 1 ∷ 2 ∷ []) (1 ∷ 2 ∷ 3 ∷ 2 ∷ 3 ∷ 3 ∷ []) false [] false []
 
 -- P6 and P7: 1→2, 3→4, 4→5, 0→5, with house lines
 unfoldable pub housed : List ℕ → Content
-housed lines = content 6 (1 ∷ 3 ∷ 4 ∷ 0 ∷ []) (2 ∷ 4 ∷ 5 ∷ 5 ∷ []) true lines
+housed lines = content 6 (1 ∷ 3 ∷ 4 ∷ 0 ∷ []) (2 ∷ 4 ∷ 5 ∷ 5 ∷ []) true lines false []
 
 -- P6: 0; 1 2; 3 4 5
 unfoldable pub graph6 : Content
@@ -41,11 +41,15 @@ graph7 = housed (1 ∷ 0 ∷ 1 ∷ 1 ∷ 1 ∷ 2 ∷ 3 ∷ 3 ∷ 4 ∷ 5 ∷ [])
 
 -- P8: one vertex, no edge
 unfoldable pub graph8 : Content
-graph8 = content 1 [] [] false []
+graph8 = content 1 [] [] false [] false []
+
+-- 0→1, 1→2, where 1 has a floor: 0, 5, 0
+unfoldable pub lifted : Content
+lifted = content 3 (0 ∷ 1 ∷ []) (1 ∷ 2 ∷ []) false [] true (0 ∷ 5 ∷ 0 ∷ [])
 
 -- 0→1, 1→2, with house lines
 unfoldable pub chain3 : List ℕ → Content
-chain3 lines = content 3 (0 ∷ 1 ∷ []) (1 ∷ 2 ∷ []) true lines
+chain3 lines = content 3 (0 ∷ 1 ∷ []) (1 ∷ 2 ∷ []) true lines false []
 
 -- with the house line 1
 unfoldable pub graph11 : Content
@@ -53,31 +57,31 @@ graph11 = chain3 (1 ∷ 1 ∷ [])
 
 -- P8's with a field of house lines that is empty
 unfoldable pub graph12 : Content
-graph12 = content 1 [] [] true []
+graph12 = content 1 [] [] true [] false []
 
 -- wrong reading 1: 0→2, 0→3, 1→2
 unfoldable pub moving : Content
-moving = content 4 (0 ∷ 0 ∷ 1 ∷ []) (2 ∷ 3 ∷ 2 ∷ []) false []
+moving = content 4 (0 ∷ 0 ∷ 1 ∷ []) (2 ∷ 3 ∷ 2 ∷ []) false [] false []
 
 -- wrong reading 2: 0→2, 1→2, 2→3, 2→4
 unfoldable pub meeting : Content
-meeting = content 5 (0 ∷ 1 ∷ 2 ∷ 2 ∷ []) (2 ∷ 2 ∷ 3 ∷ 4 ∷ []) false []
+meeting = content 5 (0 ∷ 1 ∷ 2 ∷ 2 ∷ []) (2 ∷ 2 ∷ 3 ∷ 4 ∷ []) false [] false []
 
 -- wrong reading 3: 0→1, 1→2, 2→3, 3→4, with 0→2 and 2→4 beside them
 unfoldable pub touching : Content
-touching = content 5 (0 ∷ 1 ∷ 2 ∷ 3 ∷ 0 ∷ 2 ∷ []) (1 ∷ 2 ∷ 3 ∷ 4 ∷ 2 ∷ 4 ∷ []) false []
+touching = content 5 (0 ∷ 1 ∷ 2 ∷ 3 ∷ 0 ∷ 2 ∷ []) (1 ∷ 2 ∷ 3 ∷ 4 ∷ 2 ∷ 4 ∷ []) false [] false []
 
 -- wrong reading 4: 0→1, 1→2, 2→3, 0→3
 unfoldable pub detour : Content
-detour = content 4 (0 ∷ 1 ∷ 2 ∷ 0 ∷ []) (1 ∷ 2 ∷ 3 ∷ 3 ∷ []) false []
+detour = content 4 (0 ∷ 1 ∷ 2 ∷ 0 ∷ []) (1 ∷ 2 ∷ 3 ∷ 3 ∷ []) false [] false []
 
 -- wrong reading 5: 0→2, 0→1, 1→2
 unfoldable pub early : Content
-early = content 3 (0 ∷ 0 ∷ 1 ∷ []) (2 ∷ 1 ∷ 2 ∷ []) false []
+early = content 3 (0 ∷ 0 ∷ 1 ∷ []) (2 ∷ 1 ∷ 2 ∷ []) false [] false []
 
 -- its first edge alone
 unfoldable pub alone : Content
-alone = content 3 (0 ∷ []) (2 ∷ []) false []
+alone = content 3 (0 ∷ []) (2 ∷ []) false [] false []
 
 -- the state after its first k edges, in a list of sixteen sevens, one more than its numbers
 unfoldable pub earlyAfter : ℕ → State ℕ
@@ -118,6 +122,10 @@ record11 = 1 ∷ 0 ∷ 1 ∷ 3 ∷ 2 ∷ 0 ∷ 4 ∷ 0 ∷ 1 ∷ 1 ∷ 2 ∷ 3 �
 unfoldable pub chained : List ℕ → List ℕ
 chained lines = 1 ∷ 0 ∷ 1 ∷ 3 ∷ 2 ∷ 0 ∷ 4 ∷ 0 ∷ 1 ∷ 1 ∷ 2 ∷ 3 ∷ 0 ∷ length lines ∷ lines
 
+-- the same, and then floors
+unfoldable pub raised : List ℕ → List ℕ
+raised floors = 1 ∷ 0 ∷ 1 ∷ 3 ∷ 2 ∷ 0 ∷ 4 ∷ 0 ∷ 1 ∷ 1 ∷ 2 ∷ 4 ∷ 0 ∷ length floors ∷ floors
+
 -- ---- what is looked up
 
 -- the record is accepted, and says this graph
@@ -128,10 +136,11 @@ Says b c = (recordRefusal b ≡ 0) × (said b ≡ c)
 abbrev pub Refused : List ℕ → ℕ → Type 0
 Refused b k = (recordRefusal b ≡ k) × (said b ≡ nothing)
 
--- the entry of a vertex: channel, position, column, row, descendants
-abbrev pub Word : Content → ℕ → ℕ → ℕ → ℕ → ℕ → ℕ → Type 0
-Word c v channel position column row descendants =
-    vertexEntry c (planOf c) v ≡ record { channel = channel; position = position; column = column; row = row; descendants = descendants }
+-- the entry of a vertex: channel, position, column, row, descendants, floor
+abbrev pub Word : Content → ℕ → ℕ → ℕ → ℕ → ℕ → ℕ → ℕ → Type 0
+Word c v channel position column row descendants floor =
+    vertexEntry c (planOf c) v
+    ≡ record { channel = channel; position = position; column = column; row = row; descendants = descendants; floor = floor }
 
 -- tail, head, kind and mark of an edge
 abbrev pub Arrow : Content → ℕ → ℕ → ℕ → Kind → Bool → Type 0
@@ -217,8 +226,8 @@ pub record Table : Type 0 where
   -- the sample listing: its header, words and arrows
   pub header : (graph1 .vertices ≡ 5) × (edgesOf graph1 ≡ 6) × (rowCount graph1 ≡ 4) × (length (channelsOf graph1) ≡ 2)
       × (reducedEdges graph1 ≡ 5) × (length (planOf graph1 .bundles) ≡ 0) × (widthOf (planOf graph1) ≡ 6)
-  pub words : Word graph1 0 0 0 1 0 4 × Word graph1 1 0 1 1 1 2 × Word graph1 2 1 0 4 1 2 × Word graph1 3 1 1 4 2 1
-      × Word graph1 4 0 2 1 3 0
+  pub words : Word graph1 0 0 0 1 0 4 0 × Word graph1 1 0 1 1 1 2 0 × Word graph1 2 1 0 4 1 2 0 × Word graph1 3 1 1 4 2 1 0
+      × Word graph1 4 0 2 1 3 0 0
   pub arrows : Arrow graph1 0 0 1 Path firm × Arrow graph1 1 0 2 Straight firm × Arrow graph1 2 1 3 Straight firm
       × Arrow graph1 3 2 3 Path firm × Arrow graph1 4 3 4 Straight firm × Arrow graph1 5 0 3 Straight implied
   -- the given line 1 comes first; 0 reaches 2 through it
@@ -230,6 +239,23 @@ pub record Table : Type 0 where
   pub longer-led : Says (chained (2 ∷ 0 ∷ 2 ∷ [])) (chain3 (2 ∷ 0 ∷ 2 ∷ []))
   pub edge-led : Says (chained (2 ∷ 0 ∷ 1 ∷ [])) (chain3 (2 ∷ 0 ∷ 1 ∷ []))
   pub unreached-unled : Refused (chained (2 ∷ 2 ∷ 0 ∷ [])) 7
+  -- the floor 5 of vertex 1 lifts it, and 2 above it: seven rows; the entries carry the floors
+  pub floor-record : Says (raised (0 ∷ 5 ∷ 0 ∷ [])) lifted
+  pub floor-rows : (rowOf lifted 0 ≡ 0) × (rowOf lifted 1 ≡ 5) × (rowOf lifted 2 ≡ 6) × (rowCount lifted ≡ 7)
+  pub floor-words : Word lifted 0 0 0 1 0 2 0 × Word lifted 1 0 1 1 5 1 5 × Word lifted 2 0 2 1 6 0 0
+  -- a floor too few, a floor too many, none at all in the field, and one of 128 are 12; a floor of 127 passes
+  pub floors-short : Refused (raised (0 ∷ 0 ∷ [])) 12
+  pub floors-long : Refused (raised (0 ∷ 0 ∷ 0 ∷ 0 ∷ [])) 12
+  pub floors-none : Refused (raised []) 12
+  pub floor-over : Refused (raised (0 ∷ 128 ∷ 0 ∷ [])) 12
+  pub floor-most : recordRefusal (raised (0 ∷ 127 ∷ 0 ∷ [])) ≡ 0
+  -- 2 before 12, and 12 before 3
+  pub size-first : Refused (1 ∷ 0 ∷ 1 ∷ 0 ∷ 2 ∷ 0 ∷ 0 ∷ 4 ∷ 0 ∷ 1 ∷ 0 ∷ []) 2
+  pub floor-first : Refused (1 ∷ 0 ∷ 1 ∷ 1 ∷ 2 ∷ 0 ∷ 2 ∷ 0 ∷ 1 ∷ 4 ∷ 0 ∷ 1 ∷ 128 ∷ []) 12
+  -- floors after given channels, and not before them
+  pub floors-last : Says (1 ∷ 0 ∷ 1 ∷ 1 ∷ 2 ∷ 0 ∷ 0 ∷ 3 ∷ 0 ∷ 2 ∷ 1 ∷ 0 ∷ 4 ∷ 0 ∷ 1 ∷ 3 ∷ [])
+      (content 1 [] [] true (1 ∷ 0 ∷ []) true (3 ∷ []))
+  pub floors-before : Refused (1 ∷ 0 ∷ 1 ∷ 1 ∷ 2 ∷ 0 ∷ 0 ∷ 4 ∷ 0 ∷ 1 ∷ 3 ∷ 3 ∷ 0 ∷ 2 ∷ 1 ∷ 0 ∷ []) 1
   -- limits (16.2): without tag 2 it is 1, with an empty tag 2 accepted (P8), with an empty tag 3 accepted too, and planned as without
   pub no-arrows-field : Refused (1 ∷ 0 ∷ 1 ∷ 1 ∷ []) 1
   pub empty-lines-field : Says (1 ∷ 0 ∷ 1 ∷ 1 ∷ 2 ∷ 0 ∷ 0 ∷ 3 ∷ 0 ∷ 0 ∷ []) graph12

@@ -8,12 +8,15 @@ use Rattle.specification.specs.Count.{choose}
 use Rattle.specification.specs.Limits.{mostBytes}
 use Rattle.specification.specs.declared.Fields.{Fields}
 
--- what a record says: the number of vertices, the edges, each with its tail and its head, and the given channels, if any are given
+-- what a record says: the number of vertices, the edges, each with its tail and its head, the given channels, if any are given, and the
+-- floors, if there are any
 pub record Draft : Type 0 where
   pub vertices : ℕ
   pub edges : List (ℕ × ℕ)
   pub given : Bool
   pub channels : List (List ℕ)
+  pub floored : Bool
+  pub floors : List ℕ
 
 -- a field: its tag, its size in two bytes, the higher first, and its bytes
 unfoldable pub field : ℕ → List ℕ → List ℕ
@@ -33,8 +36,14 @@ lineBytes (l ∷ ls) = length l ∷ (l ++ lineBytes ls)
 unfoldable pub channelField : Bool → List (List ℕ) → List ℕ
 channelField given ls = choose given (λ _. field 3 (lineBytes ls)) (λ _. [])
 
+-- tag 4 may be left out
+unfoldable pub floorField : Bool → List ℕ → List ℕ
+floorField floored floors = choose floored (λ _. field 4 floors) (λ _. [])
+
 unfoldable pub written : Draft → List ℕ
-written x = field 1 (x .vertices ∷ []) ++ (field 2 (endBytes (x .edges)) ++ channelField (x .given) (x .channels))
+written x =
+    field 1 (x .vertices ∷ [])
+    ++ (field 2 (endBytes (x .edges)) ++ (channelField (x .given) (x .channels) ++ floorField (x .floored) (x .floors)))
 
 -- ---- what can be written
 
@@ -52,7 +61,16 @@ pub record Writable (x : Draft) : Type 0 where
   pub edges : Bytes (endBytes (x .edges))
   pub channels : Lines (x .channels)
   pub bare : x .given ≡ false → x .channels ≡ []
+  pub floors : Bytes (x .floors)
+  pub floorless : x .floored ≡ false → x .floors ≡ []
   pub short : length (written x) ≤ mostBytes
+
+-- where the edges of what is written end, and where its given channels do
+abbrev pub edgesEnd : Draft → ℕ
+edgesEnd x = 7 + 2 * length (x .edges)
+
+abbrev pub linesEnd : Draft → ℕ
+linesEnd x = edgesEnd x + length (channelField (x .given) (x .channels))
 
 -- where the fields of what is written stand
 unfoldable pub fieldsOf : Draft → Fields
@@ -61,6 +79,9 @@ fieldsOf x = record {
   edges = 7;
   count = length (x .edges);
   given = x .given;
-  lines = choose (x .given) (λ _. 7 + 2 * length (x .edges) + 3) (λ _. 0);
+  lines = choose (x .given) (λ _. edgesEnd x + 3) (λ _. 0);
   size = choose (x .given) (λ _. length (lineBytes (x .channels))) (λ _. 0);
+  floored = x .floored;
+  floors = choose (x .floored) (λ _. linesEnd x + 3) (λ _. 0);
+  extent = choose (x .floored) (λ _. length (x .floors)) (λ _. 0);
 }

@@ -8,7 +8,7 @@ pub enum Field {
 }
 
 // Where the fields of a record stand. Edge i has its tail at edges + 2 i and its head after it, and there are `count` of them. The given
-// channels are the `size` bytes from `lines` on, where `given` says so.
+// channels are the `size` bytes from `lines` on, where `given` says so, and the floors the `extent` bytes from `floors` on, where `floored` does.
 pub struct Fields {
     pub vertices: usize,
     pub edges: usize,
@@ -16,6 +16,9 @@ pub struct Fields {
     pub given: bool,
     pub lines: usize,
     pub size: usize,
+    pub floored: bool,
+    pub floors: usize,
+    pub extent: usize,
 }
 
 pub enum Layout {
@@ -36,6 +39,7 @@ pub struct VertexEntry {
     pub column: u16,
     pub row: u8,
     pub descendants: u8,
+    pub floor: u8,
 }
 
 // Where an edge bends.

@@ -21,13 +21,18 @@ row-3 : (3 * rowPitch ≡ 339) × HasValue (pointOf (cell 0 3) .y) false 339 4 �
 unfolding toPoints round
 row-3 = (refl, (refl, refl), (refl, refl))
 
+-- row 254, the last, is 28702 / 4 = 7175.5
+row-254 : HasValue (pointOf (cell 0 254) .y) false 28702 4 × HasValue (pointOf (cell 0 254) .y) false 71755 10
+unfolding toPoints round
+row-254 = ((refl, refl), (refl, refl))
+
 -- the last column and row are drawn
-last : answerFor (cell 639 0 ∷ cell 0 127 ∷ []) .number ≡ 0
+last : answerFor (cell 639 0 ∷ cell 0 254 ∷ []) .number ≡ 0
 last = refl
 
 -- the next ones are 10, in whichever cell
 column-640 : answerFor (cell 640 0 ∷ cell 0 0 ∷ []) .number ≡ 10
 column-640 = refl
 
-row-128 : answerFor (cell 0 0 ∷ cell 0 0 ∷ cell 0 128 ∷ []) .number ≡ 10
-row-128 = refl
+row-255 : answerFor (cell 0 0 ∷ cell 0 0 ∷ cell 0 255 ∷ []) .number ≡ 10
+row-255 = refl

@@ -13,11 +13,11 @@ tails = 0 ∷ 0 ∷ 1 ∷ 2 ∷ 3 ∷ 0 ∷ []
 unfoldable pub heads : List ℕ
 heads = 1 ∷ 2 ∷ 3 ∷ 3 ∷ 4 ∷ 3 ∷ []
 
-p3 : (row (edge? tails heads) 5 0 ≡ 0) × (row (edge? tails heads) 5 1 ≡ 1) × (row (edge? tails heads) 5 2 ≡ 1)
-    × (row (edge? tails heads) 5 3 ≡ 2) × (row (edge? tails heads) 5 4 ≡ 3)
+p3 : (row (edge? tails heads) (λ _. 0) 5 0 ≡ 0) × (row (edge? tails heads) (λ _. 0) 5 1 ≡ 1) × (row (edge? tails heads) (λ _. 0) 5 2 ≡ 1)
+    × (row (edge? tails heads) (λ _. 0) 5 3 ≡ 2) × (row (edge? tails heads) (λ _. 0) 5 4 ≡ 3)
 unfolding rowWithin above edge? tails heads
 p3 = (refl, refl, refl, refl, refl)
 
-p3-used : rowsUsed (edge? tails heads) 5 ≡ 4
+p3-used : rowsUsed (edge? tails heads) (λ _. 0) 5 ≡ 4
 unfolding rowWithin above edge? tails heads
 p3-used = refl
