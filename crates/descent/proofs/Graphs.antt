@@ -5,7 +5,7 @@ use native.Mathlib.Nat.{lt-of-lt-of-le}
 use Rattle.specification.specs.Count.{count, some}
 use Rattle.specification.specs.Sets.{at, has?}
 use Rattle.specification.specs.Graph.{Reaches, Longer, edgeCount, Edge, edge?, refusal, Adjacent, reachable?}
-use Rattle.specification.specs.Rows.{rowWithin, row, rowsUsed}
+use Rattle.rows.specs.Levels.{levelWithin, level, levelsUsed}
 use Rattle.counting.specs.Quads.{quad}
 use Rattle.counting.proofs.Truth.{lt-or-le, two-cases, true-or-false, same-truth}
 use Rattle.counting.proofs.Somes.{some-found, some-none}
@@ -19,7 +19,8 @@ use Rattle.reach.proofs.Marking.{tail-below, head-below}
 use Rattle.reach.proofs.Decide.{edge-decided, reachable-decided}
 use Rattle.reach.proofs.Refusing.{accepted-within}
 use Rattle.reach.proofs.Closures.{Bits, same-count}
-use Rattle.rows.proofs.Same.{within-same, row-same, used-same}
+use Rattle.rows.proofs.Same.{levels-same, levels-used-same}
+use Rattle.specification.specs.Limits.{longestPath}
 use Rattle.descent.specs.Steps.Closed.{Arc, Inside, Laid, Closed}
 use Rattle.descent.specs.Promise.{Stuck}
 use Rattle.descent.proofs.Arcs.{reached-count}
@@ -64,7 +65,7 @@ module _ (n : ℕ) (tails heads e : List ℕ) (accepted : refusal n tails heads 
       (true-or-false (reachable? n tails heads x x)))
 
   -- the rows are those of the graph's edges
-  same-edges : (u v : ℕ) → u < n → v < n → has? 2 e u v ≡ edge? tails heads u v
+  pub same-edges : (u v : ℕ) → u < n → v < n → has? 2 e u v ≡ edge? tails heads u v
   unfolding has?
   same-edges u v hu hv =
       let h = small in
@@ -74,16 +75,17 @@ module _ (n : ℕ) (tails heads e : List ℕ) (accepted : refusal n tails heads 
       (λ q. eq-eqb _ _ (b .1 (accepted, edge-decided tails heads u v .1 q)))
 
   module _ (r : ℕ) (p p′ b below : List ℕ) (g : Laid e n r p p′ b below) (some : r ≢ 0) where
-    pub graph-rows : (v : ℕ) → v < n → quad 2 p′ v ≡ row (edge? tails heads) n v
-    graph-rows v h = g .rule some v h ∙ row-same (has? 2 e) (edge? tails heads) n same-edges v h
+    pub graph-rows : (v : ℕ) → v < n → quad 2 p′ v ≡ level (edge? tails heads) n v
+    graph-rows v h = g .rule some v h ∙ levels-same (has? 2 e) (edge? tails heads) n same-edges longestPath v h
 
-    pub graph-used : r ≡ rowsUsed (edge? tails heads) n
-    graph-used = g .used some ∙ used-same (has? 2 e) (edge? tails heads) n same-edges
+    pub graph-used : r ≡ levelsUsed (edge? tails heads) n
+    graph-used = g .used some ∙ levels-used-same (has? 2 e) (edge? tails heads) n same-edges
 
-    pub graph-below : (k v : ℕ) → k ≤ r → v < 128 → at 2 below k v ≡ 1 ↔ ((v < n) × (row (edge? tails heads) n v < k))
+    pub graph-below : (k v : ℕ) → k ≤ r → v < 128 → at 2 below k v ≡ 1 ↔ ((v < n) × (level (edge? tails heads) n v < k))
     graph-below k v hk hv =
         let m = g .prefixes some .members k v hk hv in
-        let same : v < n → row (has? 2 e) n v ≡ row (edge? tails heads) n v = row-same (has? 2 e) (edge? tails heads) n same-edges v in (
+        let same : v < n → level (has? 2 e) n v ≡ level (edge? tails heads) n v =
+        levels-same (has? 2 e) (edge? tails heads) n same-edges longestPath v in (
           (λ i. let p = m .0 i in (p .0, subst (λ (x : ℕ). x < k) (same (p .0)) (p .1))),
           λ p. m .1 (p .0, subst (λ (x : ℕ). x < k) (sym (same (p .0))) (p .1)),
         )
@@ -99,8 +101,8 @@ module _ (n : ℕ) (tails heads e : List ℕ) (accepted : refusal n tails heads 
     others = λ k v h out. g .others k v h (λ q l. subst (λ (y : ℕ). n ≤ y) (sym (same v l)) (out q l));
   }
     where
-      same : (v : ℕ) → v < n → rowWithin (has? 2 e) n n v ≡ rowWithin (edge? tails heads) n n v
-      same = within-same (has? 2 e) (edge? tails heads) n same-edges n
+      same : (v : ℕ) → v < n → levelWithin (has? 2 e) n n v ≡ levelWithin (edge? tails heads) n n v
+      same = levels-same (has? 2 e) (edge? tails heads) n same-edges n
 
   module _ (t l c t′ l′ c′ : List ℕ) (g : Closed e n t l c t′ l′ c′)
       (no-t : (i : ℕ) → getD t i 0 ≡ 0) (no-l : (i : ℕ) → getD l i 0 ≡ 0) where

@@ -1,5 +1,5 @@
 -- The answer, by the tests of its checks. Assumes nothing.
-use Rattle.counting.proofs.Prelude.{_≡_, refl, _∙_, _≢_, Bool, true, false, true≢false, List, ℕ, _<_, arith, eqb}
+use Rattle.counting.proofs.Prelude.{_≡_, refl, sym, _∙_, _≢_, Bool, true, false, true≢false, List, ℕ, _<_, arith, eqb}
 use Rattle.specification.specs.Count.{choose, some}
 use Rattle.specification.specs.Graph.{edgeCount, outsized?, strange?, verdict, refusal, duplicate?, reachable?}
 use Rattle.scanning.specs.Scanned.{endsRefusal}
@@ -33,6 +33,21 @@ cycle-first false true d c p e = absurd (let z : _≡_ {A = ℕ} 3 0 = e in omeg
 cycle-first false false true c p e = absurd (let z : _≡_ {A = ℕ} 4 0 = e in omega arith)
 cycle-first false false false c p e = (refl, refl)
 
+none-holds : (o s d c : Bool) → firstOf o s d c ≡ 0 → (verdict o s ≡ 0) × (c ≡ false)
+unfolding verdict
+none-holds true s d c e = absurd (let z : _≡_ {A = ℕ} 2 0 = e in omega arith)
+none-holds false true d c e = absurd (let z : _≡_ {A = ℕ} 3 0 = e in omega arith)
+none-holds false false true c e = absurd (let z : _≡_ {A = ℕ} 4 0 = e in omega arith)
+none-holds false false false true e = absurd (let z : _≡_ {A = ℕ} 5 0 = e in omega arith)
+none-holds false false false false e = (refl, refl)
+
+few-answers : (o s d c : Bool) → firstOf o s d c < 6
+few-answers true s d c = omega arith
+few-answers false true d c = omega arith
+few-answers false false true c = omega arith
+few-answers false false false true = omega arith
+few-answers false false false false = omega arith
+
 ends-among : (s d : Bool) → (ofEnds s d ≢ 2) × (ofEnds s d < 5)
 ends-among true d = omega arith
 ends-among false true = omega arith
@@ -61,6 +76,14 @@ module _ (n : ℕ) (tails heads : List ℕ) where
       ≡ choose size (λ _. 2) (λ _. choose strange (λ _. 3) (λ _. choose double (λ _. 4) (λ _. choose cycle (λ _. 5) (λ _. 0))))
   unfolding edgesRefusal refusal
   edges-in-turn = by-tests size strange double cycle
+
+  -- nothing is refused: the ends are vertices, and there is no cycle
+  pub edges-accepted : edgesRefusal n tails heads ≡ 0 → (refusal n tails heads ≡ 0) × (cycle ≡ false)
+  unfolding refusal
+  edges-accepted e = none-holds size strange double cycle (sym edges-in-turn ∙ e)
+
+  pub edges-answers : edgesRefusal n tails heads < 6
+  edges-answers = omega (arith, edges-in-turn, few-answers size strange double cycle)
 
   module _ (sized : size ≡ false) where
     pub answer-ends : endsRefusal n tails heads ≢ 0 → edgesRefusal n tails heads ≡ endsRefusal n tails heads

@@ -10,7 +10,7 @@ use Rattle.specification.specs.Count.{some, above}
 use Rattle.specification.specs.Sets.{bit, at, has?}
 use Rattle.specification.specs.Graph.{reaches?}
 use Rattle.specification.specs.Graph.Reaches.{one}
-use Rattle.specification.specs.Rows.{rowWithin, row, rowsUsed}
+use Rattle.rows.specs.Levels.{levelWithin, level, levelsUsed}
 use Rattle.counting.specs.Quads.{quad}
 use Rattle.counting.proofs.Truth.{lt-or-le, two-cases, true-or-false}
 use Rattle.counting.proofs.Somes.{some-found, some-which}
@@ -20,7 +20,8 @@ use Rattle.masks.proofs.Pairing.{pair-lt, pair-low, pair-high, pair-at, pair-an
 use Rattle.reach.proofs.Routes.{reaches-trans}
 use Rattle.counting.proofs.Above.{above-each, above-le, above-which}
 use Rattle.rows.proofs.Depth.{settled, shallow}
-use Rattle.rows.proofs.Compaction.{Order, rows-below}
+use Rattle.rows.proofs.Compaction.{Order}
+use Rattle.rows.proofs.Levels.{levels-below}
 use Rattle.descent.specs.Steps.Members.{Below, Long, Pictured, Written}
 use Rattle.descent.specs.Steps.Closed.{arc?, Inside, Laid}
 use Rattle.descent.specs.Promise.{KeptFrom}
@@ -31,33 +32,33 @@ use Rattle.descent.proofs.Ranking.{no-cycle}
 
 module _ (E : ℕ → ℕ → Bool) (n : ℕ) where
   -- a row that is at most r one step deeper is the same
-  same-row : (r v : ℕ) → rowWithin E n (suc r) v ≤ r → rowWithin E n (suc r) v ≡ rowWithin E n r v
-  same-row r v h =
+  same-level : (r v : ℕ) → levelWithin E n (suc r) v ≤ r → levelWithin E n (suc r) v ≡ levelWithin E n r v
+  same-level r v h =
       ⊎-elim
       (λ l. settled E n r (suc r) v (omega arith) (inl l))
       (λ l. ⊎-elim
       (λ k. settled E n r (suc r) v (omega arith) (inr k))
       (λ k. let s = shallow E n r v in omega arith)
-      (lt-or-le (rowWithin E n r v) r))
-      (lt-or-le (rowWithin E n (suc r) v) r)
+      (lt-or-le (levelWithin E n r v) r))
+      (lt-or-le (levelWithin E n (suc r) v) r)
 
   -- what grows one step deeper grew before
-  grew : (r v : ℕ) → suc r ≤ rowWithin E n (suc r) v → r ≤ rowWithin E n r v
+  grew : (r v : ℕ) → suc r ≤ levelWithin E n (suc r) v → r ≤ levelWithin E n r v
   grew r v h =
       ⊎-elim
       (λ l. absurd (let e = settled E n r (suc r) v (omega arith) (inr l) in omega arith))
       (λ l. l)
-      (lt-or-le (rowWithin E n r v) r)
+      (lt-or-le (levelWithin E n r v) r)
 
   -- the vertices below a row that is settled are the same one step deeper
-  below-same : (r k v : ℕ) → k ≤ r → rowWithin E n r v < k ↔ rowWithin E n (suc r) v < k
+  below-same : (r k v : ℕ) → k ≤ r → levelWithin E n r v < k ↔ levelWithin E n (suc r) v < k
   below-same r k v h = (
     (λ l. let e = settled E n r (suc r) v (omega arith) (inr (omega arith)) in omega arith),
     λ l. let e = settled E n r (suc r) v (omega arith) (inl (omega arith)) in omega arith,
   )
 
   -- and at the end
-  below-last : (r k v : ℕ) → r ≤ 128 → k ≤ r → rowWithin E n r v < k ↔ row E n v < k
+  below-last : (r k v : ℕ) → r ≤ 128 → k ≤ r → levelWithin E n r v < k ↔ level E n v < k
   below-last r k v hr h = (
     (λ l. let e = settled E n r 128 v hr (inr (omega arith)) in omega arith),
     λ l. let e = settled E n r 128 v hr (inl (omega arith)) in omega arith,
@@ -72,16 +73,16 @@ Some n low high = (v : ℕ) × (v < 128) × (inPair low high v ≡ 1)
 pub record Round (e : List ℕ) (n r low high : ℕ) (places s below : List ℕ) : Type 0 where
   pub low-fits : low < 2 ^ 64
   pub high-fits : high < 2 ^ 64
-  pub growing : (v : ℕ) → v < 128 → inPair low high v ≡ 1 ↔ ((v < n) × (r ≤ rowWithin (has? 2 e) n r v))
+  pub growing : (v : ℕ) → v < 128 → inPair low high v ≡ 1 ↔ ((v < n) × (r ≤ levelWithin (has? 2 e) n r v))
   pub alive : Some n low high
-  pub rule : (v : ℕ) → v < n → rowWithin (has? 2 e) n r v < r → quad 2 s v ≡ rowWithin (has? 2 e) n r v
-  pub still : (v : ℕ) → v < n → r ≤ rowWithin (has? 2 e) n r v → quad 2 s v ≡ quad 2 places v
+  pub rule : (v : ℕ) → v < n → levelWithin (has? 2 e) n r v < r → quad 2 s v ≡ levelWithin (has? 2 e) n r v
+  pub still : (v : ℕ) → v < n → r ≤ levelWithin (has? 2 e) n r v → quad 2 s v ≡ quad 2 places v
   pub rest : (k v : ℕ) → k < 4 → (k ≡ 2 → n ≤ v) → quad k s v ≡ quad k places v
-  pub sets : (k v : ℕ) → k ≤ r → v < 128 → at 2 below k v ≡ 1 ↔ ((v < n) × (rowWithin (has? 2 e) n r v < k))
+  pub sets : (k v : ℕ) → k ≤ r → v < 128 → at 2 below k v ≡ 1 ↔ ((v < n) × (levelWithin (has? 2 e) n r v < k))
 
 pub round-none : (e : List ℕ) (n low high : ℕ) (places below : List ℕ) → 0 < n → Below n low high → getD below 0 0 ≡ 0 → getD below 1 0 ≡ 0
     → Round e n 0 low high places places below
-unfolding rowWithin
+unfolding levelWithin
 round-none e n low high places below pos b z z′ = record {
   low-fits = b .low-fits;
   high-fits = b .high-fits;
@@ -132,24 +133,24 @@ module _ (e : List ℕ) (n : ℕ) (small : n ≤ 128) (r low high first second p
   both v h = ap₂ (λ (x y : ℕ). inPair x y v) ea eb ∙ pair-and low high p q v h
 
   -- those grow on that an edge enters from one that still grew
-  grows : (v : ℕ) → v < 128 → inPair a b v ≡ 1 ↔ ((v < n) × (suc r ≤ rowWithin (has? 2 e) n (suc r) v))
-  unfolding rowWithin has?
+  grows : (v : ℕ) → v < 128 → inPair a b v ≡ 1 ↔ ((v < n) × (suc r ≤ levelWithin (has? 2 e) n (suc r) v))
+  unfolding levelWithin has?
   grows v h = (there, back)
     where
-      there : inPair a b v ≡ 1 → (v < n) × (suc r ≤ above n (λ u. has? 2 e u v) (rowWithin (has? 2 e) n r))
+      there : inPair a b v ≡ 1 → (v < n) × (suc r ≤ above n (λ u. has? 2 e u v) (levelWithin (has? 2 e) n r))
       there i =
           let w = both v h in
           let x = pair-lt low high v in
           let y = pair-lt p q v in
           let hit = m .here v h .0 (omega arith) in
           let g = o .growing (hit .0) (hit .1) .0 (hit .2) in
-          let k = above-each n (λ u. has? 2 e u v) (rowWithin (has? 2 e) n r) (hit .0) (g .0) (eq-eqb _ _ (hit .3)) in
+          let k = above-each n (λ u. has? 2 e u v) (levelWithin (has? 2 e) n r) (hit .0) (g .0) (eq-eqb _ _ (hit .3)) in
           let l = g .1 in
           (o .growing v h .0 (omega arith) .0, omega arith)
 
-      back : (v < n) × (suc r ≤ above n (λ u. has? 2 e u v) (rowWithin (has? 2 e) n r)) → inPair a b v ≡ 1
+      back : (v < n) × (suc r ≤ above n (λ u. has? 2 e u v) (levelWithin (has? 2 e) n r)) → inPair a b v ≡ 1
       back i =
-          let w = above-which n (λ u. has? 2 e u v) (rowWithin (has? 2 e) n r) r (i .1) in
+          let w = above-which n (λ u. has? 2 e u v) (levelWithin (has? 2 e) n r) r (i .1) in
           let hw : w .0 < 128 = (let l = w .1 in omega arith) in
           let x = o .growing v h .1 (i .0, grew (has? 2 e) n r v (i .1)) in
           let y = m .here v h .1 (w .0, hw, o .growing (w .0) hw .1 (w .1, w .3), eqb-true _ _ (w .2)) in
@@ -193,22 +194,22 @@ module _ (e : List ℕ) (n : ℕ) (small : n ≤ 128) (r low high first second p
         (sym (pair-high (without low a) _ (v - 64) hj) ∙ subst (λ (x : ℕ). inPair (without low a) (without high b) x ≡ 1) k i))
         (lt-or-le v 64)
 
-    next-rule : (v : ℕ) → v < n → rowWithin (has? 2 e) n (suc r) v < suc r → quad 2 s″ v ≡ rowWithin (has? 2 e) n (suc r) v
+    next-rule : (v : ℕ) → v < n → levelWithin (has? 2 e) n (suc r) v < suc r → quad 2 s″ v ≡ levelWithin (has? 2 e) n (suc r) v
     next-rule v h l =
         let hv : v < 128 = omega arith in
-        let same = same-row (has? 2 e) n r v (omega arith) in
+        let same = same-level (has? 2 e) n r v (omega arith) in
         let none : inPair a b v ≡ 0 = ⊎-elim (λ k. k) (λ k. absurd (let g = grows v hv .0 k .1 in omega arith))
         (two-cases (inPair a b v) (pair-lt a b v)) in
         ⊎-elim
         (λ k. kept 2 v (omega arith) (λ _ z i. let g = o .growing v hv .0 (stops low high v hv .0 i .0) .1 in omega arith) ∙ o .rule v h k
         ∙ sym same)
         (λ k. written v hv (stops low high v hv .1 (o .growing v hv .1 (h, k), none)) ∙ omega arith)
-        (lt-or-le (rowWithin (has? 2 e) n r v) r)
+        (lt-or-le (levelWithin (has? 2 e) n r v) r)
 
-    next-sets : (k v : ℕ) → k ≤ suc r → v < 128 → at 2 below′ k v ≡ 1 ↔ ((v < n) × (rowWithin (has? 2 e) n (suc r) v < k))
+    next-sets : (k v : ℕ) → k ≤ suc r → v < 128 → at 2 below′ k v ≡ 1 ↔ ((v < n) × (levelWithin (has? 2 e) n (suc r) v < k))
     next-sets k v hk h = go (ℕ-discrete k (r + 1))
       where
-        new : at 2 below′ (r + 1) v ≡ 1 ↔ ((v < n) × (rowWithin (has? 2 e) n (suc r) v < r + 1))
+        new : at 2 below′ (r + 1) v ≡ 1 ↔ ((v < n) × (levelWithin (has? 2 e) n (suc r) v < r + 1))
         new =
             let z = stored-at below (r + 1) _ _ below′ t v h in (
               (λ i.
@@ -217,7 +218,7 @@ module _ (e : List ℕ) (n : ℕ) (small : n ≤ 128) (r low high first second p
                   let no = y .1 in (
                     hv,
                     ⊎-elim (λ l. omega arith) (λ l. absurd (let g = grows v h .1 (hv, l) in omega arith))
-                        (lt-or-le (rowWithin (has? 2 e) n (suc r) v) (suc r)),
+                        (lt-or-le (levelWithin (has? 2 e) n (suc r) v) (suc r)),
                   )),
               λ i.
                   let l = i .1 in
@@ -227,8 +228,8 @@ module _ (e : List ℕ) (n : ℕ) (small : n ≤ 128) (r low high first second p
                   ),
             )
 
-        go : Dec (k ≡ r + 1) → at 2 below′ k v ≡ 1 ↔ ((v < n) × (rowWithin (has? 2 e) n (suc r) v < k))
-        go (yes y) = subst (λ (x : ℕ). at 2 below′ x v ≡ 1 ↔ ((v < n) × (rowWithin (has? 2 e) n (suc r) v < x))) (sym y) new
+        go : Dec (k ≡ r + 1) → at 2 below′ k v ≡ 1 ↔ ((v < n) × (levelWithin (has? 2 e) n (suc r) v < k))
+        go (yes y) = subst (λ (x : ℕ). at 2 below′ x v ≡ 1 ↔ ((v < n) × (levelWithin (has? 2 e) n (suc r) v < x))) (sym y) new
         go (no d) =
             let z = same-bits below below′ k (t .low-other k d) (t .high-other k d) v h in
             let old = o .sets k v (omega arith) h in
@@ -236,7 +237,7 @@ module _ (e : List ℕ) (n : ℕ) (small : n ≤ 128) (r low high first second p
             ((λ i. let y = old .0 (sym z ∙ i) in (y .0, f .0 (y .1))), λ i. z ∙ old .1 (i .0, f .1 (i .1)))
 
     -- one that grows on has what it had
-    next-still : (v : ℕ) → v < n → suc r ≤ rowWithin (has? 2 e) n (suc r) v → quad 2 s″ v ≡ quad 2 places v
+    next-still : (v : ℕ) → v < n → suc r ≤ levelWithin (has? 2 e) n (suc r) v → quad 2 s″ v ≡ quad 2 places v
     next-still v h l =
         kept 2 v (omega arith) (λ _ hv i. absurd (let y = stops low high v hv .0 i .1 in let g = grows v hv .1 (h, l) in omega arith))
         ∙ o .still v h (grew (has? 2 e) n r v l)
@@ -259,31 +260,31 @@ module _ (e : List ℕ) (n : ℕ) (small : n ≤ 128) (r low high first second p
 
     -- none grows on: the rows are those of the rule
     module _ (inside : Inside e n) (hr : r < n) (z : bitOr a b ≡ 0) (was : List ℕ) (sets-past : KeptFrom (2 * (r + 1) + 2) was below′) where
-      low-rows : (v : ℕ) → v < n → rowWithin (has? 2 e) n (suc r) v < suc r
+      low-rows : (v : ℕ) → v < n → levelWithin (has? 2 e) n (suc r) v < suc r
       low-rows v h =
           let hv : v < 128 = omega arith in
           ⊎-elim (λ l. l) (λ l. absurd (let g = grows v hv .1 (h, l) in let y = pair-none a b v z hv in omega arith))
-          (lt-or-le (rowWithin (has? 2 e) n (suc r) v) (suc r))
+          (lt-or-le (levelWithin (has? 2 e) n (suc r) v) (suc r))
 
-      last-rows : (v : ℕ) → v < n → row (has? 2 e) n v < suc r
+      last-rows : (v : ℕ) → v < n → level (has? 2 e) n v < suc r
       last-rows v h = below-last (has? 2 e) n (suc r) (suc r) v (omega arith) (omega arith) .0 (low-rows v h)
 
-      highest : r < rowsUsed (has? 2 e) n
+      highest : r < levelsUsed (has? 2 e) n
       highest =
           let v = o .alive in
           let g = o .growing (v .0) (v .1) .0 (v .2) in
-          let k = above-each n (λ x. true) (row (has? 2 e) n) (v .0) (g .0) refl in
+          let k = above-each n (λ x. true) (level (has? 2 e) n) (v .0) (g .0) refl in
           let l = g .1 in
           ⊎-elim
           (λ y. absurd (let w = settled (has? 2 e) n r 128 (v .0) (omega arith) (inl y) in omega arith))
           (λ y. omega arith)
-          (lt-or-le (row (has? 2 e) n (v .0)) r)
+          (lt-or-le (level (has? 2 e) n (v .0)) r)
 
       pub round-over : Laid e n (r + 1) places s″ was below′
       round-over = record {
         cyclic = λ y. absurd (omega arith);
         acyclic = λ y. no-cycle e n inside (λ v h. let l = last-rows v h in omega arith);
-        used = λ y. let k = highest in let l = above-le n (λ v. true) (row (has? 2 e) n) (suc r) (λ v h t. last-rows v h) in omega arith;
+        used = λ y. let k = highest in let l = above-le n (λ v. true) (level (has? 2 e) n) (suc r) (λ v h t. last-rows v h) in omega arith;
         rule = λ y v h. next-rule v h (low-rows v h) ∙ sym (settled (has? 2 e) n (suc r) 128 v (omega arith) (inr (low-rows v h)));
         prefixes = λ y. record {
           few = omega arith;
@@ -342,7 +343,7 @@ module _ (e : List ℕ) (n low high : ℕ) (places s was below : List ℕ) (insi
     rest = o .rest;
   }
     where
-      others : (k v : ℕ) → k < 4 → (k ≡ 2 → v < n → n ≤ rowWithin (has? 2 e) n n v) → Dec (k ≡ 2) → (v < n) ⊎ (n ≤ v)
+      others : (k v : ℕ) → k < 4 → (k ≡ 2 → v < n → n ≤ levelWithin (has? 2 e) n n v) → Dec (k ≡ 2) → (v < n) ⊎ (n ≤ v)
           → quad k s v ≡ quad k places v
       others k v h out (yes q) (inl l) = subst (λ (x : ℕ). quad x s v ≡ quad x places v) (sym q) (o .still v l (out q l))
       others k v h out (yes q) (inr g) = o .rest k v h (λ _. g)
@@ -353,7 +354,7 @@ module _ (e : List ℕ) (n low high : ℕ) (places s was below : List ℕ) (insi
           let v = o .alive in
           let g = o .growing (v .0) (v .1) .0 (v .2) in
           let small = inside .small in
-          let l = rows-below (has? 2 e) (reaches? (arc? e) n) n (order f) small (v .0) (g .0) in
+          let l = levels-below (has? 2 e) (reaches? (arc? e) n) n (order f) small (v .0) (g .0) in
           let w = settled (has? 2 e) n n 128 (v .0) small (inl l) in
           let k = g .1 in
           omega arith

@@ -1,4 +1,4 @@
--- What the descent promises. Assumes nothing.
+-- What the descent promises. Rows are levels here, which go by the edges alone (SPECIFICATION.md, 4.2). Assumes nothing.
 use mathlib.Core.Path.{_≡_}
 use mathlib.Core.Logic.{_≢_, _⊎_, _↔_}
 use mathlib.Core.Bool.{Bool}
@@ -10,7 +10,7 @@ use Rattle.specification.specs.Limits.{mostVertices}
 use Rattle.specification.specs.Count.{choose, some}
 use Rattle.specification.specs.Sets.{at}
 use Rattle.specification.specs.Graph.{edgeCount, edge?, refusal, tailsOf, headsOf, duplicate?, reachable?}
-use Rattle.specification.specs.Rows.{rowWithin, row, rowsUsed}
+use Rattle.rows.specs.Levels.{levelWithin, level, levelsUsed}
 use Rattle.specification.specs.Lent.{Untouched}
 use Rattle.masks.specs.Sets.{Blank}
 use Rattle.scanning.specs.Scanned.{endsRefusal, Scanned}
@@ -48,17 +48,17 @@ pub record Descended (n : ℕ) (tails heads : List ℕ) (r : Descent) (e b t l p
   pub closure : Closure n tails heads (record { edges = e; table = t; counts = quad 3 p })
   pub longer : Composed 2 t l
   pub past : (i : ℕ) → 2 * n ≤ i → (getD e i 0 ≡ 0) × (getD t i 0 ≡ 0) × (getD l i 0 ≡ 0)
-  pub rows : (v : ℕ) → v < n → quad 2 p v ≡ row (edge? tails heads) n v
-  pub used : r .used ≡ rowsUsed (edge? tails heads) n
-  pub below : (k v : ℕ) → k ≤ r .used → v < mostVertices → at 2 b k v ≡ 1 ↔ ((v < n) × (row (edge? tails heads) n v < k))
+  pub rows : (v : ℕ) → v < n → quad 2 p v ≡ level (edge? tails heads) n v
+  pub used : r .used ≡ levelsUsed (edge? tails heads) n
+  pub below : (k v : ℕ) → k ≤ r .used → v < mostVertices → at 2 b k v ≡ 1 ↔ ((v < n) × (level (edge? tails heads) n v < k))
 
 -- n rounds over edges with a cycle: set k of b has the vertices whose row is below k by paths of at most n edges; a vertex whose row is
 -- below n has it in p, and nothing else has changed
 pub record Stuck (E : ℕ → ℕ → Bool) (n : ℕ) (b p b′ p′ : List ℕ) : Type 0 where
-  pub sets : (k v : ℕ) → k ≤ n → v < mostVertices → at 2 b′ k v ≡ 1 ↔ ((v < n) × (rowWithin E n n v < k))
+  pub sets : (k v : ℕ) → k ≤ n → v < mostVertices → at 2 b′ k v ≡ 1 ↔ ((v < n) × (levelWithin E n n v < k))
   pub past : KeptFrom (2 * n + 2) b b′
-  pub settled : (v : ℕ) → v < n → rowWithin E n n v < n → quad 2 p′ v ≡ rowWithin E n n v
-  pub others : (k v : ℕ) → k < 4 → (k ≡ 2 → v < n → n ≤ rowWithin E n n v) → quad k p′ v ≡ quad k p v
+  pub settled : (v : ℕ) → v < n → levelWithin E n n v < n → quad 2 p′ v ≡ levelWithin E n n v
+  pub others : (k v : ℕ) → k < 4 → (k ≡ 2 → v < n → n ≤ levelWithin E n n v) → quad k p′ v ≡ quad k p v
 
 -- what a refusal k leaves: after 2 and 8 nothing changed; after 3, 4 and 5 e has what the pass over the edges leaves, after 3 and 4 nothing
 -- else changed, and after 5 t and l are cleared, and b and p have what the rounds leave

@@ -1,7 +1,8 @@
 // Layer 1: from the bytes of a graph's edges to its tables (SPECIFICATION.md, 2 and 4). The crate `scanning` checks the edges and makes
-// their table. Rows are found by rounds; then, from the highest row down, each vertex gets the union of its successors' sets. A table has two
-// masks of 64 bits a vertex: bit v mod 64 of mask 2 u + v / 64 says that v is in the set of u. The places have four bytes a
-// vertex: the row of v at 4 v + 2, and at 4 v + 3 how many vertices it reaches; the first two are others'.
+// their table. Rows are found by rounds; then, from the highest row down, each vertex gets the union of its successors' sets. Rows are levels
+// here, which go by the edges alone: the crate `floors` lifts them. A table has two masks of 64 bits a vertex: bit v mod 64 of mask
+// 2 u + v / 64 says that v is in the set of u. The places have four bytes a vertex: the row of v at 4 v + 2, and at 4 v + 3 how many vertices
+// it reaches; the first two are others'.
 ghost use mathlib.Core.Path.{_≡_};
 ghost use Prim.Native.Nat.{ℕ, _+_, _*_, _≤_, _<_, min};
 ghost use lib.Count.{ones};

@@ -1,5 +1,5 @@
 -- The theorems of `Compaction` for the edges of a graph without cycles. Assumes nothing.
-use Rattle.counting.proofs.Prelude.{_≡_, sym, _∙_, false, true≢false, List, ℕ, _≤_, _<_, arith}
+use Rattle.counting.proofs.Prelude.{_≡_, sym, _∙_, false, true≢false, List, ℕ, _+_, _≤_, _<_, max, arith}
 use Rattle.specification.specs.Count.{some, above}
 use Rattle.specification.specs.Graph.{edge?, refusal, reachable?}
 use Rattle.specification.specs.Graph.Reaches.{one}
@@ -26,9 +26,11 @@ module _ (n : ℕ) (tails heads : List ℕ) (accepted : refusal n tails heads �
     irrefl = λ u hu p. let s = small in true≢false (sym (some-found 128 (λ v. reachable? n tails heads v v) u (omega arith) p) ∙ acyclic);
   }
 
-  -- the rule of rows (SPECIFICATION.md, 4.1) holds of every vertex, and every row is below the number of vertices
-  pub graph-rule : (v : ℕ) → v < n → row (edge? tails heads) n v ≡ above n (λ u. edge? tails heads u v) (row (edge? tails heads) n)
-  graph-rule = rows-rule (edge? tails heads) (reachable? n tails heads) n acyclic-order small
+  module _ (floor : ℕ → ℕ) where
+    -- the rule of rows (SPECIFICATION.md, 4.1) holds of every vertex, and every row is below the highest floor and the number of vertices
+    pub graph-rule : (v : ℕ) → v < n
+        → row (edge? tails heads) floor n v ≡ max (floor v) (above n (λ u. edge? tails heads u v) (row (edge? tails heads) floor n))
+    graph-rule = rows-rule (edge? tails heads) (reachable? n tails heads) n acyclic-order floor small
 
-  pub graph-below : (v : ℕ) → v < n → row (edge? tails heads) n v < n
-  graph-below = rows-below (edge? tails heads) (reachable? n tails heads) n acyclic-order small
+    pub graph-below : (top : ℕ) → ((v : ℕ) → v < n → floor v ≤ top) → (v : ℕ) → v < n → row (edge? tails heads) floor n v < top + n
+    graph-below = rows-below (edge? tails heads) (reachable? n tails heads) n acyclic-order floor

@@ -1,4 +1,5 @@
 pub mod Depth
 pub mod Compaction
+pub mod Levels
 pub mod Graphs
 pub mod Same

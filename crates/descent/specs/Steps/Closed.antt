@@ -10,7 +10,7 @@ use lib.ListN.{length, getD}
 use Rattle.specification.specs.Count.{sum, count}
 use Rattle.specification.specs.Sets.{bit, at, has?}
 use Rattle.specification.specs.Graph.{Reaches, Longer, reaches?, refusal}
-use Rattle.specification.specs.Rows.{row, rowsUsed}
+use Rattle.rows.specs.Levels.{level, levelsUsed}
 use Rattle.counting.specs.Quads.{quad}
 use Rattle.masks.specs.Sets.{Blank}
 use Rattle.descent.specs.declared.Descent.{Descent}
@@ -68,16 +68,16 @@ pub record Inside (e : List ℕ) (n : ℕ) : Type 0 where
 -- set r of `below` has the vertices whose row is below r; no row is `top` or more
 pub record Prefixes (e : List ℕ) (n top : ℕ) (below : List ℕ) : Type 0 where
   pub few : top ≤ n
-  pub members : (r v : ℕ) → r ≤ top → v < 128 → at 2 below r v ≡ 1 ↔ ((v < n) × (row (has? 2 e) n v < r))
-  pub all : (v : ℕ) → v < n → row (has? 2 e) n v < top
+  pub members : (r v : ℕ) → r ≤ top → v < 128 → at 2 below r v ≡ 1 ↔ ((v < n) × (level (has? 2 e) n v < r))
+  pub all : (v : ℕ) → v < n → level (has? 2 e) n v < top
 
 -- where a vertex reaches itself, r is 0; else r is the number of rows used, and p′ has the row of each of the n vertices. Every other
 -- number is that of p, and past the sets of the rows `below` has what b has
 pub record Laid (e : List ℕ) (n r : ℕ) (p p′ b below : List ℕ) : Type 0 where
   pub cyclic : r ≡ 0 → (u : ℕ) × (u < n) × Reaches (Arc e) u u
   pub acyclic : r ≢ 0 → (u : ℕ) → Reaches (Arc e) u u → ⊥
-  pub used : r ≢ 0 → r ≡ rowsUsed (has? 2 e) n
-  pub rule : r ≢ 0 → (v : ℕ) → v < n → quad 2 p′ v ≡ row (has? 2 e) n v
+  pub used : r ≢ 0 → r ≡ levelsUsed (has? 2 e) n
+  pub rule : r ≢ 0 → (v : ℕ) → v < n → quad 2 p′ v ≡ level (has? 2 e) n v
   pub prefixes : r ≢ 0 → Prefixes e n r below
   pub sets-past : r ≢ 0 → KeptFrom (2 * r + 2) b below
   pub refused : r ≡ 0 → Stuck (has? 2 e) n b p below p′
