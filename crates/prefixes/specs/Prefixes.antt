@@ -4,12 +4,12 @@ use mathlib.Core.Logic.{_↔_}
 use mathlib.Core.List.{List}
 use Prim.Native.Nat.{ℕ, _+_, _-_, _*_, _/_, _≤_, _<_, min}
 use lib.ListN.{length}
-use Rattle.specification.specs.Limits.{mostVertices, maskBits}
+use Rattle.specification.specs.Limits.{rowNumbers, maskBits}
 use Rattle.specification.specs.Sets.{at}
 
--- the last set that is filled: number `top`, at most 128, or the last for which so many masks, two a set, have room; 0 where none is
+-- the last set that is filled: number `top`, at most 256, or the last for which so many masks, two a set, have room; 0 where none is
 abbrev pub lastSet : ℕ → ℕ → ℕ
-lastSet top masks = min (min top mostVertices) (masks / 2 - 1)
+lastSet top masks = min (min top rowNumbers) (masks / 2 - 1)
 
 -- of n vertices, for the sets 0 to top; a set past them has, in the masks that the list has of it, the vertices whose key is one less than
 -- its number

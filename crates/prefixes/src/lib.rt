@@ -6,6 +6,12 @@ ghost use Rattle.counting.specs.Quads.{quad};
 ghost use Rattle.prefixes.specs.Prefixes.{lastSet, Prefixes};
 ghost use Rattle.prefixes.specs.Steps.{Stage};
 
+// The most vertices.
+const MOST_VERTICES: usize = 128;
+
+// The highest number of a set: one more than the highest key, a byte.
+const MOST_SETS: usize = 256;
+
 // A byte as a usize.
 fn wide(x: u8) -> usize
     ensures { λ r. ⌜ (r ≡ x) × (r < 256) ⌝ }
@@ -31,7 +37,7 @@ fn clear(sets: &mut [u64])
     }
 }
 
-// The last set that is filled, of sets 0 to `top`, at most 128, in so many masks.
+// The last set that is filled, of sets 0 to `top`, at most 256, in so many masks.
 fn last_set(top: usize, masks: usize) -> usize
     ensures { λ r. ⌜ r ≡ lastSet top masks ⌝ }
 {
@@ -39,12 +45,12 @@ fn last_set(top: usize, masks: usize) -> usize
     if room == 0 {
         return 0;
     }
-    least(least(top, 128), room - 1)
+    least(least(top, MOST_SETS), room - 1)
 }
 
 // Puts each set of two masks into the next, from set 0 to set `top`.
 fn join(sets: &mut [u64], top: usize)
-    requires { ⌜ top ≤ lastSet 128 (length (now sets)) ⌝ }
+    requires { ⌜ top ≤ lastSet 256 (length (now sets)) ⌝ }
     ensures { λ _. ⌜ ((n : ℕ) (key : ℕ → ℕ) → Stage 2 n key top 0 (now (sets .entry)) → Prefixes 2 n key top (now (sets .exit))) ⌝ }
 {
     for k in 0..top {
@@ -56,18 +62,33 @@ fn join(sets: &mut [u64], top: usize)
     }
 }
 
-// Fills a list with sets of vertices by their keys, two masks a set: set k has the vertices whose key is below k, for k up to `top`, at
-// most 128 and no more than the list has room for; gives the last. A set past it has the vertices whose key is one less than its number. The
-// keys are the first numbers of entries of four; the vertices are the first n entries, and at most 128.
-pub fn prefixes(places: &[u8], n: usize, top: usize, sets: &mut [u64]) -> usize
-    ensures { λ r. ⌜ (r ≡ lastSet top (length (now (sets .entry)))) × Prefixes 2 (min (min n 128) (length (now (places .entry)) / 4)) (quad 0 (now (places .entry))) r (now (sets .exit)) × (length (now (sets .exit)) ≡ length (now (sets .entry))) ⌝ }
+// Fills a list with sets of vertices by their keys, number `key` of an entry of four, as said below.
+fn sets_by(places: &[u8], key: usize, n: usize, top: usize, sets: &mut [u64]) -> usize
+    requires { ⌜ key < 4 ⌝ }
+    ensures { λ r. ⌜ (r ≡ lastSet top (length (now (sets .entry)))) × Prefixes 2 (min (min n 128) (length (now (places .entry)) / 4)) (quad key (now (places .entry))) r (now (sets .exit)) × (length (now (sets .exit)) ≡ length (now (sets .entry))) ⌝ }
 {
-    let m = least(least(n, 128), places.len() / 4);
+    let m = least(least(n, MOST_VERTICES), places.len() / 4);
     let last = last_set(top, sets.len());
     clear(sets);
     for v in 0..m {
-        masks::insert(sets, 2 * (wide(places[4 * v]) + 1), v);
+        masks::insert(sets, 2 * (wide(places[4 * v + key]) + 1), v);
     }
     join(sets, last);
     last
+}
+
+// Fills a list with sets of vertices by their keys, two masks a set: set k has the vertices whose key is below k, for k up to `top`, at
+// most 256 and no more than the list has room for; gives the last. A set past it has the vertices whose key is one less than its number. The
+// keys are the channels, the first numbers of entries of four; the vertices are the first n entries, and at most 128.
+pub fn by_channel(places: &[u8], n: usize, top: usize, sets: &mut [u64]) -> usize
+    ensures { λ r. ⌜ (r ≡ lastSet top (length (now (sets .entry)))) × Prefixes 2 (min (min n 128) (length (now (places .entry)) / 4)) (quad 0 (now (places .entry))) r (now (sets .exit)) × (length (now (sets .exit)) ≡ length (now (sets .entry))) ⌝ }
+{
+    sets_by(places, 0, n, top, sets)
+}
+
+// The same by the rows, the third numbers.
+pub fn by_row(places: &[u8], n: usize, top: usize, sets: &mut [u64]) -> usize
+    ensures { λ r. ⌜ (r ≡ lastSet top (length (now (sets .entry)))) × Prefixes 2 (min (min n 128) (length (now (places .entry)) / 4)) (quad 2 (now (places .entry))) r (now (sets .exit)) × (length (now (sets .exit)) ≡ length (now (sets .entry))) ⌝ }
+{
+    sets_by(places, 2, n, top, sets)
 }

@@ -1,17 +1,18 @@
--- `prefixes::prefixes` meets its contract: the vertices passed stand in the sets after their keys. Assumes nothing.
-use Rattle.counting.proofs.Prelude.{_≡_, refl, _∙_, _-_, _/_, _≤_, min, zero-le, arith, length, needs}
+-- `prefixes::sets_by` meets its contract: the vertices passed stand in the sets after their keys. Assumes nothing.
+use Rattle.counting.proofs.Prelude.{_≡_, refl, sym, ap, _∙_, ℕ, _-_, _/_, _≤_, min, zero-le, arith, length, getD, needs}
 use Rattle.counting.specs.Quads.{quad}
+use Rattle.counting.proofs.Quads.{spot-sum}
 use Rattle.prefixes.specs.Steps.{Stage}
 use Rattle.prefixes.proofs.Stages.{stage-start, put-step, stage-joined}
-use Rattle.prefixes.proofs.prefixes.Statement.{statement}
-use Rattle.prefixes.proofs.prefixes.Tie as tie
+use Rattle.prefixes.proofs.sets_by.Statement.{statement}
+use Rattle.prefixes.proofs.sets_by.Tie as tie
 
 abbrev Inv-loop : tie.InvT-loop
-Inv-loop places n top sets₀ m last v₀ sets v =
-    (v ≤ m) × (length sets ≡ length sets₀) × Stage 2 v (quad 0 places) last 0 sets
+Inv-loop places key n top sets₀ m last v₀ sets v =
+    (v ≤ m) × (length sets ≡ length sets₀) × Stage 2 v (quad key places) last 0 sets
 
 abbrev μ-loop : tie.MeasureT-loop
-μ-loop places n top sets₀ m last v₀ sets v = m - v
+μ-loop places key n top sets₀ m last v₀ sets v = m - v
 
 -- the places that facts are read from
 abbrev start-of : tie.After-last-set Inv-loop μ-loop → tie.Start Inv-loop μ-loop
@@ -37,8 +38,11 @@ loop-again : tie.Need-loop-again Inv-loop μ-loop
 loop-again c =
     let insert = c .before .before in let wide = insert .before in
     let call = insert .insert in
-    let l = wide .before .before .before .before .loop in
-    let put = put-step _ _ _ _ _ _ (omega arith) (wide .wide .ensures .0) (call .ensures .1) (l .inv .2) in
+    let head = wide .before .before .before .before in
+    let l = head .loop in
+    let a = start-of (last-set-of (clear-of head)) .args in
+    let key = wide .wide .ensures .0 ∙ ap (λ (i : ℕ). getD (a .places .now) i 0) (sym (spot-sum (a .key) (l .v))) in
+    let put = put-step (quad (a .key) (a .places .now)) _ (l .v) _ _ _ (omega arith) key (call .ensures .1) (l .inv .2) in
     (omega arith, call .kept .0 ∙ l .inv .1, put)
 
 join-requires : tie.Need-join-requires Inv-loop μ-loop
@@ -60,8 +64,8 @@ returns c =
     let full : l .v ≡ min (min (a .n) 128) (length (a .places .now) / 4) = omega arith in
     (last-set .last-set .ensures, stage-joined _ _ _ _ _ _ full (l .inv .2) (join .join .ensures), same-length c)
 
-pub prefixes-spec : {M : Type 1} → statement M
-prefixes-spec =
+pub sets-by-spec : {M : Type 1} → statement M
+sets-by-spec =
     tie.close
     (tie.spec
     Inv-loop
@@ -71,6 +75,7 @@ prefixes-spec =
     (λ c κs. search needs)
     (λ c κs. search needs)
     loop-holds
+    (λ c. search needs)
     (λ c. search needs)
     (λ c. search needs)
     (λ c κs. search needs)

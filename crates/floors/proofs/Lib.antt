@@ -1,0 +1,5 @@
+mod Members
+mod Pushing
+mod Rising
+mod Settling
+mod Answering
