@@ -2,7 +2,7 @@
 ghost use mathlib.Core.Path.{_≡_};
 ghost use Prim.Native.Nat.{_≤_, _<_};
 ghost use lib.ListN.{length};
-ghost use Rattle.specification.specs.Layout.{fieldAt, layoutOf, layoutAnswer, lined, withLines, afterEdges, withEdges};
+ghost use Rattle.specification.specs.Layout.{fieldAt, layoutOf, layoutAnswer, lined, withFloors, afterLines, withLines, withEdges};
 use specification::Field;
 use specification::Fields;
 use specification::Layout;
@@ -56,12 +56,12 @@ fn is_lined(b: &[u8]) -> bool
     left == 0
 }
 
-// Tag 3 at a place: the given channels, to the end of the record.
-fn with_lines(b: &[u8], n: usize, edges: usize, m: usize, at: usize) -> Layout
+// Tag 4 at a place: the floors, to the end of the record.
+fn with_floors(b: &[u8], f: Fields, at: usize) -> Layout
     requires { ⌜ at ≤ 65535 ⌝ }
-    ensures { λ r. ⌜ r ≡ withLines (now (b .entry)) n edges m (fieldAt 3 (now (b .entry)) at) ⌝ }
+    ensures { λ r. ⌜ r ≡ withFloors (now (b .entry)) f (fieldAt 4 (now (b .entry)) at) ⌝ }
 {
-    let field = field_at(b, 3, at);
+    let field = field_at(b, 4, at);
     let Field::Found { start, size } = field else {
         return Layout::Bad;
     };
@@ -69,35 +69,58 @@ fn with_lines(b: &[u8], n: usize, edges: usize, m: usize, at: usize) -> Layout
     if end != b.len() {
         return Layout::Bad;
     }
-    if is_lined(&b[start..end]) {
-        return Layout::Good(Fields {
-            vertices: n,
-            edges,
-            count: m,
-            given: true,
-            lines: start,
-            size,
-        });
-    }
-    Layout::Bad
+    Layout::Good(Fields {
+        vertices: f.vertices,
+        edges: f.edges,
+        count: f.count,
+        given: f.given,
+        lines: f.lines,
+        size: f.size,
+        floored: true,
+        floors: start,
+        extent: size,
+    })
 }
 
-// After the edges: the end of the record, or tag 3.
-fn after_edges(b: &[u8], n: usize, edges: usize, m: usize, end: usize) -> Layout
+// After the given channels: the end of the record, or tag 4.
+fn after_lines(b: &[u8], f: Fields, end: usize) -> Layout
     requires { ⌜ end ≤ 65535 ⌝ }
-    ensures { λ r. ⌜ r ≡ afterEdges (now (b .entry)) n edges m end ⌝ }
+    ensures { λ r. ⌜ r ≡ afterLines (now (b .entry)) f end ⌝ }
 {
     if end == b.len() {
-        return Layout::Good(Fields {
-            vertices: n,
-            edges,
-            count: m,
-            given: false,
-            lines: 0,
-            size: 0,
-        });
+        return Layout::Good(f);
     }
-    with_lines(b, n, edges, m, end)
+    with_floors(b, f, end)
+}
+
+// Tag 3 at a place: the given channels, and what comes after them. They may be left out.
+fn with_lines(b: &[u8], n: usize, edges: usize, m: usize, at: usize) -> Layout
+    requires { ⌜ (at ≤ 65535) × (length (now b) ≤ 65535) ⌝ }
+    ensures { λ r. ⌜ r ≡ withLines (now (b .entry)) n edges m at (fieldAt 3 (now (b .entry)) at) ⌝ }
+{
+    let mut f = Fields {
+        vertices: n,
+        edges,
+        count: m,
+        given: false,
+        lines: 0,
+        size: 0,
+        floored: false,
+        floors: 0,
+        extent: 0,
+    };
+    let field = field_at(b, 3, at);
+    let Field::Found { start, size } = field else {
+        return after_lines(b, f, at);
+    };
+    let end = start + size;
+    if is_lined(&b[start..end]) {
+        f.given = true;
+        f.lines = start;
+        f.size = size;
+        return after_lines(b, f, end);
+    }
+    Layout::Bad
 }
 
 // Tag 2 at a place: the edges, two bytes each.
@@ -112,7 +135,7 @@ fn with_edges(b: &[u8], n: usize, at: usize) -> Layout
     if size % 2 != 0 {
         return Layout::Bad;
     }
-    after_edges(b, n, start, size / 2, start + size)
+    with_lines(b, n, start, size / 2, start + size)
 }
 
 // Where the fields of a record stand, or that they do not stand as they must.

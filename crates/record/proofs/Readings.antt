@@ -1,5 +1,5 @@
 -- What a record says, by whether it is accepted. Assumes nothing.
-use Rattle.counting.proofs.Prelude.{_≡_, refl, sym, ap, ap₂, _∙_, subst, _≢_, _↔_, Bool, List, [], ℕ, _+_, _-_, _*_, _<_, arith, length}
+use Rattle.counting.proofs.Prelude.{_≡_, refl, sym, ap, _∙_, subst, _≢_, _↔_, Bool, List, [], ℕ, _+_, _-_, _*_, _<_, arith, length}
 use Rattle.counting.proofs.Prelude.{take, drop, eq-eqb, ne-eqb}
 use Rattle.specification.specs.Count.{choose}
 use Rattle.specification.specs.Sets.{at}
@@ -35,15 +35,16 @@ accepted-says b f e z =
 pub parts-content : (b : List ℕ) (f : Fields)
     → content (f .vertices) (tailsOf (take ((f .edges + 2 * f .count) - f .edges) (drop (f .edges) b)))
     (headsOf (take ((f .edges + 2 * f .count) - f .edges) (drop (f .edges) b))) (f .given)
-    (take ((f .lines + f .size) - f .lines) (drop (f .lines) b))
+    (take ((f .lines + f .size) - f .lines) (drop (f .lines) b)) (f .floored)
+    (take ((f .floors + f .extent) - f .floors) (drop (f .floors) b))
     ≡ contentOf b f
 unfolding contentOf
 parts-content b f =
-    ap₂
-    (λ (i j : ℕ). content (f .vertices) (tailsOf (take i (drop (f .edges) b))) (headsOf (take i (drop (f .edges) b))) (f .given)
-    (take j (drop (f .lines) b)))
-    (let e : (f .edges + 2 * f .count) - f .edges ≡ 2 * f .count = omega arith in e)
-    (let e : (f .lines + f .size) - f .lines ≡ f .size = omega arith in e)
+    rw (
+      (let e : (f .edges + 2 * f .count) - f .edges ≡ 2 * f .count = omega arith in e),
+      (let e : (f .lines + f .size) - f .lines ≡ f .size = omega arith in e),
+      (let e : (f .floors + f .extent) - f .floors ≡ f .extent = omega arith in e),
+    ) refl
 
 -- ---- what reading answers
 

@@ -1,11 +1,12 @@
 -- The sound records are accepted, and no others. Assumes nothing.
 use Rattle.counting.proofs.Prelude.{_≡_, refl, sym, ap, _∙_, subst, _↔_, _⊎_, ⊎-elim, _≢_, Bool, true, false, true≢false, not, _&&_}
-use Rattle.counting.proofs.Prelude.{List, [], _∷_, ℕ, zero, suc, _≤_, _<_, arith, eqb, leb, length, getD, eq-eqb, eqb-true, le-ltb, lt-leb}
-use Rattle.counting.proofs.Prelude.{leb-false}
+use Rattle.counting.proofs.Prelude.{List, [], _∷_, ℕ, zero, suc, _≤_, _<_, arith, eqb, leb, ltb, length, getD, eq-eqb, eqb-true, le-ltb}
+use Rattle.counting.proofs.Prelude.{lt-leb, leb-false, ltb-false, not-false, List·getD-eq-default}
 use Rattle.specification.specs.Count.{choose, some}
 use Rattle.specification.specs.Channels.{times, linked, every, allLinked, linesOf, verticesOf, unknown?, broken?}
 use Rattle.specification.specs.Graph.{Edge, outsized?, strange?, verdict, refusal, reachable?, alike?, duplicate?}
-use Rattle.specification.specs.Checks.{Content, edgesOf, connectionIn, size?, stranger?, double?, ring?, repeated?, unled?, looseChecks}
+use Rattle.specification.specs.Checks.{Content, edgesOf, connectionIn, size?, unfloored?, floor?, Floored, stranger?, double?, ring?}
+use Rattle.specification.specs.Checks.{repeated?, unled?, looseChecks}
 use Rattle.specification.specs.Checks.{laterChecks, firstOf, refusalOf, contentOf, refusalIn, recordRefusal, givenLine, Sized}
 use Rattle.specification.specs.Checks.{EndsKnown, GivenKnown, Distinct, Acyclic, Leads, Once, Led, Sound, SoundRecord}
 use Rattle.specification.specs.Connection.{connectionNumber, leading?, Means}
@@ -45,6 +46,7 @@ passes-given false t h = refl
 -- every test of the list of checks
 pub record Passes (c : Content) : Type 0 where
   pub size : size? c ≡ false
+  pub floor : floor? c ≡ false
   pub stranger : stranger? c ≡ false
   pub double : double? c ≡ false
   pub ring : ring? c ≡ false
@@ -55,16 +57,17 @@ pub accepted-passes : (c : Content) → refusalOf c ≡ 0 → Passes c
 unfolding refusalOf firstOf looseChecks laterChecks
 accepted-passes c e =
     let a = guarded (size? c) 2 _ (λ z. omega arith) e in
-    let b = guarded (stranger? c) 3 _ (λ z. omega arith) (a .1) in
+    let f = guarded (floor? c) 12 _ (λ z. omega arith) (a .1) in
+    let b = guarded (stranger? c) 3 _ (λ z. omega arith) (f .1) in
     let d = guarded (double? c) 4 _ (λ z. omega arith) (b .1) in
     let r = guarded (ring? c) 5 _ (λ z. omega arith) (d .1) in
     let p = guarded (repeated? c) 6 _ (λ z. omega arith) (r .1) in
     let u = guarded (unled? c) 7 _ (λ z. omega arith) (p .1) in
-    record { size = a .0; stranger = b .0; double = d .0; ring = r .0; repeated = p .0; unled = u .0 }
+    record { size = a .0; floor = f .0; stranger = b .0; double = d .0; ring = r .0; repeated = p .0; unled = u .0 }
 
 passes-accepted : (c : Content) → Passes c → refusalOf c ≡ 0
 unfolding refusalOf firstOf looseChecks laterChecks
-passes-accepted c p = rw (p .size, p .stranger, p .double, p .ring, p .repeated, p .unled) refl
+passes-accepted c p = rw (p .size, p .floor, p .stranger, p .double, p .ring, p .repeated, p .unled) refl
 
 -- ---- what each test says
 
@@ -196,6 +199,25 @@ module _ (c : Content) where
   unfolding size?
   size-says = (outsized-back n m, of-size n m)
 
+  pub floor-says : (floor? c ≡ false) ↔ Floored c
+  unfolding floor? unfloored?
+  floor-says = (
+    (λ e g.
+        let p = or-neither _ _ (given-passes (c .floored) _ e g) in
+        let long : length (c .floors) ≡ n = eqb-true _ _ (not-false _ (p .0)) in (
+          long,
+          λ v. ⊎-elim
+              (λ l. ltb-false _ _ (none-found (length (c .floors)) over (p .1) v l))
+              (λ l. omega (arith, List·getD-eq-default (c .floors) 0 l))
+              (lt-or-le v (length (c .floors))),
+        )),
+    λ h. passes-given (c .floored) _
+        (λ g. neither _ _ (ap not (eq-eqb _ _ (h g .0))) (some-none (length (c .floors)) over (λ v l. le-ltb 127 _ (h g .1 v)))),
+  )
+    where
+      over : ℕ → Bool
+      over v = ltb 127 (getD (c .floors) v 0)
+
   pub stranger-says : (stranger? c ≡ false) ↔ (EndsKnown c × GivenKnown c)
   unfolding stranger?
   stranger-says = (
@@ -287,6 +309,7 @@ module _ (c : Content) where
       let z = size-says .0 (p .size) in
       let k = stranger-says .0 (p .stranger) in record {
         size = z;
+        floors = floor-says .0 (p .floor);
         ends = k .0;
         named = k .1;
         distinct = double-says .0 (p .double);
@@ -300,6 +323,7 @@ module _ (c : Content) where
       let k : EndsKnown c × GivenKnown c = (s .ends, s .named) in
       passes-accepted c (record {
         size = size-says .1 (s .size);
+        floor = floor-says .1 (s .floors);
         stranger = stranger-says .1 k;
         double = double-says .1 (s .distinct);
         ring = ring-says (s .size) k .1 (s .acyclic);

@@ -56,13 +56,17 @@ fn judge<'b, 'e, 'l, 't>(
     let to = from + 2 * fields.count;
     let start = fields.lines;
     let end = start + fields.size;
-    let mut below = [0; 258];
+    let low = fields.floors;
+    let high = low + fields.extent;
+    let mut below = [0; 512];
     let mut places = [0; 512];
     let checked = check(
         fields.vertices,
         &b[from..to],
         fields.given,
         &b[start..end],
+        fields.floored,
+        &b[low..high],
         edges,
         &mut below,
         table,
@@ -81,7 +85,7 @@ fn judge<'b, 'e, 'l, 't>(
     }
 }
 
-// The vertices and the reachability of a record, or the number of the first check that fails, of 1 to 7.
+// The vertices and the reachability of a record, or the number of the first check that fails, of 1, 2, 12 and 3 to 7.
 pub fn read(b: &[u8]) -> Reading
     ensures { λ r. ⌜ Reads (now (b .entry)) r ⌝ }
 {
@@ -109,7 +113,7 @@ fn untold(refusal: u8) -> Reply
     }
 }
 
-// How one vertex of a record reaches another. Refused with 1 to 7 as the record is, and then with 3 where one of the two is no vertex of it.
+// How one vertex of a record reaches another. Refused as the record is, and then with 3 where one of the two is no vertex of it.
 pub fn ask(b: &[u8], u: usize, v: usize) -> Reply
     ensures { λ r. ⌜ r ≡ asked (now (b .entry)) u v ⌝ }
 {

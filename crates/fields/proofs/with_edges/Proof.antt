@@ -1,7 +1,7 @@
 use Rattle.counting.proofs.Prelude.{_≡_, sym, ap, _∙_, _%_, arith, eq-eqb, ne-eqb, needs}
 use Rattle.specification.specs.declared.Field.the-variants.{Found}
 use Rattle.specification.specs.declared.Layout.the-variants.{Bad}
-use Rattle.specification.specs.Layout.{fieldAt, withEdges}
+use Rattle.specification.specs.Layout.{fieldAt, afterEdges, withEdges}
 use Rattle.specification.proofs.Placing.{Inside, found-inside}
 use Rattle.fields.proofs.with_edges.Statement.{statement}
 use Rattle.fields.proofs.with_edges.Tie as tie
@@ -42,21 +42,22 @@ returns-2 c =
     let bad : Bad ≡ withEdges (a .b .now) (a .n) (Found (f .0 .0) (f .0 .1 .0)) = simp (ne-eqb (f .0 .1 .0 % 2) 0 (c .if1 .taken)) in
     bad ∙ ap (withEdges (a .b .now) (a .n)) (sym (found known-told))
 
-add-after-edges : tie.Need-add-after-edges
-add-after-edges c = omega (arith, inside (c .before) .ends)
+add-with-lines : tie.Need-add-with-lines
+add-with-lines c = omega (arith, inside (c .before) .ends)
 
-after-edges-requires : tie.Need-after-edges-requires
-after-edges-requires c κs =
+with-lines-requires : tie.Need-with-lines-requires
+with-lines-requires c κs =
     let known-told = c .before in
-    omega (arith, inside known-told .ends, start-of (known-told .before) .pre .1)
+    let short = start-of (known-told .before) .pre .1 in
+    (omega (arith, inside known-told .ends), short)
 
 returns-3 : tie.Need-returns-3
-unfolding withEdges
+unfolding withEdges afterEdges
 returns-3 c =
     let a = c .before .before .before .before .before .before .before .args in
     let f = c .before .before .before .field .given in
-    let good : c .after-edges .result ≡ withEdges (a .b .now) (a .n) (Found (f .0 .0) (f .0 .1 .0)) =
-    simp (eq-eqb _ _ (c .before .if1 .left)) (c .after-edges .ensures) in
+    let good : c .with-lines .result ≡ withEdges (a .b .now) (a .n) (Found (f .0 .0) (f .0 .1 .0)) =
+    simp (eq-eqb _ _ (c .before .if1 .left)) (c .with-lines .ensures) in
     good ∙ ap (withEdges (a .b .now) (a .n)) (sym (found (c .before .before)))
 
 pub with-edges-spec : {M : Type 1} → statement M
@@ -68,6 +69,6 @@ with-edges-spec =
     enum-told
     returns
     returns-2
-    add-after-edges
-    after-edges-requires
+    add-with-lines
+    with-lines-requires
     returns-3)

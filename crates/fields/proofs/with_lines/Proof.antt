@@ -1,6 +1,6 @@
-use Rattle.counting.proofs.Prelude.{_≡_, sym, ap, _∙_, true, false, ℕ, _+_, _-_, arith, length, take, drop, eq-eqb, ne-eqb, needs}
+use Rattle.counting.proofs.Prelude.{_≡_, sym, ap, _∙_, Bool, true, false, ℕ, _+_, _-_, arith, take, drop, needs}
 use Rattle.specification.specs.declared.Field.the-variants.{Found}
-use Rattle.specification.specs.declared.Layout.the-variants.{Good, Bad}
+use Rattle.specification.specs.declared.Layout.the-variants.{Bad}
 use Rattle.specification.specs.Layout.{fieldAt, lined, withLines}
 use Rattle.specification.proofs.Placing.{Inside, found-inside}
 use Rattle.fields.proofs.with_lines.Statement.{statement}
@@ -9,6 +9,9 @@ use Rattle.fields.proofs.with_lines.Tie as tie
 -- the places that facts are read from
 abbrev start-of : tie.After-field → tie.Start
 start-of c = c .before .before .before .before
+
+abbrev known-told-of : tie.After-is-lined → tie.After-known-told
+known-told-of c = c .before .before
 
 -- the field that was found, and where it lies
 found : (c : tie.After-known-told)
@@ -29,54 +32,57 @@ enum-told c = search needs
 returns : tie.Need-returns
 unfolding withLines
 returns c =
-    let field-at = c .before .before in
+    let enum-told = c .before in
+    let field-at = enum-told .before .before in
     let a = field-at .before .before .args in
-    ap (withLines (a .b .now) (a .n) (a .edges) (a .m)) (sym (sym (field-at .field-at .ensures) ∙ c .enum-told .given .1))
+    c .after-lines .ensures
+    ∙ ap (withLines (a .b .now) (a .n) (a .edges) (a .m) (a .at)) (sym (sym (field-at .field-at .ensures) ∙ enum-told .enum-told .given .1))
 
 add-end : tie.Need-add-end
 add-end c = omega (arith, inside c .ends)
 
+part-is-lined-end : tie.Need-part-is-lined-end
+part-is-lined-end c = omega (arith, inside c .ends)
+
+-- whether the field's bytes are channels, which is what was tested
+abbrev given-of : tie.After-is-lined → Bool
+given-of c =
+    let field = known-told-of c .before in
+    lined 0 (take (field .field .given .0 .1 .0) (drop (field .field .given .0 .0) (start-of field .args .b .now)))
+
+tested : (c : tie.After-is-lined) → c .is-lined .result ≡ given-of c
+tested c =
+    let field = known-told-of c .before in
+    let start = field .field .given .0 .0 in
+    let size = field .field .given .0 .1 .0 in
+    let b = start-of field .args .b .now in
+    c .is-lined .ensures ∙ ap (λ (k : ℕ). lined 0 (take k (drop start b))) (let e : (start + size) - start ≡ size = omega arith in e)
+
+after-lines-requires-2 : tie.Need-after-lines-requires-2
+after-lines-requires-2 c κs =
+    let known-told = known-told-of (c .before) in
+    omega (arith, inside known-told .ends, start-of (known-told .before) .pre .1)
+
 returns-2 : tie.Need-returns-2
 unfolding withLines
 returns-2 c =
-    let known-told = c .before in let field = known-told .before in
+    let if1 = c .before in let is-lined = if1 .before in let known-told = known-told-of is-lined in let field = known-told .before in
     let a = start-of field .args in
     let f = field .field .given in
-    let bad : Bad ≡ withLines (a .b .now) (a .n) (a .edges) (a .m) (Found (f .0 .0) (f .0 .1 .0)) =
-    simp (ne-eqb (f .0 .0 + f .0 .1 .0) (length (a .b .now)) (c .if1 .taken)) in
-    bad ∙ ap (withLines (a .b .now) (a .n) (a .edges) (a .m)) (sym (found known-told))
-
-part-is-lined-end : tie.Need-part-is-lined-end
-part-is-lined-end c = omega (arith, c .if1 .left)
+    let part : given-of is-lined ≡ true = sym (tested is-lined) ∙ if1 .if1 .taken in
+    let here : c .after-lines2 .result ≡ withLines (a .b .now) (a .n) (a .edges) (a .m) (a .at) (Found (f .0 .0) (f .0 .1 .0)) =
+    simp part (c .after-lines2 .ensures) in
+    here ∙ ap (withLines (a .b .now) (a .n) (a .edges) (a .m) (a .at)) (sym (found known-told))
 
 returns-3 : tie.Need-returns-3
 unfolding withLines
 returns-3 c =
-    let is-lined = c .before in let if1 = is-lined .before .before in let known-told = if1 .before in let field = known-told .before in
+    let is-lined = c .before in let known-told = known-told-of is-lined in let field = known-told .before in
     let a = start-of field .args in
     let f = field .field .given in
-    let start = f .0 .0 in
-    let size = f .0 .1 .0 in
-    let part : lined 0 (take size (drop start (a .b .now))) ≡ true =
-    ap (λ (k : ℕ). lined 0 (take k (drop start (a .b .now)))) (let e : size ≡ (start + size) - start = omega arith in e)
-    ∙ sym (is-lined .is-lined .ensures) ∙ c .if2 .taken in
-    let here : Good (record { vertices = a .n; edges = a .edges; count = a .m; given = true; lines = start; size = size })
-    ≡ withLines (a .b .now) (a .n) (a .edges) (a .m) (Found start size) = simp (eq-eqb _ _ (if1 .if1 .left), part) in
-    here ∙ ap (withLines (a .b .now) (a .n) (a .edges) (a .m)) (sym (found known-told))
-
-returns-4 : tie.Need-returns-4
-unfolding withLines
-returns-4 c =
-    let is-lined = c .before in let if1 = is-lined .before .before in let known-told = if1 .before in let field = known-told .before in
-    let a = start-of field .args in
-    let f = field .field .given in
-    let start = f .0 .0 in
-    let size = f .0 .1 .0 in
-    let part : lined 0 (take size (drop start (a .b .now))) ≡ false =
-    ap (λ (k : ℕ). lined 0 (take k (drop start (a .b .now)))) (let e : size ≡ (start + size) - start = omega arith in e)
-    ∙ sym (is-lined .is-lined .ensures) ∙ c .if2 .left in
-    let here : Bad ≡ withLines (a .b .now) (a .n) (a .edges) (a .m) (Found start size) = simp (eq-eqb _ _ (if1 .if1 .left), part) in
-    here ∙ ap (withLines (a .b .now) (a .n) (a .edges) (a .m)) (sym (found known-told))
+    let part : given-of is-lined ≡ false = sym (tested is-lined) ∙ c .if1 .left in
+    let here : Bad ≡ withLines (a .b .now) (a .n) (a .edges) (a .m) (a .at) (Found (f .0 .0) (f .0 .1 .0)) = simp part in
+    here ∙ ap (withLines (a .b .now) (a .n) (a .edges) (a .m) (a .at)) (sym (found known-told))
 
 pub with-lines-spec : {M : Type 1} → statement M
 with-lines-spec =
@@ -85,12 +91,13 @@ with-lines-spec =
     (λ c κs. search needs)
     (λ c. search needs)
     enum-told
+    (λ c κs. search needs)
     returns
     add-end
-    returns-2
     (λ c. search needs)
     (λ c. omega arith)
     part-is-lined-end
     (λ c κs. search needs)
-    returns-3
-    returns-4)
+    after-lines-requires-2
+    returns-2
+    returns-3)

@@ -17,7 +17,7 @@ abbrev layout-of : tie.After-struct-known → tie.After-layout
 layout-of c = c .before .before
 
 abbrev layout-of-check : tie.After-check → tie.After-layout
-layout-of-check c = c .before .before .before .before .before .before .before .before .before .before .before
+layout-of-check c = c .before .before .before .before .before .before .before .before .before .before .before .before .before
 
 -- the fields that were found stand as they must
 good : (c : tie.After-layout) → layoutOf (start-of c .args .b .now) ≡ Good (c .layout .given .0 .0)
@@ -45,11 +45,17 @@ add-to c = omega (arith, laid (layout-of c) .edges)
 add-end : tie.Need-add-end
 add-end c = omega (arith, laid (layout-of (c .before)) .lines)
 
+add-high : tie.Need-add-high
+add-high c = omega (arith, laid (layout-of (c .before .before)) .floors)
+
 part-check-end : tie.Need-part-check-end
-part-check-end c = omega (arith, laid (layout-of (c .before)) .edges)
+part-check-end c = omega (arith, laid (layout-of (c .before .before)) .edges)
 
 part-check-end-2 : tie.Need-part-check-end-2
-part-check-end-2 c = omega (arith, laid (layout-of (c .before .before)) .lines)
+part-check-end-2 c = omega (arith, laid (layout-of (c .before .before .before)) .lines)
+
+part-check-end-3 : tie.Need-part-check-end-3
+part-check-end-3 c = omega (arith, laid (layout-of (c .before .before .before .before)) .floors)
 
 returns-2 : tie.Need-returns-2
 returns-2 c =
@@ -72,12 +78,16 @@ judge-spec =
     mul-to
     add-to
     add-end
+    add-high
     (λ c. search needs)
     (λ c. search needs)
     part-check-end
     (λ c. search needs)
     (λ c. search needs)
     part-check-end-2
+    (λ c. search needs)
+    (λ c. search needs)
+    part-check-end-3
     (λ c. search needs)
     (λ c. search needs)
     (λ c κs. search needs)
