@@ -12,7 +12,8 @@ ghost use Rattle.reduction.specs.Reduction.{transitiveIn?};
 ghost use Rattle.chart_plan.specs.Laid.{lists};
 ghost use Rattle.chart_entries.specs.Promise.{HandedOver};
 ghost use Rattle.chart_entries.specs.Steps.Entries.{vertexAt, kindBy, kindAt, edgeAt, bundleAt, reduced?};
-ghost use Rattle.chart_entries.specs.Steps.Sheets.{blankOf, Drafted, Room, GraphSheet, RecordSheet, endsOf, summaryOf, Leaves};
+ghost use Rattle.chart_entries.specs.Steps.Sheets.{blankOf, Drafted, Room, tooShort?, GraphSheet, RecordSheet, endsOf, floorsIf};
+ghost use Rattle.chart_entries.specs.Steps.Sheets.{floorsOf, summaryOf, Leaves};
 use chart_plan::Plan;
 use specification::Bend;
 use specification::BundleEntry;
@@ -24,10 +25,10 @@ use specification::VertexEntry;
 ghost use Rattle.specification.specs.Lent.{Filled};
 use specification::ChartCounts;
 
-// What a chart's counts and entries are made of, but for the ends of the edges: the channel of each vertex, its position there, its row and
-// how many vertices it reaches, in turn; the columns of the vertices, the pairs with a vertex between, the sets of the vertices below each
-// row and left of each channel, the bundle of the edges into each vertex and of those out of it, in turn, and the channel, first row, last
-// row and track of each bundle, in turn.
+// What a chart's counts and entries are made of, but for the ends of the edges and the floors: the channel of each vertex, its position
+// there, its row and how many vertices it reaches, in turn; the columns of the vertices, the pairs with a vertex between, the sets of the
+// vertices below each row and left of each channel, the bundle of the edges into each vertex and of those out of it, in turn, and the
+// channel, first row, last row and track of each bundle, in turn.
 pub struct Sheet {
     pub refusal: u8,
     pub vertices: usize,
@@ -40,7 +41,7 @@ pub struct Sheet {
     pub places: [u8; 512],
     pub column: [u16; 128],
     pub longer: [u64; 256],
-    pub below: [u64; 258],
+    pub below: [u64; 512],
     pub left: [u64; 258],
     pub number: [u16; 256],
     pub spans: [u8; 1024],
@@ -84,16 +85,19 @@ fn number_at(list: &[u16], i: usize) -> u16
 
 // ---- entries, from a sheet
 
-fn vertex_at(d: Sheet, i: usize) -> VertexEntry
+fn vertex_at(floors: &[u8], d: Sheet, i: usize) -> VertexEntry
     requires { ⌜ i < 128 ⌝ }
-    ensures { λ r. ⌜ r ≡ vertexAt d i ⌝ }
+    ensures { λ r. ⌜ r ≡ vertexAt d (now (floors .entry)) i ⌝ }
 {
+    let row = d.places[4 * i + 2];
+    let floor = byte_at(floors, i);
     VertexEntry {
         channel: d.places[4 * i],
         position: d.places[4 * i + 1],
         column: d.column[i],
-        row: d.places[4 * i + 2],
+        row,
         descendants: d.places[4 * i + 3],
+        floor,
     }
 }
 
@@ -199,7 +203,7 @@ fn blank(refusal: u8) -> Sheet
         places: [0; 512],
         column: [0; 128],
         longer: [0; 256],
-        below: [0; 258],
+        below: [0; 512],
         left: [0; 258],
         number: [0; 256],
         spans: [0; 1024],
@@ -212,7 +216,7 @@ fn drafted(
     n: usize,
     m: usize,
     p: Plan,
-    below: [u64; 258],
+    below: [u64; 512],
     longer: [u64; 256],
     places: [u8; 512],
     spans: [u8; 1024],
@@ -223,7 +227,7 @@ fn drafted(
     ensures { λ r. ⌜ ((edges table : List ℕ) → Drafted n m p (lists edges below table longer places spans number tracks column) r) ⌝ }
 {
     let mut left = [0; 258];
-    prefixes::prefixes(&places, n, wide(p.channels), &mut left);
+    prefixes::by_channel(&places, n, wide(p.channels), &mut left);
     Sheet {
         refusal: 0,
         vertices: n,
@@ -243,20 +247,36 @@ fn drafted(
     }
 }
 
-// Of a neutral graph: so many vertices, the bytes of its edges' ends, two an edge, and the bytes of its given channels, if any are given.
+// Whether lists of so many entries are too short for n vertices, m edges and k bundles.
+fn is_short(n: usize, m: usize, k: usize, vertices: usize, edges: usize, bundles: usize) -> bool
+    ensures { λ r. ⌜ r ≡ tooShort? n m k vertices edges bundles ⌝ }
+{
+    if vertices < n {
+        return true;
+    }
+    if edges < m {
+        return true;
+    }
+    bundles < k
+}
+
+// Of a neutral graph: so many vertices, the bytes of its edges' ends, two an edge, the bytes of its given channels and its floors, if there
+// are any of either.
 fn sheet_of_graph<'a>(
     n: usize,
     ends: &'a [u8],
     given: bool,
     field: &'a [u8],
+    floored: bool,
+    floors: &'a [u8],
     vertices: usize,
     edges: usize,
     bundles: usize,
 ) -> Sheet
-    ensures { λ r. ⌜ GraphSheet n (now (ends .entry)) given (now (field .entry)) vertices edges bundles r ⌝ }
+    ensures { λ r. ⌜ GraphSheet n (now (ends .entry)) given (now (field .entry)) floored (now (floors .entry)) vertices edges bundles r ⌝ }
 {
     let mut edge_table = [0; 256];
-    let mut below = [0; 258];
+    let mut below = [0; 512];
     let mut table = [0; 256];
     let mut longer = [0; 256];
     let mut places = [0; 512];
@@ -269,6 +289,8 @@ fn sheet_of_graph<'a>(
         ends,
         given,
         field,
+        floored,
+        floors,
         &mut edge_table,
         &mut below,
         &mut table,
@@ -283,13 +305,7 @@ fn sheet_of_graph<'a>(
         return blank(p.refusal);
     }
     let m = ends.len() / 2;
-    if vertices < n {
-        return blank(8);
-    }
-    if edges < m {
-        return blank(8);
-    }
-    if bundles < p.bundles {
+    if is_short(n, m, p.bundles, vertices, edges, bundles) {
         return blank(8);
     }
     drafted(n, m, p, below, longer, places, spans, number, used, column)
@@ -307,11 +323,15 @@ fn sheet_of_record(bytes: &[u8], vertices: usize, edges: usize, bundles: usize) 
     let to = from + 2 * f.count;
     let start = f.lines;
     let end = start + f.size;
+    let low = f.floors;
+    let high = low + f.extent;
     sheet_of_graph(
         f.vertices,
         &bytes[from..to],
         f.given,
         &bytes[start..end],
+        f.floored,
+        &bytes[low..high],
         vertices,
         edges,
         bundles,
@@ -331,6 +351,29 @@ fn edges_of(bytes: &[u8]) -> &[u8]
     &bytes[from..to]
 }
 
+// The bytes of its floors, none where it has no floors.
+fn floors_of(bytes: &[u8]) -> &[u8]
+    ensures { λ r. ⌜ now r ≡ floorsOf (now (bytes .entry)) ⌝ }
+{
+    let layout = fields::layout_of(bytes);
+    let Layout::Good(f) = layout else {
+        return &bytes[..0];
+    };
+    let from = f.floors;
+    let to = from + f.extent;
+    &bytes[from..to]
+}
+
+// The floors of a neutral graph, none where it has no floors.
+fn floors_if(floored: bool, floors: &[u8]) -> &[u8]
+    ensures { λ r. ⌜ now r ≡ floorsIf floored (now (floors .entry)) ⌝ }
+{
+    if floored {
+        return floors;
+    }
+    &floors[..0]
+}
+
 fn summary(d: Sheet, reduced: u16) -> ChartCounts
     ensures { λ r. ⌜ r ≡ summaryOf d reduced ⌝ }
 {
@@ -348,15 +391,16 @@ fn summary(d: Sheet, reduced: u16) -> ChartCounts
     }
 }
 
-// ---- the lists. The fills have one walk (lists/proofs/Fill.antt), and that of the edges counts too (lists/proofs/Tally.antt).
+// ---- the lists. The fills have one loop (lists/proofs/Filling.antt); those of the vertices and of the edges read a lent part of bytes
+// (proofs/Reading.antt, lists/proofs/Tally.antt).
 
-fn fill_vertices(out: &mut [VertexEntry], d: Sheet, top: usize) -> usize
+fn fill_vertices<'a>(out: &mut [VertexEntry], floors: &'a [u8], d: Sheet, top: usize) -> usize
     requires { ⌜ (top ≤ length (now out)) × (top ≤ 128) ⌝ }
-    ensures { λ r. ⌜ Filled (now (out .entry)) (vertexAt d) top (now (out .exit)) ⌝ }
+    ensures { λ r. ⌜ Filled (now (out .entry)) (vertexAt d (now (floors .entry))) top (now (out .exit)) ⌝ }
 {
     let mut i: usize = 0;
     while i < top {
-        out[i] = vertex_at(d, i);
+        out[i] = vertex_at(floors, d, i);
         i += 1;
     }
     i
@@ -405,14 +449,15 @@ fn fill_bundles(out: &mut [BundleEntry], d: Sheet, top: usize) -> usize
 fn hand_over<'a, 'v, 'e, 'b>(
     d: Sheet,
     ends: &'a [u8],
+    floors: &'a [u8],
     vertices: &'v mut [VertexEntry],
     edges: &'e mut [EdgeEntry],
     bundles: &'b mut [BundleEntry],
 ) -> ChartCounts
     requires { ⌜ Room d (length (now vertices)) (length (now edges)) (length (now bundles)) ⌝ }
-    ensures { λ r. ⌜ Leaves d (now (ends .entry)) (now (vertices .entry)) (now (edges .entry)) (now (bundles .entry)) r (now (vertices .exit)) (now (edges .exit)) (now (bundles .exit)) ⌝ }
+    ensures { λ r. ⌜ Leaves d (now (ends .entry)) (now (floors .entry)) (now (vertices .entry)) (now (edges .entry)) (now (bundles .entry)) r (now (vertices .exit)) (now (edges .exit)) (now (bundles .exit)) ⌝ }
 {
-    fill_vertices(vertices, d, d.vertices);
+    fill_vertices(vertices, floors, d, d.vertices);
     let reduced = fill_edges(edges, ends, d, d.edges);
     fill_bundles(bundles, d, d.bundles);
     summary(d, reduced)
@@ -421,29 +466,34 @@ fn hand_over<'a, 'v, 'e, 'b>(
 // ---- the calls
 
 // The chart of a neutral graph into the three lists: the needed entries of each are written and the others stay; where it is refused all
-// stay. The graph is so many vertices, the bytes of its edges' ends, two an edge, and the bytes of its given channels, if any are given.
-// Refused with 11 where it has more than 31 channels, and then with 8 where a list is too short.
+// stay. The graph is so many vertices, the bytes of its edges' ends, two an edge, the bytes of its given channels and its floors, if there
+// are any of either. Refused with 11 where it has more than 31 channels, and then with 8 where a list is too short.
 pub fn draw<'a, 'v, 'e, 'b>(
     n: usize,
     ends: &'a [u8],
     given: bool,
     field: &'a [u8],
+    floored: bool,
+    floors: &'a [u8],
     vertices: &'v mut [VertexEntry],
     edges: &'e mut [EdgeEntry],
     bundles: &'b mut [BundleEntry],
 ) -> ChartCounts
-    ensures { λ r. ⌜ HandedOver (graphDrawn n (now (ends .entry)) given (now (field .entry))) (now (vertices .entry)) (now (edges .entry)) (now (bundles .entry)) r (now (vertices .exit)) (now (edges .exit)) (now (bundles .exit)) ⌝ }
+    ensures { λ r. ⌜ HandedOver (graphDrawn n (now (ends .entry)) given (now (field .entry)) floored (now (floors .entry))) (now (vertices .entry)) (now (edges .entry)) (now (bundles .entry)) r (now (vertices .exit)) (now (edges .exit)) (now (bundles .exit)) ⌝ }
 {
     let d = sheet_of_graph(
         n,
         ends,
         given,
         field,
+        floored,
+        floors,
         vertices.len(),
         edges.len(),
         bundles.len(),
     );
-    hand_over(d, ends, vertices, edges, bundles)
+    let present = floors_if(floored, floors);
+    hand_over(d, ends, present, vertices, edges, bundles)
 }
 
 // The same of a record.
@@ -457,5 +507,6 @@ pub fn chart_record<'r, 'v, 'e, 'b>(
 {
     let d = sheet_of_record(bytes, vertices.len(), edges.len(), bundles.len());
     let ends = edges_of(bytes);
-    hand_over(d, ends, vertices, edges, bundles)
+    let floors = floors_of(bytes);
+    hand_over(d, ends, floors, vertices, edges, bundles)
 }

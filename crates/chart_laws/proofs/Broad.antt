@@ -6,8 +6,8 @@ use Rattle.specification.specs.Limits.{mostChannels}
 use Rattle.specification.specs.Count.{choose}
 use Rattle.specification.specs.Channels.{channelOf}
 use Rattle.specification.specs.Given.{Whole}
-use Rattle.specification.specs.Checks.{Content, size?, stranger?, double?, ring?, repeated?, unled?, looseChecks, laterChecks, firstOf}
-use Rattle.specification.specs.Checks.{refusalOf, givenOf, Leads, Sound}
+use Rattle.specification.specs.Checks.{Content, size?, floor?, stranger?, double?, ring?, repeated?, unled?, looseChecks, laterChecks}
+use Rattle.specification.specs.Checks.{firstOf, refusalOf, givenOf, Leads, Sound}
 use Rattle.specification.specs.Chart.{leads?, channelsOf}
 use Rattle.specification.specs.Drawn.{broad?, chartChecks, chartRefusal}
 use Rattle.specification.specs.Lawful.{Divided}
@@ -63,11 +63,12 @@ module _ (c : Content) where
   unfolding chartRefusal refusalOf looseChecks laterChecks chartChecks firstOf
   chart-judged =
       next (size? c) 2 _ _ _ (omega arith) (
+      next (floor? c) 12 _ _ _ (omega arith) (
       next (stranger? c) 3 _ _ _ (omega arith) (
       next (double? c) 4 _ _ _ (omega arith) (
       next (ring? c) 5 _ _ _ (omega arith) (
       next (repeated? c) 6 _ _ _ (omega arith) (
-      next (unled? c) 7 0 _ _ (omega arith) refl)))))
+      next (unled? c) 7 0 _ _ (omega arith) refl))))))
 
   pub chart-refused : (refusalOf c ≡ 0 → ⊥) → chartRefusal c ≡ refusalOf c
   chart-refused ne = chart-judged ∙ rw (ne-eqb _ _ ne) refl

@@ -13,7 +13,7 @@ use Rattle.specification.specs.Chart.{edgeEntry, bundleEntry, polylineOf, OnPag
 use Rattle.specification.specs.declared.Course.the-variants as course
 use Rattle.specification.specs.Limits.{pageColumns, pageRows}
 use Rattle.geometry.proofs.Crossing.{course-within}
-use Rattle.chart_laws.proofs.Rows.{row-128}
+use Rattle.chart_laws.proofs.Rows.{row-paged}
 use Rattle.chart_laws.proofs.Columns.{column-below}
 use Rattle.chart_laws.proofs.EdgeKinds.{kind-path, kind-side, kind-cross}
 
@@ -40,21 +40,21 @@ module _ (c : Content) (s : Sound c) where
 
     path-paged : Paged u v Path
     unfolding polylineOf vertexEntry
-    path-paged = more left (row-128 c s u hu) (more right (row-128 c s v hv) none)
+    path-paged = more left (row-paged c s u hu) (more right (row-paged c s v hv) none)
 
     side-paged : (b : ℕ) → Paged u v (PathTransitive b)
     unfolding polylineOf vertexEntry
     side-paged b =
         let x : trackAt (columnIn p u) gapWidth (bundleEntry p b .track) < pageColumns = omega (arith, left) in
-        more left (row-128 c s u hu) (more x (row-128 c s u hu) (more x (row-128 c s v hv) (more right (row-128 c s v hv) none)))
+        more left (row-paged c s u hu) (more x (row-paged c s u hu) (more x (row-paged c s v hv) (more right (row-paged c s v hv) none)))
 
     cross-paged : (r : Course) → courseOf (placeOf c p) n u v ≡ r → Paged u v (crossing r)
     unfolding polylineOf vertexEntry
-    cross-paged course.Straight e = more left (row-128 c s u hu) (more right (row-128 c s v hv) none)
+    cross-paged course.Straight e = more left (row-paged c s u hu) (more right (row-paged c s v hv) none)
     cross-paged (course.Bent x y) e =
         let w = course-within (placeOf c p) n u v pageColumns x y left right e in
-        let low : y < pageRows = omega (arith, w .1, row-128 c s v hv) in
-        more left (row-128 c s u hu) (more (w .0) low (more right (row-128 c s v hv) none))
+        let low : y < pageRows = omega (arith, w .1, row-paged c s v hv) in
+        more left (row-paged c s u hu) (more (w .0) low (more right (row-paged c s v hv) none))
 
     between-paged : Paged u v (kindBetween c p u v)
     between-paged = ⊎-elim

@@ -1,11 +1,12 @@
--- The rows of a sound graph: they rise along every edge, are fewer than the
--- vertices, and no other rows that rise are lower. Assumes nothing.
-use Rattle.counting.proofs.Prelude.{_≡_, refl, ap, Bool, true, ℕ, _≤_, _<_, arith}
+-- The rows of a sound graph: they keep the floors, rise along every edge and stand on the page, and no other rows that keep the floors and
+-- rise are lower. Assumes nothing.
+use Rattle.counting.proofs.Prelude.{_≡_, refl, ap, Bool, true, false, ℕ, _≤_, _<_, max, arith}
 use Rattle.specification.specs.Count.{above}
 use Rattle.specification.specs.Graph.{Edge, edge?}
 use Rattle.specification.specs.Graph.Reaches.{one, more}
-use Rattle.specification.specs.Checks.{Content, edgesOf, Leads, Sound}
-use Rattle.specification.specs.Chart.{leads?, tailOf, headOf, rowOf, rowCount}
+use Rattle.specification.specs.Checks.{Content, edgesOf, floorAt, Leads, Sound}
+use Rattle.specification.specs.Limits.{mostFloor, pageRows}
+use Rattle.specification.specs.Chart.{leads?, tailOf, headOf, floorOf, rowOf, rowCount}
 use Rattle.reach.proofs.Decide.{edge-decided}
 use Rattle.counting.proofs.Above.{above-each, above-le}
 use Rattle.rows.proofs.Compaction.{Order, used-least, rows-below, rows-rule}
@@ -28,17 +29,26 @@ module _ (c : Content) (s : Sound c) where
     irrefl = leads-order c s .irrefl;
   }
 
-  -- the rule (SPECIFICATION.md, 4.1): 0 where no edge enters, else one more than the highest row of the tails
-  pub row-rule : (v : ℕ) → v < n → rowOf c v ≡ above n (λ u. E u v) (rowOf c)
+  -- the rule (SPECIFICATION.md, 4.1): the greater of the floor and one more than the highest row of the tails, 0 where no edge enters
+  pub row-rule : (v : ℕ) → v < n → rowOf c v ≡ max (floorOf c v) (above n (λ u. E u v) (rowOf c))
   unfolding rowOf
-  row-rule v h = rows-rule E (leads? c) n edges-order small v h
+  row-rule v h = rows-rule E (leads? c) n edges-order (floorOf c) small v h
 
-  pub row-below : (v : ℕ) → v < n → rowOf c v < n
+  pub floor-low : (v : ℕ) → floorOf c v ≤ mostFloor
+  unfolding floorOf
+  floor-low v = go (c .floored) refl
+    where
+      go : (b : Bool) → c .floored ≡ b → floorAt b (c .floors) v ≤ mostFloor
+      go true e = s .floors e .1 v
+      go false e = omega arith
+
+  pub floor-kept : (v : ℕ) → v < n → floorOf c v ≤ rowOf c v
+  floor-kept v h = omega (arith, row-rule v h)
+
+  -- the longest path may begin at the highest floor
+  pub row-paged : (v : ℕ) → v < n → rowOf c v < pageRows
   unfolding rowOf
-  row-below v h = rows-below E (leads? c) n edges-order small v h
-
-  pub row-128 : (v : ℕ) → v < n → rowOf c v < 128
-  row-128 v h = omega (arith, row-below v h, small)
+  row-paged v h = omega (arith, rows-below E (leads? c) n edges-order (floorOf c) mostFloor (λ x _. floor-low x) v h, small)
 
   -- ---- rows rise
 
@@ -64,8 +74,8 @@ module _ (c : Content) (s : Sound c) where
   unfolding rowOf rowCount
   row-count = refl
 
-  pub rows-few : rowCount c ≤ n
-  rows-few = omega (arith, row-count, above-le n (λ v. true) (rowOf c) n (λ v l e. row-below v l))
+  pub rows-few : rowCount c ≤ pageRows
+  rows-few = omega (arith, row-count, above-le n (λ v. true) (rowOf c) pageRows (λ v l e. row-paged v l))
 
   -- each row is one of them
   pub row-counted : (v : ℕ) → v < n → rowOf c v < rowCount c
@@ -73,7 +83,8 @@ module _ (c : Content) (s : Sound c) where
 
   -- ---- the lowest, and the fewest
 
-  module _ (other : ℕ → ℕ) (rise : (i : ℕ) → i < edgesOf c → other (tailOf c i) < other (headOf c i)) where
+  module _ (other : ℕ → ℕ) (keep : (v : ℕ) → v < n → floorOf c v ≤ other v)
+      (rise : (i : ℕ) → i < edgesOf c → other (tailOf c i) < other (headOf c i)) where
     along : (u v : ℕ) → u < n → v < n → E u v ≡ true → other u < other v
     unfolding Edge
     along u v hu hv e =
@@ -82,4 +93,4 @@ module _ (c : Content) (s : Sound c) where
 
     pub rows-fewest : rowCount c ≤ above n (λ v. true) other
     unfolding rowCount
-    rows-fewest = used-least E n other along
+    rows-fewest = used-least E (floorOf c) n other keep along

@@ -6,7 +6,7 @@ use Rattle.lists.proofs.Written.{refilled}
 use Rattle.reach.proofs.Ends.{tail-at, head-at}
 use Rattle.specification.specs.Checks.{Content, edgesOf}
 use Rattle.specification.specs.Chart.{planOf, transitiveEdge?, vertexEntry, edgeEntry, bundleEntry, tailOf, headOf}
-use Rattle.specification.specs.Chart.{kindBetween}
+use Rattle.specification.specs.Chart.{floorOf, kindBetween}
 use Rattle.specification.specs.declared.VertexEntry.{VertexEntry}
 use Rattle.specification.specs.declared.BundleEntry.{BundleEntry}
 use Rattle.specification.specs.Drawn.{graphContent}
@@ -38,16 +38,16 @@ countsOf n m firm p = record {
   width = p .width;
 }
 
-module _ (n : ℕ) (ends : List ℕ) (given : Bool) (field : List ℕ) (p : Plan) (t : Lists)
-    (l : Laid (graphContent n ends given field) p t) where
+module _ (n : ℕ) (ends : List ℕ) (given : Bool) (field : List ℕ) (floored : Bool) (floors : List ℕ) (p : Plan) (t : Lists)
+    (l : Laid (graphContent n ends given field floored floors) p t) where
   abbrev c : Content
-  c = graphContent n ends given field
+  c = graphContent n ends given field floored floors
 
   abbrev m : ℕ
   m = length ends / 2
 
   counted : edgesOf c ≡ m
-  counted = edges-counted n ends given field
+  counted = edges-counted n ends given field floored floors
 
   few : n ≤ 128
   unfolding graphContent
@@ -59,7 +59,7 @@ module _ (n : ℕ) (ends : List ℕ) (given : Bool) (field : List ℕ) (p : Plan
   unfolding graphContent
   words-fit =
       let f = few in
-      (f, omega (arith, l .room .masks .places), omega (arith, l .room .column))
+      (f, omega (arith, l .room .masks .masks .places), omega (arith, l .room .column))
 
   pub bundles-fit : (p .bundles ≤ 256) × (p .bundles * 4 ≤ length (t .spans))
   unfolding graphContent
@@ -68,8 +68,8 @@ module _ (n : ℕ) (ends : List ℕ) (given : Bool) (field : List ℕ) (p : Plan
       let b = bundles-few c p t l in
       (omega arith, omega (arith, l .room .spans))
 
-  word-same : (v : ℕ) → v < n → wordFrom (t .places) (t .column) v ≡ vertexEntry c (planOf c) v
-  unfolding wordFrom graphContent
+  word-same : (v : ℕ) → v < n → wordFrom (t .places) (t .column) floored floors v ≡ vertexEntry c (planOf c) v
+  unfolding wordFrom floorOf graphContent
   word-same v h = vertex-drawn c p t l v h
 
   bundle-same : (b : ℕ) → bundleFrom (t .spans) b ≡ bundleEntry (planOf c) b
@@ -111,8 +111,8 @@ module _ (n : ℕ) (ends : List ℕ) (given : Bool) (field : List ℕ) (p : Plan
           few = omega (arith, arrows-few);
           ends = omega arith;
           low = (omega arith, omega arith);
-          longer = (omega (arith, r .masks .longer), omega (arith, r .masks .longer));
-          places = (omega (arith, r .masks .places), omega (arith, r .masks .places));
+          longer = (omega (arith, r .masks .masks .longer), omega (arith, r .masks .masks .longer));
+          places = (omega (arith, r .masks .masks .places), omega (arith, r .masks .masks .places));
           number = (omega (arith, r .number), omega (arith, r .number));
         }
 
@@ -121,7 +121,7 @@ module _ (n : ℕ) (ends : List ℕ) (given : Bool) (field : List ℕ) (p : Plan
     mark-same e h =
         ap₂ (transitiveIn? (t .longer)) (tail-same e) (head-same e) ∙ mark-drawn c p t l e (omega (arith, counted))
 
-    -- `left` is made of the channels by `prefixes::prefixes`
+    -- `left` is made of the channels by `prefixes::by_channel`
     module _ (size : ℕ) (room : 2 * min n 128 + 2 ≤ size) (lefts : LeftFor n (p .channels) (t .places) size left) where
       kind-same : (e : ℕ) → e < m → kindAt here e ≡ kindBetween c (planOf c) (tailOf c e) (headOf c e)
       unfolding kindAt graphContent
@@ -143,7 +143,7 @@ module _ (n : ℕ) (ends : List ℕ) (given : Bool) (field : List ℕ) (p : Plan
 
       -- THE HAND-OVER: the counts are the chart's, the lists have its entries, and every number past them is as it was
       pub charted : (ws es bs ws′ es′ bs′ : List ℕ) (x : ℕ) → length (t .used) ≡ 128
-          → Filled ws (words (wordFrom (t .places) (t .column))) (n * 5) ws′
+          → Filled ws (words (wordFrom (t .places) (t .column) floored floors)) (n * 6) ws′
           → Marking asNumbers c (planOf c) es es′ x → Filled bs (bundles (bundleFrom (t .spans))) (p .bundles * 4) bs′
           → Numbered c (planOf c) ws es bs (whole (countsOf n m x p) (t .used)) ws′ es′ bs′
       unfolding graphContent
@@ -159,7 +159,7 @@ module _ (n : ℕ) (ends : List ℕ) (given : Bool) (field : List ℕ) (p : Plan
           side-columns = λ i h. l .used i (omega (arith, long));
           long = long;
         };
-        word-list = refilled _ _ _ _ _ _ refl (λ k b. ap (λ (e : VertexEntry). wordNumber e (k % 5)) (word-same (k / 5) (omega arith))) hw;
+        word-list = refilled _ _ _ _ _ _ refl (λ k b. ap (λ (e : VertexEntry). wordNumber e (k % 6)) (word-same (k / 6) (omega arith))) hw;
         arrow-list = marked-filled asNumbers c (planOf c) es es′ x he;
         bundle-list = refilled _ _ _ _ _ _ (ap (λ (k : ℕ). k * 4) (l .bundles .counted))
             (λ k b. ap (λ (e : BundleEntry). bundleNumber e (k % 4)) (bundle-same (k / 4))) hb;

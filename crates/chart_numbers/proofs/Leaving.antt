@@ -51,14 +51,14 @@ module _ (ws es bs : List ℕ) where
 
   -- what is refused already is never short
   pub refused-left : (d : Drawn) (k : ℕ) (r : Counts) (used : List ℕ) → d ≡ refusedBy k → r ≡ noCounts k → used ≡ replicate 128 0
-      → Left (lent (length ws / 5) (length es / 5) (length bs / 4) d) ws es bs (whole r used) ws es bs
+      → Left (lent (length ws / 6) (length es / 5) (length bs / 4) d) ws es bs (whole r used) ws es bs
   refused-left d k r used e h z =
-      rw e (rw (lent-whole (length ws / 5) (length es / 5) (length bs / 4) (refusedBy k)
+      rw e (rw (lent-whole (length ws / 6) (length es / 5) (length bs / 4) (refusedBy k)
       (enough _ _ _ (refusedBy k) (omega arith) (omega (arith, empty .edges)) (omega (arith, empty .bundles))))
       (nothing-left k r used h z))
 
-  short-left : (d : Drawn) (r : Counts) (used : List ℕ) → short? (length ws / 5) (length es / 5) (length bs / 4) d ≡ true → r ≡ noCounts 8
-      → used ≡ replicate 128 0 → Left (lent (length ws / 5) (length es / 5) (length bs / 4) d) ws es bs (whole r used) ws es bs
+  short-left : (d : Drawn) (r : Counts) (used : List ℕ) → short? (length ws / 6) (length es / 5) (length bs / 4) d ≡ true → r ≡ noCounts 8
+      → used ≡ replicate 128 0 → Left (lent (length ws / 6) (length es / 5) (length bs / 4) d) ws es bs (whole r used) ws es bs
   short-left d r used s h z = rw (lent-short _ _ _ d s) (nothing-left 8 r used h z)
 
 -- ---- one or the other, by the number k that the call tells
@@ -100,28 +100,28 @@ module _ (refusal n m b words arrows bundles k : ℕ) (e : k ≡ roomRefusal ref
           let w = or-neither (ltb arrows m) (ltb bundles b) (v .1) in
           (accepted, ltb-false words n (v .0), ltb-false arrows m (w .0), ltb-false bundles b (w .1))
 
-module _ (n : ℕ) (ends : List ℕ) (given : Bool) (field : List ℕ) (p : Plan) (t : Lists)
-    (answer : p .refusal ≡ chartRefusal (graphContent n ends given field))
-    (laid : p .refusal ≡ 0 → Laid (graphContent n ends given field) p t) (ws es bs : List ℕ) (k : ℕ)
-    (told : k ≡ roomRefusal (p .refusal) n (length ends / 2) (p .bundles) (length ws / 5) (length es / 5) (length bs / 4)) where
+module _ (n : ℕ) (ends : List ℕ) (given : Bool) (field : List ℕ) (floored : Bool) (floors : List ℕ) (p : Plan) (t : Lists)
+    (answer : p .refusal ≡ chartRefusal (graphContent n ends given field floored floors))
+    (laid : p .refusal ≡ 0 → Laid (graphContent n ends given field floored floors) p t) (ws es bs : List ℕ) (k : ℕ)
+    (told : k ≡ roomRefusal (p .refusal) n (length ends / 2) (p .bundles) (length ws / 6) (length es / 5) (length bs / 4)) where
   abbrev c : Content
-  c = graphContent n ends given field
+  c = graphContent n ends given field floored floors
 
   abbrev drawn : Drawn
-  drawn = graphDrawn n ends given field
+  drawn = graphDrawn n ends given field floored floors
 
   abbrev into : Drawn
-  into = lent (length ws / 5) (length es / 5) (length bs / 4) drawn
+  into = lent (length ws / 6) (length es / 5) (length bs / 4) drawn
 
   -- of what is accepted the graph is the drawn one, and the counts that are compared are the chart's
   module _ (z : p .refusal ≡ 0) where
     accepted-whole : drawn ≡ record { refusal = 0; graph = c }
-    accepted-whole = graph-whole n ends given field (sym z ∙ answer)
+    accepted-whole = graph-whole n ends given field floored floors (sym z ∙ answer)
 
     sizes : (drawn .graph .vertices ≡ n) × (edgesOf (drawn .graph) ≡ length ends / 2)
         × (length (planOf (drawn .graph) .bundles) ≡ p .bundles)
     unfolding graphContent
-    sizes = rw accepted-whole (refl, edges-counted n ends given field, sym (laid z .bundles .counted))
+    sizes = rw accepted-whole (refl, edges-counted n ends given field floored floors, sym (laid z .bundles .counted))
 
     -- a list that lacks room is short
     short-same : (v e b : ℕ) → short? v e b drawn ≡ (ltb v n || (ltb e (length ends / 2) || ltb b (p .bundles)))
@@ -137,7 +137,7 @@ module _ (n : ℕ) (ends : List ℕ) (given : Bool) (field : List ℕ) (p : Plan
     where
       go : Dec (p .refusal ≡ 0) → Left into ws es bs (whole r used) ws es bs
       go (no d) =
-          refused-left ws es bs drawn (p .refusal) r used (graph-refused n ends given field (p .refusal) answer d)
+          refused-left ws es bs drawn (p .refusal) r used (graph-refused n ends given field floored floors (p .refusal) answer d)
           (h ∙ ap noCounts (told-refused _ _ _ _ _ _ _ _ told d)) cleared
       go (yes z) =
           let short = told-short _ _ _ _ _ _ _ _ told z ne in
@@ -149,8 +149,8 @@ module _ (n : ℕ) (ends : List ℕ) (given : Bool) (field : List ℕ) (p : Plan
       let f = told-whole _ _ _ _ _ _ _ _ told z in
       let a = sizes (f .0) in
       rw (
-        lent-whole (length ws / 5) (length es / 5) (length bs / 4) drawn
-            (enough (length ws / 5) (length es / 5) (length bs / 4) drawn (omega arith) (omega arith) (omega arith)),
+        lent-whole (length ws / 6) (length es / 5) (length bs / 4) drawn
+            (enough (length ws / 6) (length es / 5) (length bs / 4) drawn (omega arith) (omega arith) (omega arith)),
         accepted-whole (f .0),
       )
       (record { refusal = accepted; numbered = h })
@@ -158,11 +158,13 @@ module _ (n : ℕ) (ends : List ℕ) (given : Bool) (field : List ℕ) (p : Plan
 -- ---- a record is read part by part
 
 pub record-left : (b : List ℕ) (f : Fields) → layoutOf b ≡ Good f → (ws es bs ws′ es′ bs′ : List ℕ) (r : ChartCounts)
-    → Left (lent (length ws / 5) (length es / 5) (length bs / 4)
+    → Left (lent (length ws / 6) (length es / 5) (length bs / 4)
     (graphDrawn (f .vertices) (take ((f .edges + 2 * f .count) - f .edges) (drop (f .edges) b)) (f .given)
-    (take ((f .lines + f .size) - f .lines) (drop (f .lines) b)))) ws es bs r ws′ es′ bs′
+    (take ((f .lines + f .size) - f .lines) (drop (f .lines) b)) (f .floored)
+    (take ((f .floors + f .extent) - f .floors) (drop (f .floors) b)))) ws es bs r ws′ es′ bs′
     → HandedFlat b ws es bs r ws′ es′ bs′
 record-left b f e ws es bs ws′ es′ bs′ r h =
     let i : (f .edges + 2 * f .count) - f .edges ≡ 2 * f .count = omega arith in
     let j : (f .lines + f .size) - f .lines ≡ f .size = omega arith in
-    rw (record-good b f e) (rw (i, j) at h)
+    let k : (f .floors + f .extent) - f .floors ≡ f .extent = omega arith in
+    rw (record-good b f e) (rw (i, j, k) at h)

@@ -5,6 +5,7 @@ use native.Mathlib.Nat.{add-zero}
 use Rattle.specification.specs.Count.{indicator}
 use Rattle.counting.proofs.Truth.{indicator-le}
 use Rattle.counting.specs.Quads.{quad}
+use Rattle.specification.specs.Checks.{floorAt}
 use Rattle.specification.specs.Numbers.{codeOf, wordNumber, arrowNumber, bundleNumber, bundles}
 use Rattle.specification.specs.Pass.{asNumbers, stored, state, next}
 use Rattle.reduction.specs.Reduction.{transitiveIn?}
@@ -12,12 +13,17 @@ use Rattle.kinds.specs.Kinds.{kindAmong}
 use Rattle.specification.specs.declared.Code.{Code}
 use Rattle.chart_numbers.specs.Steps.Numbers.{Given, tailAt, headAt, kindAt, arrowFrom, wordFrom, bundleFrom}
 
--- ---- five numbers, and the count of a mark
+-- ---- five or six numbers, and the count of a mark
 
 five : (n : ℕ → ℕ) (i a b c d e : ℕ) (l : List ℕ) → a ≡ n 0 → b ≡ n 1 → c ≡ n 2 → d ≡ n 3 → e ≡ n 4
     → set (set (set (set (set l i a) (i + 1) b) (i + 2) c) (i + 3) d) (i + 4) e ≡ stored n i 5 l
 unfolding stored
 five n i a b c d e l ea eb ec ed ee = rw (ea, eb, ec, ed, ee, add-zero)
+
+six : (n : ℕ → ℕ) (i a b c d e f : ℕ) (l : List ℕ) → a ≡ n 0 → b ≡ n 1 → c ≡ n 2 → d ≡ n 3 → e ≡ n 4 → f ≡ n 5
+    → set (set (set (set (set (set l i a) (i + 1) b) (i + 2) c) (i + 3) d) (i + 4) e) (i + 5) f ≡ stored n i 6 l
+unfolding stored
+six n i a b c d e f l ea eb ec ed ee ef = rw (ea, eb, ec, ed, ee, ef, add-zero)
 
 -- 1 less a mark counts what has none
 unmarked : (b : Bool) (x : ℕ) → x ≡ indicator b → 1 - x ≡ indicator (not b)
@@ -29,12 +35,13 @@ mark-low longer u v x e = omega (arith, e, indicator-le (transitiveIn? longer u 
 
 -- ---- a vertex and a bundle
 
-pub word-stored : (places column : List ℕ) (v : ℕ) (l : List ℕ)
-    → set (set (set (set (set l (v * 5) (quad 0 places v)) (v * 5 + 1) (quad 1 places v)) (v * 5 + 2) (getD column v 0)) (v * 5 + 3)
-    (quad 2 places v)) (v * 5 + 4) (quad 3 places v)
-    ≡ stored (wordNumber (wordFrom places column v)) (v * 5) 5 l
+pub word-stored : (places column : List ℕ) (floored : Bool) (floors : List ℕ) (v x : ℕ) (l : List ℕ) → x ≡ floorAt floored floors v
+    → set (set (set (set (set (set l (v * 6) (quad 0 places v)) (v * 6 + 1) (quad 1 places v)) (v * 6 + 2) (getD column v 0)) (v * 6 + 3)
+    (quad 2 places v)) (v * 6 + 4) (quad 3 places v)) (v * 6 + 5) x
+    ≡ stored (wordNumber (wordFrom places column floored floors v)) (v * 6) 6 l
 unfolding wordNumber wordFrom
-word-stored places column v l = five (wordNumber (wordFrom places column v)) (v * 5) _ _ _ _ _ l refl refl refl refl refl
+word-stored places column floored floors v x l e =
+    six (wordNumber (wordFrom places column floored floors v)) (v * 6) _ _ _ _ _ _ l refl refl refl refl refl e
 
 entry-at : (spans : List ℕ) (b f : ℕ) → f < 4 → getD spans (4 * b + f) 0 ≡ bundleNumber (bundleFrom spans b) f
 unfolding bundleNumber bundleFrom

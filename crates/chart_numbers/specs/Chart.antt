@@ -9,14 +9,14 @@ use Rattle.specification.specs.Chart.{Plan, planOf, vertexEntry, edgeEntry, bun
 use Rattle.specification.specs.Drawn.{Drawn, recordDrawn, lent, Summary}
 use Rattle.specification.specs.Lent.{Filled}
 use Rattle.specification.specs.declared.ChartCounts.{ChartCounts}
-use Rattle.specification.specs.Numbers.{words, arrows, bundles}
+use Rattle.specification.specs.Numbers.{wordNumbers, arrowNumbers, bundleNumbers, words, arrows, bundles}
 
 -- every count of the chart of c, and its entries in the lists: r is the answer, ws′, es′ and bs′ are the lists ws, es and bs afterwards
 pub record Numbered (c : Content) (p : Plan) (ws es bs : List ℕ) (r : ChartCounts) (ws′ es′ bs′ : List ℕ) : Type 0 where
   pub summary : Summary c p r
-  pub word-list : Filled ws (words (vertexEntry c p)) (c .vertices * 5) ws′
-  pub arrow-list : Filled es (arrows (edgeEntry c p)) (edgesOf c * 5) es′
-  pub bundle-list : Filled bs (bundles (bundleEntry p)) (length (p .bundles) * 4) bs′
+  pub word-list : Filled ws (words (vertexEntry c p)) (c .vertices * wordNumbers) ws′
+  pub arrow-list : Filled es (arrows (edgeEntry c p)) (edgesOf c * arrowNumbers) es′
+  pub bundle-list : Filled bs (bundles (bundleEntry p)) (length (p .bundles) * bundleNumbers) bs′
 
 pub record Left (d : Drawn) (ws es bs : List ℕ) (r : ChartCounts) (ws′ es′ bs′ : List ℕ) : Type 0 where
   pub refusal : r .refusal ≡ d .refusal
@@ -24,4 +24,5 @@ pub record Left (d : Drawn) (ws es bs : List ℕ) (r : ChartCounts) (ws′ es′
 
 -- the record's chart, or why it is refused (`recordDrawn`): 8 where a list has room for fewer entries (`lent`)
 abbrev pub HandedFlat : List ℕ → List ℕ → List ℕ → List ℕ → ChartCounts → List ℕ → List ℕ → List ℕ → Type 0
-HandedFlat b ws es bs = Left (lent (length ws / 5) (length es / 5) (length bs / 4) (recordDrawn b)) ws es bs
+HandedFlat b ws es bs =
+    Left (lent (length ws / wordNumbers) (length es / arrowNumbers) (length bs / bundleNumbers) (recordDrawn b)) ws es bs

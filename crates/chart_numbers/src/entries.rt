@@ -4,6 +4,7 @@ ghost use Prim.Native.Nat.{ℕ, _+_, _*_, _/_, _≤_, _<_};
 ghost use lib.ListN.{length, getD, set};
 ghost use Rattle.specification.specs.Count.{indicator};
 ghost use Rattle.counting.specs.Quads.{quad};
+ghost use Rattle.specification.specs.Checks.{floorAt};
 ghost use Rattle.specification.specs.Numbers.{codeOf};
 ghost use Rattle.reduction.specs.Reduction.{transitiveIn?};
 ghost use Rattle.kinds.specs.Kinds.{kindAmong};
@@ -15,7 +16,7 @@ use crate::wide;
 use specification::Code;
 
 // How many numbers an entry has.
-pub(crate) const WORD_NUMBERS: usize = 5;
+pub(crate) const WORD_NUMBERS: usize = 6;
 
 pub(crate) const ARROW_NUMBERS: usize = 5;
 
@@ -32,6 +33,14 @@ fn put_five(out: &mut [u16], i: usize, a: u16, b: u16, c: u16, d: u16, e: u16)
     out[i + 2] = c;
     out[i + 3] = d;
     out[i + 4] = e;
+}
+
+fn put_six(out: &mut [u16], i: usize, a: u16, b: u16, c: u16, d: u16, e: u16, f: u16)
+    requires { ⌜ i + 6 ≤ length (now out) ⌝ }
+    ensures { λ _. ⌜ now (out .exit) ≡ set (set (set (set (set (set (now (out .entry)) i a) (i + 1) b) (i + 2) c) (i + 3) d) (i + 4) e) (i + 5) f ⌝ }
+{
+    put_five(out, i, a, b, c, d, e);
+    out[i + 5] = f;
 }
 
 // ---- edges
@@ -143,12 +152,32 @@ pub(crate) fn put_arrows<'e, 'l, 'a>(
 
 // ---- vertices and bundles
 
-pub(crate) fn put_words<'p, 'c>(out: &mut [u16], places: &'p [u8], column: &'c [u16], n: usize)
-    requires { ⌜ (n * 5 ≤ length (now out)) × (n ≤ 128) × (4 * n ≤ length (now places)) × (n ≤ length (now column)) ⌝ }
-    ensures { λ _. ⌜ Filled (now (out .entry)) (words (wordFrom (now (places .entry)) (now (column .entry)))) (n * 5) (now (out .exit)) ⌝ }
+// The floor of vertex v: 0 where there are none.
+fn floor_at(floored: bool, floors: &[u8], v: usize) -> u16
+    ensures { λ r. ⌜ r ≡ floorAt floored (now (floors .entry)) v ⌝ }
+{
+    if !floored {
+        return 0;
+    }
+    if v < floors.len() {
+        return floors[v] as u16;
+    }
+    0
+}
+
+pub(crate) fn put_words<'p, 'c, 'f>(
+    out: &mut [u16],
+    places: &'p [u8],
+    column: &'c [u16],
+    floored: bool,
+    floors: &'f [u8],
+    n: usize,
+)
+    requires { ⌜ (n * 6 ≤ length (now out)) × (n ≤ 128) × (4 * n ≤ length (now places)) × (n ≤ length (now column)) ⌝ }
+    ensures { λ _. ⌜ Filled (now (out .entry)) (words (wordFrom (now (places .entry)) (now (column .entry)) floored (now (floors .entry)))) (n * 6) (now (out .exit)) ⌝ }
 {
     for v in 0..n {
-        put_five(
+        put_six(
             out,
             v * WORD_NUMBERS,
             places[4 * v] as u16,
@@ -156,6 +185,7 @@ pub(crate) fn put_words<'p, 'c>(out: &mut [u16], places: &'p [u8], column: &'c [
             column[v],
             places[4 * v + 2] as u16,
             places[4 * v + 3] as u16,
+            floor_at(floored, floors, v),
         );
     }
 }

@@ -25,7 +25,7 @@ fn refusal_of(
     arrows: usize,
     bundles: usize,
 ) -> u8
-    ensures { λ r. ⌜ r ≡ roomRefusal refusal n m count (words / 5) (arrows / 5) (bundles / 4) ⌝ }
+    ensures { λ r. ⌜ r ≡ roomRefusal refusal n m count (words / 6) (arrows / 5) (bundles / 4) ⌝ }
 {
     if refusal != 0 {
         return refusal;
@@ -47,7 +47,7 @@ fn make_left(places: &[u8], n: usize, count: usize, left: &mut [u64])
     ensures { λ _. ⌜ LeftFor n count (now (places .entry)) (length (now (left .entry))) (now (left .exit)) × (length (now (left .exit)) ≡ length (now (left .entry))) ⌝ }
 {
     if 2 < count {
-        prefixes::prefixes(places, n, count, left);
+        prefixes::by_channel(places, n, count, left);
     }
 }
 
@@ -62,11 +62,13 @@ fn clear(used: &mut [u16])
 
 // The chart of a graph of n vertices into three lists, from what is planned, or its refusal, with no side column left in `used`. What
 // `left` has is lost.
-pub(crate) fn hand_over<'e, 'l, 'b, 's, 'u>(
+pub(crate) fn hand_over<'e, 'f, 'l, 'b, 's, 'u>(
     words: &mut [u16],
     arrows: &mut [u16],
     bundles: &mut [u16],
     ends: &'e [u8],
+    floored: bool,
+    floors: &'f [u8],
     longer: &'l [u64],
     below: &'b [u64],
     left: &'b mut [u64],
@@ -78,8 +80,8 @@ pub(crate) fn hand_over<'e, 'l, 'b, 's, 'u>(
     n: usize,
     p: Plan,
 ) -> Counts
-    requires { ⌜ Lends n (now ends) p (now below) (now longer) (now places) (now spans) (now number) (now used) (now column) (length (now left)) ⌝ }
-    ensures { λ r. ⌜ Hands n (now (ends .entry)) p (now (below .entry)) (now (longer .entry)) (now (places .entry)) (now (spans .entry)) (now (number .entry)) (now (used .entry)) (now (column .entry)) (now (words .entry)) (now (arrows .entry)) (now (bundles .entry)) (whole r (now (used .exit))) (now (words .exit)) (now (arrows .exit)) (now (bundles .exit)) ⌝ }
+    requires { ⌜ Lends n (now ends) floored (now floors) p (now below) (now longer) (now places) (now spans) (now number) (now used) (now column) (length (now left)) ⌝ }
+    ensures { λ r. ⌜ Hands n (now (ends .entry)) floored (now (floors .entry)) p (now (below .entry)) (now (longer .entry)) (now (places .entry)) (now (spans .entry)) (now (number .entry)) (now (used .entry)) (now (column .entry)) (now (words .entry)) (now (arrows .entry)) (now (bundles .entry)) (whole r (now (used .exit))) (now (words .exit)) (now (arrows .exit)) (now (bundles .exit)) ⌝ }
 {
     let m = ends.len() / 2;
     let b = p.bundles;
@@ -90,7 +92,7 @@ pub(crate) fn hand_over<'e, 'l, 'b, 's, 'u>(
         return refused(k);
     }
     make_left(places, n, wide(p.channels), left);
-    put_words(words, places, column, n);
+    put_words(words, places, column, floored, floors, n);
     let firm = put_arrows(
         arrows,
         ends,

@@ -5,7 +5,9 @@ ghost use lib.ListN.{length, replicate};
 ghost use Rattle.specification.specs.Drawn.{graphDrawn, lent};
 ghost use Rattle.chart_plan.specs.Laid.{lists, Roomy};
 ghost use Rattle.chart_numbers.specs.Chart.{Left, HandedFlat};
-ghost use Rattle.chart_numbers.specs.Steps.Hand.{noCounts, whole};
+ghost use Rattle.chart_numbers.specs.Steps.Hand.{noCounts, whole, RowRoom};
+ghost use Rattle.specification.specs.Numbers.{wordNumbers, arrowNumbers, bundleNumbers};
+ghost use mathlib.Core.Bool.{false};
 use hand::hand_over;
 use specification::ChartCounts;
 use specification::Layout;
@@ -52,11 +54,13 @@ pub(crate) fn refused(refusal: u8) -> Counts
 }
 
 // The chart of a neutral graph into three lists and its side columns into `used`, by work lists that have room for its vertices.
-fn drawn<'g, 'f, 'e, 'b, 't, 'l, 'p, 's, 'n, 'c, 'u>(
+fn drawn<'g, 'f, 'h, 'e, 'b, 't, 'l, 'p, 's, 'n, 'c, 'u>(
     n: usize,
     ends: &'g [u8],
     given: bool,
     field: &'f [u8],
+    floored: bool,
+    floors: &'h [u8],
     words: &mut [u16],
     arrows: &mut [u16],
     bundles: &mut [u16],
@@ -70,14 +74,16 @@ fn drawn<'g, 'f, 'e, 'b, 't, 'l, 'p, 's, 'n, 'c, 'u>(
     column: &'c mut [u16],
     used: &'u mut [u16],
 ) -> Counts
-    requires { ⌜ Roomy n (lists (now edges) (now below) (now table) (now longer) (now places) (now spans) (now number) (now used) (now column)) × (2 * min n 128 + 2 ≤ length (now table)) × (length (now used) ≡ 128) ⌝ }
-    ensures { λ r. ⌜ Left (lent (length (now (words .entry)) / 5) (length (now (arrows .entry)) / 5) (length (now (bundles .entry)) / 4) (graphDrawn n (now (ends .entry)) given (now (field .entry)))) (now (words .entry)) (now (arrows .entry)) (now (bundles .entry)) (whole r (now (used .exit))) (now (words .exit)) (now (arrows .exit)) (now (bundles .exit)) ⌝ }
+    requires { ⌜ Roomy n floored (lists (now edges) (now below) (now table) (now longer) (now places) (now spans) (now number) (now used) (now column)) × (2 * min n 128 + 2 ≤ length (now table)) × (length (now used) ≡ 128) ⌝ }
+    ensures { λ r. ⌜ Left (lent (length (now (words .entry)) / wordNumbers) (length (now (arrows .entry)) / arrowNumbers) (length (now (bundles .entry)) / bundleNumbers) (graphDrawn n (now (ends .entry)) given (now (field .entry)) floored (now (floors .entry)))) (now (words .entry)) (now (arrows .entry)) (now (bundles .entry)) (whole r (now (used .exit))) (now (words .exit)) (now (arrows .exit)) (now (bundles .exit)) ⌝ }
 {
     let p = chart_plan::planned(
         n,
         ends,
         given,
         field,
+        floored,
+        floors,
         edges,
         below,
         table,
@@ -94,6 +100,8 @@ fn drawn<'g, 'f, 'e, 'b, 't, 'l, 'p, 's, 'n, 'c, 'u>(
         arrows,
         bundles,
         ends,
+        floored,
+        floors,
         longer,
         below,
         table,
@@ -108,21 +116,23 @@ fn drawn<'g, 'f, 'e, 'b, 't, 'l, 'p, 's, 'n, 'c, 'u>(
 }
 
 // The same with work lists for at most 15 vertices: clearing larger ones would take most of the time of a small chart.
-fn few<'g, 'f, 'u>(
+fn few<'g, 'f, 'h, 'b, 'u>(
     n: usize,
     ends: &'g [u8],
     given: bool,
     field: &'f [u8],
+    floored: bool,
+    floors: &'h [u8],
     words: &mut [u16],
     arrows: &mut [u16],
     bundles: &mut [u16],
+    below: &'b mut [u64],
     used: &'u mut [u16],
 ) -> Counts
-    requires { ⌜ (n ≤ 15) × (length (now used) ≡ 128) ⌝ }
-    ensures { λ r. ⌜ Left (lent (length (now (words .entry)) / 5) (length (now (arrows .entry)) / 5) (length (now (bundles .entry)) / 4) (graphDrawn n (now (ends .entry)) given (now (field .entry)))) (now (words .entry)) (now (arrows .entry)) (now (bundles .entry)) (whole r (now (used .exit))) (now (words .exit)) (now (arrows .exit)) (now (bundles .exit)) ⌝ }
+    requires { ⌜ (n ≤ 15) × (length (now used) ≡ 128) × RowRoom n floored (length (now below)) ⌝ }
+    ensures { λ r. ⌜ Left (lent (length (now (words .entry)) / wordNumbers) (length (now (arrows .entry)) / arrowNumbers) (length (now (bundles .entry)) / bundleNumbers) (graphDrawn n (now (ends .entry)) given (now (field .entry)) floored (now (floors .entry)))) (now (words .entry)) (now (arrows .entry)) (now (bundles .entry)) (whole r (now (used .exit))) (now (words .exit)) (now (arrows .exit)) (now (bundles .exit)) ⌝ }
 {
     let mut edges = [0; 30];
-    let mut below = [0; 32];
     let mut table = [0; 32];
     let mut longer = [0; 30];
     let mut places = [0; 60];
@@ -134,11 +144,13 @@ fn few<'g, 'f, 'u>(
         ends,
         given,
         field,
+        floored,
+        floors,
         words,
         arrows,
         bundles,
         &mut edges,
-        &mut below,
+        below,
         &mut table,
         &mut longer,
         &mut places,
@@ -150,21 +162,23 @@ fn few<'g, 'f, 'u>(
 }
 
 // The same with work lists for as many vertices as a graph can have.
-fn many<'g, 'f, 'u>(
+fn many<'g, 'f, 'h, 'b, 'u>(
     n: usize,
     ends: &'g [u8],
     given: bool,
     field: &'f [u8],
+    floored: bool,
+    floors: &'h [u8],
     words: &mut [u16],
     arrows: &mut [u16],
     bundles: &mut [u16],
+    below: &'b mut [u64],
     used: &'u mut [u16],
 ) -> Counts
-    requires { ⌜ length (now used) ≡ 128 ⌝ }
-    ensures { λ r. ⌜ Left (lent (length (now (words .entry)) / 5) (length (now (arrows .entry)) / 5) (length (now (bundles .entry)) / 4) (graphDrawn n (now (ends .entry)) given (now (field .entry)))) (now (words .entry)) (now (arrows .entry)) (now (bundles .entry)) (whole r (now (used .exit))) (now (words .exit)) (now (arrows .exit)) (now (bundles .exit)) ⌝ }
+    requires { ⌜ (length (now used) ≡ 128) × RowRoom n floored (length (now below)) ⌝ }
+    ensures { λ r. ⌜ Left (lent (length (now (words .entry)) / wordNumbers) (length (now (arrows .entry)) / arrowNumbers) (length (now (bundles .entry)) / bundleNumbers) (graphDrawn n (now (ends .entry)) given (now (field .entry)) floored (now (floors .entry)))) (now (words .entry)) (now (arrows .entry)) (now (bundles .entry)) (whole r (now (used .exit))) (now (words .exit)) (now (arrows .exit)) (now (bundles .exit)) ⌝ }
 {
     let mut edges = [0; 256];
-    let mut below = [0; 258];
     let mut table = [0; 258];
     let mut longer = [0; 256];
     let mut places = [0; 512];
@@ -176,11 +190,13 @@ fn many<'g, 'f, 'u>(
         ends,
         given,
         field,
+        floored,
+        floors,
         words,
         arrows,
         bundles,
         &mut edges,
-        &mut below,
+        below,
         &mut table,
         &mut longer,
         &mut places,
@@ -191,24 +207,143 @@ fn many<'g, 'f, 'u>(
     )
 }
 
-// The same with the smaller work lists where they are enough.
-fn graphed<'g, 'f, 'u>(
+// The same where there are floors: rows may be many more than vertices.
+fn raised<'g, 'f, 'h, 'u>(
     n: usize,
     ends: &'g [u8],
     given: bool,
     field: &'f [u8],
+    floored: bool,
+    floors: &'h [u8],
     words: &mut [u16],
     arrows: &mut [u16],
     bundles: &mut [u16],
     used: &'u mut [u16],
 ) -> Counts
     requires { ⌜ length (now used) ≡ 128 ⌝ }
-    ensures { λ r. ⌜ Left (lent (length (now (words .entry)) / 5) (length (now (arrows .entry)) / 5) (length (now (bundles .entry)) / 4) (graphDrawn n (now (ends .entry)) given (now (field .entry)))) (now (words .entry)) (now (arrows .entry)) (now (bundles .entry)) (whole r (now (used .exit))) (now (words .exit)) (now (arrows .exit)) (now (bundles .exit)) ⌝ }
+    ensures { λ r. ⌜ Left (lent (length (now (words .entry)) / wordNumbers) (length (now (arrows .entry)) / arrowNumbers) (length (now (bundles .entry)) / bundleNumbers) (graphDrawn n (now (ends .entry)) given (now (field .entry)) floored (now (floors .entry)))) (now (words .entry)) (now (arrows .entry)) (now (bundles .entry)) (whole r (now (used .exit))) (now (words .exit)) (now (arrows .exit)) (now (bundles .exit)) ⌝ }
+{
+    let mut below = [0; 512];
+    if n <= FEW {
+        return few(
+            n,
+            ends,
+            given,
+            field,
+            floored,
+            floors,
+            words,
+            arrows,
+            bundles,
+            &mut below,
+            used,
+        );
+    }
+    many(
+        n,
+        ends,
+        given,
+        field,
+        floored,
+        floors,
+        words,
+        arrows,
+        bundles,
+        &mut below,
+        used,
+    )
+}
+
+// The same where there are none: with the smaller work lists where they are enough.
+fn level<'g, 'f, 'h, 'u>(
+    n: usize,
+    ends: &'g [u8],
+    given: bool,
+    field: &'f [u8],
+    floored: bool,
+    floors: &'h [u8],
+    words: &mut [u16],
+    arrows: &mut [u16],
+    bundles: &mut [u16],
+    used: &'u mut [u16],
+) -> Counts
+    requires { ⌜ (length (now used) ≡ 128) × (floored ≡ false) ⌝ }
+    ensures { λ r. ⌜ Left (lent (length (now (words .entry)) / wordNumbers) (length (now (arrows .entry)) / arrowNumbers) (length (now (bundles .entry)) / bundleNumbers) (graphDrawn n (now (ends .entry)) given (now (field .entry)) floored (now (floors .entry)))) (now (words .entry)) (now (arrows .entry)) (now (bundles .entry)) (whole r (now (used .exit))) (now (words .exit)) (now (arrows .exit)) (now (bundles .exit)) ⌝ }
 {
     if n <= FEW {
-        return few(n, ends, given, field, words, arrows, bundles, used);
+        let mut below = [0; 32];
+        return few(
+            n,
+            ends,
+            given,
+            field,
+            floored,
+            floors,
+            words,
+            arrows,
+            bundles,
+            &mut below,
+            used,
+        );
     }
-    many(n, ends, given, field, words, arrows, bundles, used)
+    let mut below = [0; 258];
+    many(
+        n,
+        ends,
+        given,
+        field,
+        floored,
+        floors,
+        words,
+        arrows,
+        bundles,
+        &mut below,
+        used,
+    )
+}
+
+// The same, by whether there are floors.
+fn graphed<'g, 'f, 'h, 'u>(
+    n: usize,
+    ends: &'g [u8],
+    given: bool,
+    field: &'f [u8],
+    floored: bool,
+    floors: &'h [u8],
+    words: &mut [u16],
+    arrows: &mut [u16],
+    bundles: &mut [u16],
+    used: &'u mut [u16],
+) -> Counts
+    requires { ⌜ length (now used) ≡ 128 ⌝ }
+    ensures { λ r. ⌜ Left (lent (length (now (words .entry)) / wordNumbers) (length (now (arrows .entry)) / arrowNumbers) (length (now (bundles .entry)) / bundleNumbers) (graphDrawn n (now (ends .entry)) given (now (field .entry)) floored (now (floors .entry)))) (now (words .entry)) (now (arrows .entry)) (now (bundles .entry)) (whole r (now (used .exit))) (now (words .exit)) (now (arrows .exit)) (now (bundles .exit)) ⌝ }
+{
+    if floored {
+        return raised(
+            n,
+            ends,
+            given,
+            field,
+            floored,
+            floors,
+            words,
+            arrows,
+            bundles,
+            used,
+        );
+    }
+    level(
+        n,
+        ends,
+        given,
+        field,
+        floored,
+        floors,
+        words,
+        arrows,
+        bundles,
+        used,
+    )
 }
 
 // The same of the graph that a record says, into side columns that are 0: where its fields do not stand as they must, they stay.
@@ -230,11 +365,15 @@ fn recorded<'u>(
     let to = from + 2 * f.count;
     let start = f.lines;
     let end = start + f.size;
+    let low = f.floors;
+    let high = low + f.extent;
     graphed(
         f.vertices,
         &bytes[from..to],
         f.given,
         &bytes[start..end],
+        f.floored,
+        &bytes[low..high],
         words,
         arrows,
         bundles,
@@ -242,22 +381,35 @@ fn recorded<'u>(
     )
 }
 
-// The chart of a neutral graph into three lists: so many vertices, the bytes of its edges' ends, two an edge, and the bytes of its given
-// channels, if any are given. Refused with 11 where it has more than 31 channels, and then with 8 where a list has no room for all its
+// The chart of a neutral graph into three lists: so many vertices, the bytes of its edges' ends, two an edge, the bytes of its given
+// channels, if any are given, and its floors, if there are any. Refused with 11 where it has more than 31 channels, and then with 8 where a list has no room for all its
 // entries. Numbers past the needed ones stay.
-pub fn of_graph<'g, 'f>(
+pub fn of_graph<'g, 'f, 'h>(
     n: usize,
     ends: &'g [u8],
     given: bool,
     field: &'f [u8],
+    floored: bool,
+    floors: &'h [u8],
     words: &mut [u16],
     arrows: &mut [u16],
     bundles: &mut [u16],
 ) -> ChartCounts
-    ensures { λ r. ⌜ Left (lent (length (now (words .entry)) / 5) (length (now (arrows .entry)) / 5) (length (now (bundles .entry)) / 4) (graphDrawn n (now (ends .entry)) given (now (field .entry)))) (now (words .entry)) (now (arrows .entry)) (now (bundles .entry)) r (now (words .exit)) (now (arrows .exit)) (now (bundles .exit)) ⌝ }
+    ensures { λ r. ⌜ Left (lent (length (now (words .entry)) / wordNumbers) (length (now (arrows .entry)) / arrowNumbers) (length (now (bundles .entry)) / bundleNumbers) (graphDrawn n (now (ends .entry)) given (now (field .entry)) floored (now (floors .entry)))) (now (words .entry)) (now (arrows .entry)) (now (bundles .entry)) r (now (words .exit)) (now (arrows .exit)) (now (bundles .exit)) ⌝ }
 {
     let mut used = [0; 128];
-    let c = graphed(n, ends, given, field, words, arrows, bundles, &mut used);
+    let c = graphed(
+        n,
+        ends,
+        given,
+        field,
+        floored,
+        floors,
+        words,
+        arrows,
+        bundles,
+        &mut used,
+    );
     ChartCounts {
         refusal: c.refusal,
         words: c.words,

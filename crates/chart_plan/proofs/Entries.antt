@@ -12,7 +12,7 @@ use Rattle.specification.specs.Checks.{Content, edgesOf, connectionIn}
 use Rattle.specification.specs.Bundles.{bundleOf, adjacent?}
 use Rattle.specification.specs.Geometry.{Point, point, isHit, isBlocked, ownColumn, courseOf}
 use Rattle.specification.specs.Chart.{planOf, rowCount, widths, columnIn, placeOf, tailOf, headOf, crossing, transitiveEdge?, kindBetween}
-use Rattle.specification.specs.Chart.{vertexEntry, bundleEntry}
+use Rattle.specification.specs.Chart.{floorOf, vertexEntry, bundleEntry}
 use Rattle.specification.specs.declared.Kind.{Kind}
 use Rattle.specification.specs.declared.Kind.the-variants.{Path, PathTransitive}
 use Rattle.specification.specs.declared.VertexEntry.{VertexEntry}
@@ -39,9 +39,10 @@ use Rattle.chart_plan.specs.declared.Plan.{Plan}
 -- ---- of the graph alone
 
 -- half as many edges as bytes of ends
-pub edges-counted : (n : ℕ) (ends : List ℕ) (given : Bool) (field : List ℕ) → edgesOf (graphContent n ends given field) ≡ length ends / 2
+pub edges-counted : (n : ℕ) (ends : List ℕ) (given : Bool) (field : List ℕ) (floored : Bool) (floors : List ℕ)
+    → edgesOf (graphContent n ends given field floored floors) ≡ length ends / 2
 unfolding graphContent
-edges-counted n ends given field = ends-counted ends
+edges-counted n ends given field floored floors = ends-counted ends
 
 -- the course between vertices goes by the vertices' points alone
 course-same : (at to : ℕ → Point) (n u v : ℕ) → u < n → v < n → ((w : ℕ) → w < n → at w ≡ to w) → courseOf at n u v ≡ courseOf to n u v
@@ -99,6 +100,7 @@ module _ (c : Content) (p : Plan) (t : Lists) (l : Laid c p t) where
         column = getD (t .column) v 0;
         row = quad 2 (t .places) v;
         descendants = quad 3 (t .places) v;
+        floor = floorOf c v;
       })
       (vertexEntry c planned v)
   unfolding vertexEntry
@@ -128,7 +130,7 @@ module _ (c : Content) (p : Plan) (t : Lists) (l : Laid c p t) where
 
   vertices-same : vertexCount columns places ≡ n
   vertices-same =
-      omega (arith, length-take-le n (t .column) (omega (arith, l .room .column, small)), l .room .masks .places, small)
+      omega (arith, length-take-le n (t .column) (omega (arith, l .room .column, small)), l .room .masks .masks .places, small)
 
   -- ---- what candidates ask for
 
@@ -150,7 +152,7 @@ module _ (c : Content) (p : Plan) (t : Lists) (l : Laid c p t) where
   unfolding columnIn
   column-own v h = getD-take n (t .column) v 0 h ∙ l .column v h ∙ ap (ownColumn (widths planned)) (sym (l .channels v h))
 
-  -- `left` is what `prefixes::prefixes` makes of the channels in a list of so many masks, where there are more than two
+  -- `left` is what `prefixes::by_channel` makes of the channels in a list of so many masks, where there are more than two
   abbrev pub LeftOf : ℕ → List ℕ → Type 0
   LeftOf size left =
       2 < p .channels → Prefixes 2 (min (min n 128) (length places / 4)) (quad 0 places) (lastSet (p .channels) size) left

@@ -11,7 +11,8 @@ use Rattle.specification.specs.Connection.{longer?}
 use Rattle.specification.specs.Bundles.{Bundle, side?, apart?, bundlesOf, empty}
 use Rattle.specification.specs.Tracks.{tracks}
 use Rattle.specification.specs.Geometry.{evenGaps, blockStart, ownColumn}
-use Rattle.specification.specs.Chart.{leads?, channelsOf, planOf, rowOf, rowCount, descendantsOf, tracksIn, columnIn, widthOf, widths}
+use Rattle.specification.specs.Chart.{leads?, channelsOf, planOf, floorOf, rowOf, rowCount, descendantsOf, tracksIn, columnIn, widthOf}
+use Rattle.specification.specs.Chart.{widths}
 use Rattle.specification.specs.Drawn.{graphContent}
 use Rattle.specification.specs.Chart as chart
 use Rattle.counting.specs.Quads.{quad}
@@ -56,7 +57,7 @@ least m x k l = omega arith
 
 module _ {n : ℕ} {k : Checked} {e p spans number used column : List ℕ} (x : Passed n k e p spans number used column) where
   abbrev c : Content
-  c = graphContent n (x .ends) (x .given) (x .field)
+  c = graphContent n (x .ends) (x .given) (x .field) (x .floored) (x .floors)
 
   abbrev tails : List ℕ
   tails = tailsOf (x .ends)
@@ -90,19 +91,19 @@ module _ {n : ℕ} {k : Checked} {e p spans number used column : List ℕ} (x : 
 
   table-same : (u v : ℕ) → u < 128 → v < 128 → has? 2 t u v ≡ leads? c u v
   unfolding leads? graphContent
-  table-same u v hu hv = same-test 2 n tails heads t (x .passes .descended .closure .bits) u v hu hv
+  table-same u v hu hv = same-test 2 n tails heads t (x .passes .raised .closure .bits) u v hu hv
 
   edges-same : (u v : ℕ) → u < n → v < n → member? e (2 * u) v ≡ edge? tails heads u v
   unfolding at has? graphContent
   edges-same u v hu hv =
-      let d = x .passes .descended in
+      let d = x .passes .raised in
       same-edge n tails heads (graph-accepted c s) 2 e t (x .longer) small (d .closure .edge-bits) (d .closure .bits) (d .longer) u v
       (omega (arith, small)) (omega (arith, small))
 
   longer-laid : (u v : ℕ) → u < n → v < n → member? (x .longer) (2 * u) v ≡ longer? (edge? tails heads) n u v
   unfolding at has? graphContent
   longer-laid u v hu hv =
-      let d = x .passes .descended in
+      let d = x .passes .raised in
       same-longer n tails heads (graph-accepted c s) 2 e t (x .longer) small (d .closure .edge-bits) (d .closure .bits) (d .longer) u v
       (omega (arith, small)) (omega (arith, small))
 
@@ -119,20 +120,20 @@ module _ {n : ℕ} {k : Checked} {e p spans number used column : List ℕ} (x : 
   -- ---- rows
 
   rows-laid : (v : ℕ) → v < n → row v ≡ rowOf c v
-  unfolding rowOf graphContent
-  rows-laid v h = x .passes .descended .rows v h
+  unfolding rowOf floorOf graphContent
+  rows-laid v h = x .passes .raised .rows v h
 
   rows-counted : k .used ≡ rowCount c
-  unfolding rowCount graphContent
-  rows-counted = x .passes .descended .used
+  unfolding rowCount floorOf graphContent
+  rows-counted = x .passes .raised .counted
 
   below-laid : (j v : ℕ) → j ≤ rowCount c → v < 128 → at 2 (x .below) j v ≡ 1 ↔ ((v < n) × (rowOf c v < j))
-  unfolding rowOf graphContent
-  below-laid j v h hv = x .passes .descended .below j v (let q = rows-counted in omega arith) hv
+  unfolding rowOf floorOf graphContent
+  below-laid j v h hv = x .passes .raised .below j v (let q = rows-counted in omega arith) hv
 
   descendants-laid : (v : ℕ) → v < n → quad 3 p v ≡ descendantsOf c v
   unfolding descendantsOf leads? graphContent
-  descendants-laid v h = x .passes .descended .closure .counted v h
+  descendants-laid v h = x .passes .raised .closure .counted v h
 
   -- ---- bundles and tracks: m channels
 
@@ -158,7 +159,7 @@ module _ {n : ℕ} {k : Checked} {e p spans number used column : List ℕ} (x : 
     all-of : counted ≡ n
     all-of =
         let r = x .room in
-        fitting-all n _ _ _ small (omega (arith, r .masks .places, small)) (omega (arith, r .spans, small))
+        fitting-all n _ _ _ small (omega (arith, r .masks .masks .places, small)) (omega (arith, r .spans, small))
         (omega (arith, r .number, small))
 
     all-channels : min m 128 ≡ length ls
@@ -249,7 +250,7 @@ module _ {n : ℕ} {k : Checked} {e p spans number used column : List ℕ} (x : 
         known = channel-known;
         page = omega (arith, width-same, width-on-page c s);
         sizes = (
-          omega (arith, small, x .room .masks .places),
+          omega (arith, small, x .room .masks .masks .places),
           omega (arith, tracked .long .1, x .room .used),
           omega (arith, small, x .room .column),
         );

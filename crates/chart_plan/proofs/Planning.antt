@@ -3,7 +3,7 @@ use Rattle.counting.proofs.Prelude.{_≡_, refl, sym, ap, _∙_, _≢_, Bool, t
 use Rattle.counting.proofs.Prelude.{length, leb-true, le-leb, lt-ltb, le-ltb}
 use native.Mathlib.Decide.{decLt}
 use Rattle.counting.proofs.Truth.{and-intro, and-elim}
-use Rattle.descent.specs.Promise.{Sized}
+use Rattle.floors.specs.Promise as raising
 use Rattle.specification.specs.Limits.{mostChannels}
 use Rattle.specification.specs.Checks.{Content, refusalOf}
 use Rattle.specification.specs.Chart.{channelsOf}
@@ -21,14 +21,14 @@ use Rattle.chart_plan.specs.declared.Plan.{Plan}
 abbrev pub tested : ℕ → Lists → Bool
 tested n t = roomy? (min n 128) (length (t .spans)) (length (t .number)) (length (t .used)) (length (t .column))
 
-module _ (n : ℕ) (t : Lists) where
-  roomy-tested : Roomy n t → tested n t ≡ true
+module _ (n : ℕ) (floored : Bool) (t : Lists) where
+  roomy-tested : Roomy n floored t → tested n t ≡ true
   unfolding roomy?
   roomy-tested r =
       and-intro _ _ (le-leb _ _ (r .spans))
       (and-intro _ _ (le-leb _ _ (r .number)) (and-intro _ _ (le-leb _ _ (r .used)) (le-leb _ _ (r .column))))
 
-  tested-roomy : tested n t ≡ true → Sized n (t .edges) (t .below) (t .table) (t .longer) (t .places) → Roomy n t
+  tested-roomy : tested n t ≡ true → raising.Roomy n floored (t .edges) (t .below) (t .table) (t .longer) (t .places) → Roomy n floored t
   unfolding roomy?
   tested-roomy h z =
       let a = and-elim (leb (8 * min n 128) (length (t .spans))) _ h in
@@ -48,9 +48,9 @@ module _ (n : ℕ) (t : Lists) where
   tested-so e h y = rw (← e) (sym h ∙ y)
 
   -- lists that have no room
-  pub cramped-plan : (ends : List ℕ) (given : Bool) (field : List ℕ) → tested n t ≡ false → (r : Plan) → r ≡ unplannedBy 8
-      → Plans n ends given field t r t
-  cramped-plan ends given field fails r made =
+  pub cramped-plan : (ends : List ℕ) (given : Bool) (field floors : List ℕ) → tested n t ≡ false → (r : Plan) → r ≡ unplannedBy 8
+      → Plans n ends given field floored floors t r t
+  cramped-plan ends given field floors fails r made =
       let eight : r .refusal ≡ 8 = ap (λ (x : Plan). x .refusal) made in
       record {
         answer = λ h. absurd (true≢false (sym (roomy-tested h) ∙ fails));
@@ -59,6 +59,7 @@ module _ (n : ℕ) (t : Lists) where
         none = λ h. made ∙ ap unplannedBy (sym eight);
         kept = λ h. refl;
         left = λ h. absurd (true≢false (sym (roomy-tested h) ∙ fails));
+        flat = λ h. absurd (true≢false (sym (roomy-tested h) ∙ fails));
         tables = λ h. absurd (true≢false (sym (roomy-tested h) ∙ fails));
         arranged = λ h. absurd (true≢false (sym (roomy-tested h) ∙ fails));
         cleared = λ h. absurd (true≢false (sym (roomy-tested h) ∙ fails));
@@ -86,19 +87,19 @@ stable a b h = go (decLt b a)
     go (yes l) = absurd (h (λ m. omega arith))
     go (no g) = omega (arith, g)
 
-module _ {n : ℕ} {ends : List ℕ} {given : Bool} {field : List ℕ} (t : Lists) (fine : tested n t ≡ true)
+module _ {n : ℕ} {ends : List ℕ} {given : Bool} {field : List ℕ} {floored : Bool} {floors : List ℕ} (t : Lists) (fine : tested n t ≡ true)
     {k : Checked} {e′ b′ t′ l′ p′ : List ℕ}
-    (p : Checks n ends given field (t .edges) (t .below) (t .table) (t .longer) (t .places) k e′ b′ t′ l′ p′) where
+    (p : Checks n ends given field floored floors (t .edges) (t .below) (t .table) (t .longer) (t .places) k e′ b′ t′ l′ p′) where
   abbrev c : Content
-  c = graphContent n ends given field
+  c = graphContent n ends given field floored floors
 
-  answer : Roomy n t → k .refusal ≡ refusalOf c
+  answer : Roomy n floored t → k .refusal ≡ refusalOf c
   unfolding graphContent
   answer r = p .answer (r .masks)
 
   -- where lists of masks have no room
-  cramped : (Roomy n t → ⊥) → Sized n (t .edges) (t .below) (t .table) (t .longer) (t .places) → ⊥
-  cramped h z = h (tested-roomy n t fine z)
+  cramped : (Roomy n floored t → ⊥) → raising.Roomy n floored (t .edges) (t .below) (t .table) (t .longer) (t .places) → ⊥
+  cramped h z = h (tested-roomy n floored t fine z)
 
   abbrev masked : Lists
   masked = lists e′ b′ t′ l′ p′ (t .spans) (t .number) (t .used) (t .column)
@@ -120,7 +121,7 @@ module _ {n : ℕ} {ends : List ℕ} {given : Bool} {field : List ℕ} (t : List
   untouched s = rw (s .0, s .1, s .2, s .3, s .4) refl
 
   -- a check fails
-  pub refused-plan : k .refusal ≢ 0 → (r : Plan) → r ≡ unplannedBy (k .refusal) → Plans n ends given field t r masked
+  pub refused-plan : k .refusal ≢ 0 → (r : Plan) → r ≡ unplannedBy (k .refusal) → Plans n ends given field floored floors t r masked
   refused-plan ne r made =
       let same : r .refusal ≡ k .refusal = ap (λ (x : Plan). x .refusal) made in
       record {
@@ -130,9 +131,10 @@ module _ {n : ℕ} {ends : List ℕ} {given : Bool} {field : List ℕ} (t : List
         none = λ h. made ∙ ap unplannedBy (sym same);
         kept = λ h. refl;
         left = λ h. p .left (h .masks);
+        flat = λ h. p .flat (h .masks);
         tables = λ h. p .tables (h .masks);
         arranged = λ h z. absurd (ne (answer h ∙ z));
-        cleared = λ h e _. p .cleared (h .masks) e ne;
+        cleared = λ h e f _. p .cleared (h .masks) e f ne;
         places-past = p .past;
         column-past = λ v h. refl;
         long = masked-long;
@@ -140,16 +142,19 @@ module _ {n : ℕ} {ends : List ℕ} {given : Bool} {field : List ℕ} (t : List
 
   -- nothing is refused
   module _ (z : k .refusal ≡ 0) where
-    fits : (Sized n (t .edges) (t .below) (t .table) (t .longer) (t .places) → ⊥) → ⊥
+    fits : (raising.Roomy n floored (t .edges) (t .below) (t .table) (t .longer) (t .places) → ⊥) → ⊥
     fits h = let s = p .short h .0 in absurd (omega arith)
 
-    roomy : Roomy n t
-    roomy = tested-roomy n t fine (record {
-      edges = stable _ _ (λ h. fits (λ w. h (w .edges)));
-      below = stable _ _ (λ h. fits (λ w. h (w .below)));
-      table = stable _ _ (λ h. fits (λ w. h (w .table)));
-      longer = stable _ _ (λ h. fits (λ w. h (w .longer)));
-      places = stable _ _ (λ h. fits (λ w. h (w .places)));
+    roomy : Roomy n floored t
+    roomy = tested-roomy n floored t fine (record {
+      masks = record {
+        edges = stable _ _ (λ h. fits (λ w. h (w .masks .edges)));
+        below = stable _ _ (λ h. fits (λ w. h (w .masks .below)));
+        table = stable _ _ (λ h. fits (λ w. h (w .masks .table)));
+        longer = stable _ _ (λ h. fits (λ w. h (w .masks .longer)));
+        places = stable _ _ (λ h. fits (λ w. h (w .masks .places)));
+      };
+      rows = λ f. stable _ _ (λ h. fits (λ w. h (w .rows f)));
     })
 
     pub passed : Passed n k e′ p′ (t .spans) (t .number) (t .used) (t .column)
@@ -157,6 +162,8 @@ module _ {n : ℕ} {ends : List ℕ} {given : Bool} {field : List ℕ} (t : List
       ends = ends;
       given = given;
       field = field;
+      floored = floored;
+      floors = floors;
       below = b′;
       table = t′;
       longer = l′;
@@ -164,11 +171,14 @@ module _ {n : ℕ} {ends : List ℕ} {given : Bool} {field : List ℕ} (t : List
       passes = p .passes z;
       room = record {
         masks = record {
-          edges = omega (arith, p .long .0, roomy .masks .edges);
-          below = omega (arith, p .long .1, roomy .masks .below);
-          table = omega (arith, p .long .2, roomy .masks .table);
-          longer = omega (arith, p .long .3, roomy .masks .longer);
-          places = omega (arith, p .long .4, roomy .masks .places);
+          masks = record {
+            edges = omega (arith, p .long .0, roomy .masks .masks .edges);
+            below = omega (arith, p .long .1, roomy .masks .masks .below);
+            table = omega (arith, p .long .2, roomy .masks .masks .table);
+            longer = omega (arith, p .long .3, roomy .masks .masks .longer);
+            places = omega (arith, p .long .4, roomy .masks .masks .places);
+          };
+          rows = λ f. omega (arith, p .long .1, roomy .masks .rows f);
         };
         spans = roomy .spans;
         number = roomy .number;
@@ -189,7 +199,7 @@ module _ {n : ℕ} {ends : List ℕ} {given : Bool} {field : List ℕ} (t : List
     count = length (channelsOf c)
 
     -- there are too many
-    pub broad-plan : mostChannels < k .channels → (r : Plan) → r ≡ unplannedBy 11 → Plans n ends given field t r masked
+    pub broad-plan : mostChannels < k .channels → (r : Plan) → r ≡ unplannedBy 11 → Plans n ends given field floored floors t r masked
     unfolding broad?
     broad-plan l r made =
         let eleven : r .refusal ≡ 11 = ap (λ (x : Plan). x .refusal) made in
@@ -200,9 +210,10 @@ module _ {n : ℕ} {ends : List ℕ} {given : Bool} {field : List ℕ} (t : List
           none = λ h. made ∙ ap unplannedBy (sym eleven);
           kept = λ h. refl;
           left = λ h. p .left (h .masks);
+          flat = λ h. p .flat (h .masks);
           tables = λ h. p .tables (h .masks);
           arranged = λ h _. placed;
-          cleared = λ h _ ne. absurd (ne (sym (answer h) ∙ z));
+          cleared = λ h _ _ ne. absurd (ne (sym (answer h) ∙ z));
           places-past = p .past;
           column-past = λ v h. refl;
           long = masked-long;
@@ -210,7 +221,7 @@ module _ {n : ℕ} {ends : List ℕ} {given : Bool} {field : List ℕ} (t : List
 
     pub laid-plan : k .channels ≤ mostChannels → {r : Plan} {spans′ number′ used′ column′ : List ℕ}
         → Filled n k e′ p′ (t .spans) (t .number) (t .used) (t .column) r spans′ number′ used′ column′
-        → Plans n ends given field t r (lists e′ b′ t′ l′ p′ spans′ number′ used′ column′)
+        → Plans n ends given field floored floors t r (lists e′ b′ t′ l′ p′ spans′ number′ used′ column′)
     unfolding passed broad?
     laid-plan few f = record {
       answer = λ h. f .refusal ∙ sym (chart-whole c (sym (answer h) ∙ z) (le-ltb mostChannels count (omega (arith, arranged .counted))));
@@ -219,9 +230,10 @@ module _ {n : ℕ} {ends : List ℕ} {given : Bool} {field : List ℕ} (t : List
       none = λ h. absurd (h (f .refusal));
       kept = λ h. absurd (h (f .refusal));
       left = λ h. p .left (h .masks);
+      flat = λ h. p .flat (h .masks);
       tables = λ h. p .tables (h .masks);
       arranged = λ _ _. placed;
-      cleared = λ h _ ne. absurd (ne (sym (answer h) ∙ z));
+      cleared = λ h _ _ ne. absurd (ne (sym (answer h) ∙ z));
       places-past = p .past;
       column-past = f .past;
       long = record {

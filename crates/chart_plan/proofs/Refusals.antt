@@ -1,9 +1,9 @@
--- What is known of a refusal: one of 1 to 7 or 11 and nothing, or 8 'short' just where a list is too short for what is accepted. Assumes
--- nothing.
+-- What is known of a refusal: one of 1 to 7, 11 or 12 and nothing, or 8 'short' just where a list is too short for what is accepted.
+-- Assumes nothing.
 use Rattle.counting.proofs.Prelude.{_≡_, refl, sym, ap, _∙_, _≢_, _↔_, ⊎-elim, Bool, true, false, List, ℕ, _<_, arith, eqb, length}
 use Rattle.counting.proofs.Prelude.{eqb-true, eqb-false, ne-eqb}
 use Rattle.specification.specs.Count.{choose}
-use Rattle.specification.specs.Checks.{Content, edgesOf, size?, stranger?, double?, ring?, repeated?, unled?, looseChecks}
+use Rattle.specification.specs.Checks.{Content, edgesOf, size?, floor?, stranger?, double?, ring?, repeated?, unled?, looseChecks}
 use Rattle.specification.specs.Checks.{laterChecks, firstOf, nothing, contentOf, refusalIn}
 use Rattle.specification.specs.Layout.{layoutOf}
 use Rattle.specification.specs.declared.Layout.{Layout}
@@ -14,7 +14,7 @@ use Rattle.specification.specs.Drawn.{lent}
 use Rattle.chart_plan.proofs.Nothing.{empty}
 use Rattle.chart_plan.proofs.Shortage.{lacking, lent-short, lent-whole}
 
--- ---- what is drawn of a graph or a record: one of 1 to 7 or 11 and nothing, or 0
+-- ---- what is drawn of a graph or a record: one of 1 to 7, 11 or 12 and nothing, or 0
 
 pub record Sound (d : Drawn) : Type 0 where
   pub quiet : (d .refusal ≡ 0 → ⊥) → d .graph ≡ nothing
@@ -28,12 +28,13 @@ chart-unshort : (c : Content) → chartRefusal c ≢ 8
 unfolding chartRefusal looseChecks laterChecks chartChecks firstOf
 chart-unshort c =
     either (size? c) 2 _ (λ e. omega arith) (
+    either (floor? c) 12 _ (λ e. omega arith) (
     either (stranger? c) 3 _ (λ e. omega arith) (
     either (double? c) 4 _ (λ e. omega arith) (
     either (ring? c) 5 _ (λ e. omega arith) (
     either (repeated? c) 6 _ (λ e. omega arith) (
     either (unled? c) 7 _ (λ e. omega arith) (
-    either (broad? c) 11 0 (λ e. omega arith) (λ e. omega arith)))))))
+    either (broad? c) 11 0 (λ e. omega arith) (λ e. omega arith))))))))
 
 record-unshort : (b : List ℕ) (l : Layout) → refusalIn chartRefusal b l ≢ 8
 record-unshort b Bad = λ e. omega arith
@@ -47,9 +48,10 @@ pub drawn-sound : (c : Content) → Sound (judged (chartRefusal c) c)
 unfolding judged
 drawn-sound c = record { quiet = judged-nothing _ _; unshort = chart-unshort c }
 
-pub graph-sound : (n : ℕ) (ends : List ℕ) (given : Bool) (field : List ℕ) → Sound (graphDrawn n ends given field)
+pub graph-sound : (n : ℕ) (ends : List ℕ) (given : Bool) (field : List ℕ) (floored : Bool) (floors : List ℕ)
+    → Sound (graphDrawn n ends given field floored floors)
 unfolding graphDrawn
-graph-sound n ends given field = drawn-sound (graphContent n ends given field)
+graph-sound n ends given field floored floors = drawn-sound (graphContent n ends given field floored floors)
 
 pub record-sound : (b : List ℕ) → Sound (recordDrawn b)
 unfolding recordDrawn judged

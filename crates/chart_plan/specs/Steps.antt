@@ -49,12 +49,14 @@ pub record Passed (n : ℕ) (k : Checked) (edges places spans number used column
   pub ends : List ℕ
   pub given : Bool
   pub field : List ℕ
+  pub floored : Bool
+  pub floors : List ℕ
   pub below : List ℕ
   pub table : List ℕ
   pub longer : List ℕ
-  pub accepted : refusalOf (graphContent n ends given field) ≡ 0
-  pub passes : Passes n ends given field k edges below table longer places
-  pub room : Roomy n (lists edges below table longer places spans number used column)
+  pub accepted : refusalOf (graphContent n ends given field floored floors) ≡ 0
+  pub passes : Passes n ends given field floored floors k edges below table longer places
+  pub room : Roomy n floored (lists edges below table longer places spans number used column)
 
 -- whatever graph passed, p and the lists are what is planned of it; the lists stay as long as they were, and columns past the vertices
 -- as they were
@@ -62,7 +64,7 @@ pub record Filled (n : ℕ) (k : Checked) (edges places spans number used column
     : Type 0 where
   pub refusal : p .refusal ≡ 0
   pub laid : (x : Passed n k edges places spans number used column)
-      → Laid (graphContent n (x .ends) (x .given) (x .field)) p
+      → Laid (graphContent n (x .ends) (x .given) (x .field) (x .floored) (x .floors)) p
       (lists edges (x .below) (x .table) (x .longer) places spans′ number′ used′ column′)
   pub past : (v : ℕ) → n ≤ v → getD column′ v 0 ≡ getD column v 0
   pub long : (length spans′ ≡ length spans) × (length number′ ≡ length number) × (length used′ ≡ length used)

@@ -102,17 +102,19 @@ fn filled<'e, 's, 'n, 'u, 'c>(
     }
 }
 
-// What is planned of n vertices, the edges whose ends are bytes, tail and head in turn, and the given channels in the bytes of their
-// field, if there are any; or the number of the first check that fails, of 2 to 7, or 11 where there are too many channels. `below` gets
+// What is planned of n vertices, the edges whose ends are bytes, tail and head in turn, the given channels in the bytes of their field, and
+// the floors, if there are any of either; or the number of the first check that fails, or 11 where there are too many channels. `below` gets
 // the sets of vertices by row, `longer` the pairs with a vertex between; `places` four bytes a vertex: its channel, its position there, its
 // row and how many vertices it reaches; `spans` four bytes a bundle: its channel, its first row, its last row and its track; `number` the
 // bundle of the edges into each vertex and of those out of it, in turn; `used` how many tracks each channel has, and `column` the column of
 // each vertex. 8, and nothing changed, where a list has no room.
-pub fn planned<'a, 'f, 'e, 'b, 't, 'l, 'p, 's, 'n, 'u, 'c>(
+pub fn planned<'a, 'f, 'g, 'e, 'b, 't, 'l, 'p, 's, 'n, 'u, 'c>(
     n: usize,
     ends: &'a [u8],
     given: bool,
     field: &'f [u8],
+    floored: bool,
+    floors: &'g [u8],
     edges: &'e mut [u64],
     below: &'b mut [u64],
     table: &'t mut [u64],
@@ -123,7 +125,7 @@ pub fn planned<'a, 'f, 'e, 'b, 't, 'l, 'p, 's, 'n, 'u, 'c>(
     used: &'u mut [u16],
     column: &'c mut [u16],
 ) -> Plan
-    ensures { λ r. ⌜ Plans n (now (ends .entry)) given (now (field .entry)) (lists (now (edges .entry)) (now (below .entry)) (now (table .entry)) (now (longer .entry)) (now (places .entry)) (now (spans .entry)) (now (number .entry)) (now (used .entry)) (now (column .entry))) r (lists (now (edges .exit)) (now (below .exit)) (now (table .exit)) (now (longer .exit)) (now (places .exit)) (now (spans .exit)) (now (number .exit)) (now (used .exit)) (now (column .exit))) ⌝ }
+    ensures { λ r. ⌜ Plans n (now (ends .entry)) given (now (field .entry)) floored (now (floors .entry)) (lists (now (edges .entry)) (now (below .entry)) (now (table .entry)) (now (longer .entry)) (now (places .entry)) (now (spans .entry)) (now (number .entry)) (now (used .entry)) (now (column .entry))) r (lists (now (edges .exit)) (now (below .exit)) (now (table .exit)) (now (longer .exit)) (now (places .exit)) (now (spans .exit)) (now (number .exit)) (now (used .exit)) (now (column .exit))) ⌝ }
 {
     if !is_roomy(
         capped(n),
@@ -134,7 +136,19 @@ pub fn planned<'a, 'f, 'e, 'b, 't, 'l, 'p, 's, 'n, 'u, 'c>(
     ) {
         return unplanned(8);
     }
-    let k = check(n, ends, given, field, edges, below, table, longer, places);
+    let k = check(
+        n,
+        ends,
+        given,
+        field,
+        floored,
+        floors,
+        edges,
+        below,
+        table,
+        longer,
+        places,
+    );
     if k.refusal != 0 {
         return unplanned(k.refusal);
     }

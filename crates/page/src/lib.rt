@@ -11,7 +11,7 @@ use specification::Polyline;
 // How many columns and rows the page has, and how far apart they are in quarter points.
 const COLUMNS: u32 = 640;
 
-const ROWS: u32 = 128;
+const ROWS: u32 = 255;
 
 const COLUMN_PITCH: u32 = 42;
 

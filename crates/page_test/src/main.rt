@@ -34,7 +34,7 @@ fn main() {
     let three = Cell { column: 3, row: 3 };
     let last = Cell {
         column: 639,
-        row: 127,
+        row: 254,
     };
     let right = Cell {
         column: 640,
@@ -42,10 +42,10 @@ fn main() {
     };
     let above = Cell {
         column: 0,
-        row: 128,
+        row: 255,
     };
     check::expect(begins_at(page::straight(three, last), 31.5, 84.75));
-    check::expect(begins_at(page::bent(last, three, last), 6709.5, 3587.75));
+    check::expect(begins_at(page::bent(last, three, last), 6709.5, 7175.5));
     check::expect(number(page::straight(right, last)) == 10);
     check::expect(number(page::bent(three, last, above)) == 10);
     check::expect(number(page::side(three, last, last, three)) == 0);

@@ -11,7 +11,8 @@ use Rattle.specification.specs.Channels.{times, has, front, lines, filled, line
 use Rattle.specification.specs.Given.{Whole}
 use Rattle.specification.specs.declared.Fields.{Fields}
 use Rattle.specification.specs.declared.Layout.the-variants.{Good}
-use Rattle.specification.specs.Layout.{sizeAt, fieldAt, lined, withLines, afterEdges, withEdges, withVertices, layoutOf}
+use Rattle.specification.specs.Layout.{bareFields, linedFields, sizeAt, fieldAt, lined, afterLines, withLines, afterEdges, withEdges}
+use Rattle.specification.specs.Layout.{withVertices, layoutOf}
 use Rattle.specification.specs.Checks.{Content, content, contentOf, recordRefusal, said, givenOf, Leads, Sound}
 use Rattle.specification.specs.Checks.{GivenKnown, Once, Led}
 use Rattle.specification.specs.Drawn.{broad?, chartRefusal, judged, recordDrawn}
@@ -42,7 +43,7 @@ module _ (b : List ℕ) (f : Fields) (c : Content) (laid : layoutOf b ≡ Good f
   drawn = rw (laid, same) refl
 
   -- a division into few parts shows it
-  draws : (m : ℕ) (part : ℕ → ℕ) → Divided c m part → Whole (c .vertices) (givenOf c) part → m ≤ mostChannels → Draws b c
+  pub draws : (m : ℕ) (part : ℕ → ℕ) → Divided c m part → Whole (c .vertices) (givenOf c) part → m ≤ mostChannels → Draws b c
   unfolding judged
   draws m part d w few =
       let narrow = not-true (broad? c) (λ t. omega (arith, too-many c s t m part d w)) in
@@ -77,6 +78,7 @@ bare-sound : (n : ℕ) → 0 < n → n ≤ 128 → Sound (bare n)
 unfolding bare
 bare-sound n h k = record {
   size = (h, k, omega arith);
+  floors = λ g. absurd (true≢false (sym g));
   ends = λ i l. absurd (omega arith);
   named = λ g. absurd (true≢false (sym g));
   distinct = λ i j l. absurd (omega arith);
@@ -85,14 +87,14 @@ bare-sound n h k = record {
   led = λ g. absurd (true≢false (sym g));
 }
 
-abbrev bareFields : ℕ → Fields
-bareFields n = record { vertices = n; edges = 7; count = 0; given = false; lines = 0; size = 0 }
+abbrev unjoinedFields : ℕ → Fields
+unjoinedFields n = bareFields n 7 0
 
-bare-laid : (n : ℕ) → layoutOf (bareRecord n) ≡ Good (bareFields n)
-unfolding layoutOf withVertices withEdges afterEdges fieldAt sizeAt bareRecord
+bare-laid : (n : ℕ) → layoutOf (bareRecord n) ≡ Good (unjoinedFields n)
+unfolding layoutOf withVertices withEdges afterEdges withLines afterLines fieldAt sizeAt bareRecord
 bare-laid n = refl
 
-bare-says : (n : ℕ) → contentOf (bareRecord n) (bareFields n) ≡ bare n
+bare-says : (n : ℕ) → contentOf (bareRecord n) (unjoinedFields n) ≡ bare n
 unfolding contentOf tailsOf headsOf alternate bareRecord bare
 bare-says n = refl
 
@@ -104,12 +106,14 @@ bare-broad parts part d w = needs (bare 32) 32 (omega arith) parts part d (λ u 
 pub most : Draws (bareRecord 31) (bare 31)
 unfolding bare givenLines
 most =
-    draws (bareRecord 31) (bareFields 31) (bare 31) (bare-laid 31) (bare-says 31) (bare-sound 31 (omega arith) (omega arith)) 31 (λ v. v)
+    draws (bareRecord 31) (unjoinedFields 31) (bare 31) (bare-laid 31) (bare-says 31) (bare-sound 31 (omega arith) (omega arith)) 31
+    (λ v. v)
     (record { below = λ v h. h; related = λ u v hu hv ne e. absurd (ne e) }) (none-whole 31 (λ v. v)) (omega arith)
 
 pub more-channels : TooBroad (bareRecord 32) (bare 32)
 more-channels =
-    too-broad (bareRecord 32) (bareFields 32) (bare 32) (bare-laid 32) (bare-says 32) (bare-sound 32 (omega arith) (omega arith)) bare-broad
+    too-broad (bareRecord 32) (unjoinedFields 32) (bare 32) (bare-laid 32) (bare-says 32) (bare-sound 32 (omega arith) (omega arith))
+    bare-broad
 
 -- ---- the edge 0→1
 
@@ -135,11 +139,12 @@ along = one (0, omega arith, refl, refl)
 -- sound, with given channels or without
 module _ (given : Bool) (field : List ℕ) where
   abbrev edged : Content
-  edged = content 32 tails heads given field
+  edged = content 32 tails heads given field false []
 
   edge-sound : GivenKnown edged → Once edged → Led edged → Sound edged
   edge-sound k o l = record {
     size = (omega arith, omega arith, omega arith);
+    floors = λ g. absurd (true≢false (sym g));
     ends = λ i h. let z : i ≡ 0 = omega arith in rw z (omega arith, omega arith);
     named = k;
     distinct = λ i j h h′ _ _. omega arith;
@@ -166,10 +171,10 @@ shared u v hu hv ne e = ⊎-elim
     (lt-or-le u v)
 
 abbrev joinedFields : Fields
-joinedFields = record { vertices = 32; edges = 7; count = 1; given = false; lines = 0; size = 0 }
+joinedFields = bareFields 32 7 1
 
 joined-laid : layoutOf joinedRecord ≡ Good joinedFields
-unfolding layoutOf withVertices withEdges afterEdges fieldAt sizeAt joinedRecord
+unfolding layoutOf withVertices withEdges afterEdges withLines afterLines fieldAt sizeAt joinedRecord
 joined-laid = refl
 
 joined-says : contentOf joinedRecord joinedFields ≡ joined
@@ -231,10 +236,10 @@ parted-broad parts part d w =
         x .exact 0 0 1 (omega arith) refl (omega arith) .0 q
 
 abbrev partedFields : Fields
-partedFields = record { vertices = 32; edges = 7; count = 1; given = true; lines = 12; size = 4 }
+partedFields = linedFields 32 7 1 12 4
 
 parted-laid : layoutOf partedRecord ≡ Good partedFields
-unfolding layoutOf withVertices withEdges afterEdges withLines lined fieldAt sizeAt partedRecord
+unfolding layoutOf withVertices withEdges afterEdges withLines afterLines lined fieldAt sizeAt partedRecord
 parted-laid = refl
 
 parted-says : contentOf partedRecord partedFields ≡ parted

@@ -7,8 +7,9 @@ use Rattle.specification.specs.Graph.{Reaches, one, more, edgeCount, Edge, outs
 use Rattle.specification.specs.Graph.{alike?, duplicate?, unsized?}
 use Rattle.specification.specs.declared.Fields.{Fields}
 use Rattle.specification.specs.declared.Layout.the-variants.{Good}
-use Rattle.specification.specs.Layout.{sizeAt, fieldAt, afterEdges, withEdges, withVertices, layoutOf}
-use Rattle.specification.specs.Checks.{content, edgesOf, size?, stranger?, double?, ring?, repeated?, unled?, looseChecks}
+use Rattle.specification.specs.Layout.{bareFields, sizeAt, fieldAt, afterLines, withLines, afterEdges, withEdges, withVertices, layoutOf}
+use Rattle.specification.specs.Checks.{content, edgesOf, size?, unfloored?, floor?, stranger?, double?, ring?, repeated?, unled?}
+use Rattle.specification.specs.Checks.{looseChecks}
 use Rattle.specification.specs.Checks.{laterChecks, firstOf, refusalOf, contentOf, recordRefusal, said}
 use Rattle.counting.proofs.Somes.{some-none}
 use Rattle.counting.proofs.Truth.{and-elim}
@@ -21,7 +22,7 @@ use Rattle.proof_table.specs.Table.{values, pairs, fullTail, fullHead, f
 -- ---- its lists
 
 module _ (f : ℕ → ℕ) where
-  values-long : (n i : ℕ) → length (values f n i) ≡ n
+  pub values-long : (n i : ℕ) → length (values f n i) ≡ n
   unfolding values
   values-long zero i = refl
   values-long (suc n) i = ap suc (values-long n (suc i))
@@ -32,7 +33,7 @@ module _ (f : ℕ → ℕ) where
   values-at (suc n) i zero h = let e : i ≡ i + 0 = omega arith in ap f e
   values-at (suc n) i (suc j) h = let e : suc i + j ≡ i + suc j = omega arith in values-at n (suc i) j (omega arith) ∙ ap f e
 
-  values-from-0 : (n j : ℕ) → j < n → getD (values f n 0) j 0 ≡ f j
+  pub values-from-0 : (n j : ℕ) → j < n → getD (values f n 0) j 0 ≡ f j
   values-from-0 n j h = let e : 0 + j ≡ j = omega arith in values-at n 0 j h ∙ ap f e
 
 module _ (f g : ℕ → ℕ) where
@@ -41,7 +42,7 @@ module _ (f g : ℕ → ℕ) where
   pairs-long zero i = refl
   pairs-long (suc n) i = omega (arith, pairs-long n (suc i))
 
-  pairs-tails : (n i : ℕ) → alternate (pairs f g n i) ≡ values f n i
+  pub pairs-tails : (n i : ℕ) → alternate (pairs f g n i) ≡ values f n i
   unfolding pairs values alternate
   pairs-tails zero i = refl
   pairs-tails (suc n) i = ap (λ l. f i ∷ l) (pairs-tails n (suc i))
@@ -51,7 +52,7 @@ module _ (f g : ℕ → ℕ) where
   after-one x zero i = refl
   after-one x (suc n) i = ap (λ l. x ∷ l) (after-one (g i) n (suc i))
 
-  pairs-heads : (n i : ℕ) → alternate (drop 1 (pairs f g n i)) ≡ values g n i
+  pub pairs-heads : (n i : ℕ) → alternate (drop 1 (pairs f g n i)) ≡ values g n i
   unfolding pairs values alternate
   pairs-heads zero i = refl
   pairs-heads (suc n) i = after-one (g i) n (suc i)
@@ -121,7 +122,7 @@ unfolding ring? full
 ring = some-none 128 (λ u. reachable? 128 tails heads u u) (λ u h. no-loop u)
 
 pub full-accepted : refusalOf full ≡ 0
-unfolding refusalOf firstOf looseChecks laterChecks repeated? unled? full
+unfolding refusalOf firstOf looseChecks laterChecks unfloored? floor? repeated? unled? full
 full-accepted = rw (size, stranger, double, ring)
 
 -- ---- the records
@@ -131,17 +132,17 @@ bytes = pairs fullTail fullHead 4096 0
 
 -- 4,096 edges of n vertices, whatever n is
 abbrev pub full-fields : ℕ → Fields
-full-fields n = record { vertices = n; edges = 7; count = 4096; given = false; lines = 0; size = 0 }
+full-fields n = bareFields n 7 4096
 
 laid-out-with : (n : ℕ) (s : List ℕ) → length s ≡ 8192 → layoutOf (1 ∷ 0 ∷ 1 ∷ n ∷ 2 ∷ 32 ∷ 0 ∷ s) ≡ Good (full-fields n)
-unfolding layoutOf withVertices withEdges afterEdges fieldAt sizeAt
+unfolding layoutOf withVertices withEdges afterEdges withLines afterLines fieldAt sizeAt
 laid-out-with n s h = simp h
 
 pub full-laid-out : (n : ℕ) → layoutOf (recordWith n) ≡ Good (full-fields n)
 unfolding recordWith
 full-laid-out n = laid-out-with n bytes (pairs-long fullTail fullHead 4096 0)
 
-pub full-says : (n : ℕ) → contentOf (recordWith n) (full-fields n) ≡ content n tails heads false []
+pub full-says : (n : ℕ) → contentOf (recordWith n) (full-fields n) ≡ content n tails heads false [] false []
 unfolding contentOf tailsOf headsOf recordWith
 full-says n = rw (pairs-whole fullTail fullHead 4096 0, pairs-tails fullTail fullHead 4096 0, pairs-heads fullTail fullHead 4096 0)
 
@@ -168,10 +169,10 @@ pub more-words : Refused (recordWith 129) 2
 more-words = refused-size (recordWith 129) (full-fields 129) (full-laid-out 129) (rw (full-says 129) (table .more-words _ refl))
 
 abbrev fieldsMore : Fields
-fieldsMore = record { vertices = 128; edges = 7; count = 4097; given = false; lines = 0; size = 0 }
+fieldsMore = bareFields 128 7 4097
 
 laid-out-more : (s : List ℕ) → length s ≡ 8194 → layoutOf (1 ∷ 0 ∷ 1 ∷ 128 ∷ 2 ∷ 32 ∷ 2 ∷ s) ≡ Good fieldsMore
-unfolding layoutOf withVertices withEdges afterEdges fieldAt sizeAt
+unfolding layoutOf withVertices withEdges afterEdges withLines afterLines fieldAt sizeAt
 laid-out-more s h = simp h
 
 -- two bytes and 4,096 edges are 4,097

@@ -1,3 +1,4 @@
 pub mod Full
 pub mod Broad
+mod Tall
 pub mod Table

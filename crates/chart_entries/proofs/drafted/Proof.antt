@@ -5,9 +5,9 @@ use Rattle.chart_entries.proofs.drafted.Tie as tie
 
 returns : tie.Need-returns
 returns c =
-    let prefixes = c .before in
-    let made = prefixes .prefixes .ensures in
-    λ edges table. record { tables = refl; lefts = rw (prefixes .before .before .wide .ensures .0) at (rw (made .0) at (made .1)) }
+    let by-channel = c .before in
+    let made = by-channel .by-channel .ensures in
+    λ edges table. record { tables = refl; lefts = rw (by-channel .before .before .wide .ensures .0) at (rw (made .0) at (made .1)) }
 
 pub drafted-spec : {M : Type 1} → statement M
 drafted-spec =

@@ -1,5 +1,5 @@
 -- `chart_entries::sheet_of_graph` meets its contract: each return by the law of its case (`Sheets.antt`). Assumes nothing.
-use Rattle.chart_entries.proofs.Sheets.{graph-unplanned, vertices-short, edges-short, bundles-short, graph-drafted}
+use Rattle.chart_entries.proofs.Sheets.{graph-unplanned, graph-short, graph-drafted}
 use borrow.Author.Needs.{needs}
 use Rattle.chart_entries.proofs.sheet_of_graph.Statement.{statement}
 use Rattle.chart_entries.proofs.sheet_of_graph.Tie as tie
@@ -12,32 +12,19 @@ returns : tie.Need-returns
 returns c =
     let st = c .before in let planned = st .before .before .before .before .before .before .before .before .before .before .before in
     let q = planned .planned .ensures in
-    graph-unplanned _ _ _ _ _ _ q _ _ _ _ (st .if1 .taken) (c .blank .ensures)
+    graph-unplanned _ _ _ _ _ _ _ _ q _ _ _ _ (st .if1 .taken) (c .blank .ensures)
 
 returns-2 : tie.Need-returns-2
 returns-2 c =
-    let if2 = c .before in let st = if2 .before in
+    let if2 = c .before in let test = if2 .before in let st = test .before in
     let q = planned-of st .planned .ensures in
-    vertices-short _ _ _ _ _ _ q _ _ _ _ (st .if1 .left) (if2 .if2 .taken) (c .blank2 .ensures)
+    graph-short _ _ _ _ _ _ _ _ q _ _ _ _ (st .if1 .left) _ (test .is-short .ensures) (if2 .if2 .taken) (c .blank2 .ensures)
 
 returns-3 : tie.Need-returns-3
 returns-3 c =
-    let if3 = c .before in let st = if3 .before .before in
+    let if2 = c .before in let test = if2 .before in let st = test .before in
     let q = planned-of st .planned .ensures in
-    edges-short _ _ _ _ _ _ q _ _ _ _ (st .if1 .left) (if3 .if3 .taken) (c .blank3 .ensures)
-
-returns-4 : tie.Need-returns-4
-returns-4 c =
-    let if4 = c .before in let st = if4 .before .before .before .before in
-    let q = planned-of st .planned .ensures in
-    bundles-short _ _ _ _ _ _ q _ _ _ _ (st .if1 .left) (if4 .if4 .taken) (c .blank4 .ensures)
-
-returns-5 : tie.Need-returns-5
-returns-5 c =
-    let if4 = c .before in let if3 = if4 .before .before in let if2 = if3 .before in let st = if2 .before in
-    let q = planned-of st .planned .ensures in
-    graph-drafted _ _ _ _ _ _ q _ _ _ _ (st .if1 .left) (if2 .if2 .left)
-    (if3 .if3 .left) (if4 .if4 .left) (c .drafted .ensures _ _)
+    graph-drafted _ _ _ _ _ _ _ _ q _ _ _ _ (st .if1 .left) _ (test .is-short .ensures) (if2 .if2 .left) (c .drafted .ensures _ _)
 
 pub sheet-of-graph-spec : {M : Type 1} → statement M
 sheet-of-graph-spec =
@@ -56,10 +43,7 @@ sheet-of-graph-spec =
     (λ c κs. search needs)
     returns
     (λ c κs. search needs)
+    (λ c κs. search needs)
     returns-2
     (λ c κs. search needs)
-    returns-3
-    (λ c κs. search needs)
-    returns-4
-    (λ c κs. search needs)
-    returns-5)
+    returns-3)

@@ -27,7 +27,7 @@ returns : tie.Need-returns
 returns c =
     let enum-told = c .before in
     let bad = case-layout _ _ _ (enum-told .before .before .layout-of .ensures) (enum-told .enum-told .given .1) in
-    refused-sheet _ _ _ _ _ _ _ (record-bad _ bad) (c .blank .ensures)
+    refused-sheet _ _ _ _ _ _ _ _ (record-bad _ bad) (c .blank .ensures)
 
 mul-to : tie.Need-mul-to
 mul-to c =
@@ -50,15 +50,25 @@ add-end c =
     let known = start-of layout .good .0 in
     record { fits = omega arith }
 
+add-high : tie.Need-add-high
+add-high c =
+    let layout = c .before .before .before .before in
+    let k = laid layout in
+    let known = start-of layout .good .0 in
+    record { fits = omega arith }
+
 part-sheet-of-graph-end : tie.Need-part-sheet-of-graph-end
-part-sheet-of-graph-end c = let k = laid (c .before .before .before) in omega arith
+part-sheet-of-graph-end c = let k = laid (c .before .before .before .before) in omega arith
 
 part-sheet-of-graph-end-2 : tie.Need-part-sheet-of-graph-end-2
-part-sheet-of-graph-end-2 c = let k = laid (c .before .before .before .before) in omega arith
+part-sheet-of-graph-end-2 c = let k = laid (c .before .before .before .before .before) in omega arith
+
+part-sheet-of-graph-end-3 : tie.Need-part-sheet-of-graph-end-3
+part-sheet-of-graph-end-3 c = let k = laid (c .before .before .before .before .before .before) in omega arith
 
 returns-2 : tie.Need-returns-2
 returns-2 c =
-    let layout = c .before .before .before .before .before .before in
+    let layout = c .before .before .before .before .before .before .before .before in
     record-sheet _ _ (good layout) _ _ _ _ (c .sheet-of-graph .ensures)
 
 pub sheet-of-record-spec : {M : Type 1} → statement M
@@ -73,11 +83,15 @@ sheet-of-record-spec =
     mul-to
     add-to
     add-end
+    add-high
     (λ c. search needs)
     (λ c. search needs)
     part-sheet-of-graph-end
     (λ c. search needs)
     (λ c. search needs)
     part-sheet-of-graph-end-2
+    (λ c. search needs)
+    (λ c. search needs)
+    part-sheet-of-graph-end-3
     (λ c κs. search needs)
     returns-2)

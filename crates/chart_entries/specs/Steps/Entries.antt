@@ -1,4 +1,4 @@
--- The entries of the lists, by a sheet and the ends of the edges. Assumes nothing.
+-- The entries of the lists, by a sheet, the ends of the edges and the floors. Assumes nothing.
 use mathlib.Core.Bool.{Bool, not}
 use mathlib.Core.List.{List}
 use Prim.Native.Nat.{ℕ, _+_, _*_, min}
@@ -13,13 +13,15 @@ use Rattle.reduction.specs.Reduction.{transitiveIn?}
 use Rattle.kinds.specs.Kinds.{kindAmong}
 use Rattle.chart_entries.specs.declared.Sheet.{Sheet}
 
-unfoldable pub vertexAt : Sheet → ℕ → VertexEntry
-vertexAt d v = record {
+-- a vertex past the last floor has 0
+unfoldable pub vertexAt : Sheet → List ℕ → ℕ → VertexEntry
+vertexAt d floors v = record {
   channel = quad 0 (d .places) v;
   position = quad 1 (d .places) v;
   column = getD (d .column) v 0;
   row = quad 2 (d .places) v;
   descendants = quad 3 (d .places) v;
+  floor = getD floors v 0;
 }
 
 -- of the edge from u to v, by tables of the vertices; the bundle of the edges into v is at 2 v, that of the edges out of u at 2 u + 1

@@ -12,7 +12,7 @@ made c =
 
 abbrev start : tie.After-planned → tie.Start
 start c =
-    let lent = c .before .before .before .before .before .before .before .before .before .before in
+    let lent = c .before .before .before .before .before .before .before .before .before .before .before in
     lent .before .before .before .before .before .before .before .before .before .before .before .before .before .before
 
 abbrev handed : tie.After-slice-known26 → tie.After-hand-over
@@ -51,11 +51,11 @@ drawn-spec =
     (λ c. handed c .hand-over .kept .1 .1 .0)
     (λ c. plan c .planned .ensures .long .edges)
     (λ c. plan c .planned .ensures .long .below)
-    (λ c. handed c .hand-over .kept .1 .1 .1 .1 .1 .1 .0 ∙ plan c .planned .ensures .long .table)
+    (λ c. handed c .hand-over .kept .1 .1 .1 .1 .1 .1 .1 .1 .0 ∙ plan c .planned .ensures .long .table)
     (λ c. plan c .planned .ensures .long .longer)
     (λ c. plan c .planned .ensures .long .places)
     (λ c. plan c .planned .ensures .long .spans)
     (λ c. plan c .planned .ensures .long .number)
     (λ c. plan c .planned .ensures .long .column)
-    (λ c. handed c .hand-over .kept .1 .1 .1 .1 .1 .1 .1 .1 .1 .1 .1 .0 ∙ plan c .planned .ensures .long .used)
+    (λ c. handed c .hand-over .kept .1 .1 .1 .1 .1 .1 .1 .1 .1 .1 .1 .1 .1 .0 ∙ plan c .planned .ensures .long .used)
     returns)

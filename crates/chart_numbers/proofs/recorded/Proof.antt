@@ -14,8 +14,8 @@ use Rattle.chart_numbers.proofs.recorded.Tie as tie
 abbrev layout-of : tie.After-struct-known → tie.After-layout
 layout-of c = c .before .before
 
-abbrev struct-known-of : tie.After-graphed-arg6 → tie.After-struct-known
-struct-known-of c = c .before .before .before .before .before .before .before
+abbrev struct-known-of : tie.After-graphed-arg7 → tie.After-struct-known
+struct-known-of c = c .before .before .before .before .before .before .before .before .before
 
 -- from where the record's parts are known back to the start
 abbrev start : tie.After-struct-known → tie.Start
@@ -51,11 +51,19 @@ add-end c =
     let struct-known = c .before in
     let k = laid struct-known in let known = start struct-known .good .0 in record { fits = omega arith }
 
+add-high : tie.Need-add-high
+add-high c =
+    let struct-known = c .before .before in
+    let k = laid struct-known in let known = start struct-known .good .0 in record { fits = omega arith }
+
 part-graphed-end : tie.Need-part-graphed-end
-part-graphed-end c = let k = laid (c .before) in omega arith
+part-graphed-end c = let k = laid (c .before .before) in omega arith
 
 part-graphed-end-2 : tie.Need-part-graphed-end-2
-part-graphed-end-2 c = let k = laid (c .before .before) in omega arith
+part-graphed-end-2 c = let k = laid (c .before .before .before) in omega arith
+
+part-graphed-end-3 : tie.Need-part-graphed-end-3
+part-graphed-end-3 c = let k = laid (c .before .before .before .before) in omega arith
 
 graphed-requires : tie.Need-graphed-requires
 graphed-requires c κs = cleared-length 0 _ 128 (start (struct-known-of c) .pre)
@@ -77,12 +85,16 @@ recorded-spec =
     mul-to
     add-to
     add-end
+    add-high
     (λ c. search needs)
     (λ c. search needs)
     part-graphed-end
     (λ c. search needs)
     (λ c. search needs)
     part-graphed-end-2
+    (λ c. search needs)
+    (λ c. search needs)
+    part-graphed-end-3
     graphed-requires
     (λ c. search needs)
     (λ c. search needs)

@@ -1,8 +1,10 @@
 -- The entries that tables have. Assumes nothing.
+use mathlib.Core.Bool.{Bool}
 use mathlib.Core.List.{List}
 use Prim.Native.Nat.{ℕ, _+_, _*_, _≤_, _<_}
 use lib.ListN.{length, getD}
 use Rattle.counting.specs.Quads.{quad}
+use Rattle.specification.specs.Checks.{floorAt}
 use Rattle.specification.specs.Limits.{mostVertices, mostEdges}
 use Rattle.specification.specs.declared.Kind.{Kind}
 use Rattle.specification.specs.declared.VertexEntry.{VertexEntry}
@@ -11,13 +13,14 @@ use Rattle.specification.specs.declared.BundleEntry.{BundleEntry}
 use Rattle.reduction.specs.Reduction.{transitiveIn?}
 use Rattle.kinds.specs.Kinds.{kindAmong}
 
-unfoldable pub wordFrom : List ℕ → List ℕ → ℕ → VertexEntry
-wordFrom places column v = record {
+unfoldable pub wordFrom : List ℕ → List ℕ → Bool → List ℕ → ℕ → VertexEntry
+wordFrom places column floored floors v = record {
   channel = quad 0 places v;
   position = quad 1 places v;
   column = getD column v 0;
   row = quad 2 places v;
   descendants = quad 3 places v;
+  floor = floorAt floored floors v;
 }
 
 unfoldable pub bundleFrom : List ℕ → ℕ → BundleEntry

@@ -6,7 +6,7 @@ use Rattle.chart_plan.proofs.planned.Tie as tie
 
 -- the places that facts are read from
 abbrev start-of : tie.After-capped → tie.Start
-start-of c = c .before .before .before .before .before .before .before .before .before .before .before .before
+start-of c = c .before .before .before .before .before .before .before .before .before .before .before .before .before
 
 abbrev check-of : tie.Else2 → tie.After-check
 check-of c = c .before .before .before .before .before .before .before .before .before .before .before .before
@@ -31,15 +31,16 @@ fine : (k : tie.After-check) → tested (start-of (else1-of k .before .before) .
 fine k =
     let cut = else1-of k in
     let room = cut .before in
-    tested-so _ (lent-to k) (room .before .capped .ensures) (room .is-roomy .ensures) (not-false _ (cut .if1 .left))
+    tested-so _ true (lent-to k) (room .before .capped .ensures) (room .is-roomy .ensures) (not-false _ (cut .if1 .left))
 
 returns : tie.Need-returns
 returns c =
     let cut = c .before in
     let room = cut .before in
     let st = start-of (room .before) in
-    cramped-plan (st .args .n) (lent st) _ _ _
-    (tested-so (st .args .n) (lent st) (room .before .capped .ensures) (room .is-roomy .ensures) (not-true _ (cut .if1 .taken))) _
+    cramped-plan (st .args .n) (st .args .floored) (lent st) _ _ _ _
+    (tested-so (st .args .n) (st .args .floored) (lent st) (room .before .capped .ensures) (room .is-roomy .ensures)
+    (not-true _ (cut .if1 .taken))) _
     (c .unplanned .ensures)
 
 returns-2 : tie.Need-returns-2

@@ -8,40 +8,41 @@ use Rattle.chart_numbers.proofs.entries.put_words.Statement.{statement}
 use Rattle.chart_numbers.proofs.entries.put_words.Tie as tie
 
 abbrev Inv-loop : tie.InvT-loop
-Inv-loop out₀ places column n v₀ out v =
-    (v ≤ n) × (out ≡ entered 5 (λ w. wordNumber (wordFrom places column w)) out₀ v)
+Inv-loop out₀ places column floored floors n v₀ out v =
+    (v ≤ n) × (out ≡ entered 6 (λ w. wordNumber (wordFrom places column floored floors w)) out₀ v)
 
 abbrev μ-loop : tie.MeasureT-loop
-μ-loop out₀ places column n v₀ out v = n - v
+μ-loop out₀ places column floored floors n v₀ out v = n - v
 
 -- the places that facts are read from
-abbrev head-of : tie.After-shared-slice-known6 Inv-loop μ-loop → tie.At-loop Inv-loop μ-loop
+abbrev head-of : tie.After-shared-slice-known7 Inv-loop μ-loop → tie.At-loop Inv-loop μ-loop
 head-of c = c .before .before .before .before .before .before
 
 loop-holds : tie.Need-loop-holds Inv-loop μ-loop
 loop-holds c = (omega arith, entered-none _ _ _)
 
-cast-put-five : tie.Need-cast-put-five Inv-loop μ-loop
-cast-put-five c = let fit = c .shared-slice-known3 .given (4 * c .before .before .before .loop .v) .fits in record { fits = omega arith }
+cast-put-six : tie.Need-cast-put-six Inv-loop μ-loop
+cast-put-six c = let fit = c .shared-slice-known4 .given (4 * c .before .before .before .loop .v) .fits in record { fits = omega arith }
 
-cast-put-five-2 : tie.Need-cast-put-five-2 Inv-loop μ-loop
-cast-put-five-2 c =
-    let fit = c .shared-slice-known4 .given (4 * c .before .before .before .before .loop .v + 1) .fits in record { fits = omega arith }
+cast-put-six-2 : tie.Need-cast-put-six-2 Inv-loop μ-loop
+cast-put-six-2 c =
+    let fit = c .shared-slice-known5 .given (4 * c .before .before .before .before .loop .v + 1) .fits in record { fits = omega arith }
 
-cast-put-five-3 : tie.Need-cast-put-five-3 Inv-loop μ-loop
-cast-put-five-3 c = let fit = c .shared-slice-known6 .given (4 * head-of c .loop .v + 2) .fits in record { fits = omega arith }
+cast-put-six-3 : tie.Need-cast-put-six-3 Inv-loop μ-loop
+cast-put-six-3 c = let fit = c .shared-slice-known7 .given (4 * head-of c .loop .v + 2) .fits in record { fits = omega arith }
 
-cast-put-five-4 : tie.Need-cast-put-five-4 Inv-loop μ-loop
-cast-put-five-4 c = let fit = c .shared-slice-known7 .given (4 * head-of (c .before) .loop .v + 3) .fits in record { fits = omega arith }
+cast-put-six-4 : tie.Need-cast-put-six-4 Inv-loop μ-loop
+cast-put-six-4 c = let fit = c .shared-slice-known8 .given (4 * head-of (c .before) .loop .v + 3) .fits in record { fits = omega arith }
 
-put-five-requires : tie.Need-put-five-requires Inv-loop μ-loop
-put-five-requires c κs = omega (arith, entered-long _ _ _ _ _ (head-of (c .before) .loop .inv .1))
+put-six-requires : tie.Need-put-six-requires Inv-loop μ-loop
+put-six-requires c κs = omega (arith, entered-long _ _ _ _ _ (head-of (c .before .before) .loop .inv .1))
 
 loop-again : tie.Need-loop-again Inv-loop μ-loop
 loop-again c =
-    let put-five = c .before .before in (
+    let put-six = c .before .before in (
       omega arith,
-      entered-more _ _ _ _ _ _ (head-of (put-five .before .before) .loop .inv .1) (put-five .put-five .ensures ∙ word-stored _ _ _ _),
+      entered-more _ _ _ _ _ _ (head-of (put-six .before .before .before) .loop .inv .1)
+          (put-six .put-six .ensures ∙ word-stored _ _ _ _ _ _ _ (put-six .before .floor-at .ensures)),
     )
 
 same-length : tie.Need-same-length Inv-loop μ-loop
@@ -60,22 +61,23 @@ put-words-spec =
     (λ c. search needs)
     (λ c. search needs)
     (λ c. search needs)
-    cast-put-five
+    cast-put-six
     (λ c. search needs)
     (λ c. search needs)
     (λ c. search needs)
-    cast-put-five-2
+    cast-put-six-2
     (λ c. search needs)
     (λ c. search needs)
     (λ c. search needs)
     (λ c. search needs)
     (λ c. search needs)
-    cast-put-five-3
+    cast-put-six-3
     (λ c. search needs)
     (λ c. search needs)
     (λ c. search needs)
-    cast-put-five-4
-    put-five-requires
+    cast-put-six-4
+    (λ c κs. search needs)
+    put-six-requires
     (λ c. search needs)
     (λ c. search needs)
     loop-again

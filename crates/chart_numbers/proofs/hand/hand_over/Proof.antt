@@ -22,7 +22,7 @@ else1-of c = c .before .before .before .before .before .before .before .before .
 -- ---- what is accepted
 
 abbrev start : tie.Else1 → tie.Start
-start c = c .before .before .before .before .before .before .before .before .before .before .before .before .before .before
+start c = c .before .before .before .before .before .before .before .before .before .before .before .before .before .before .before
 
 -- the lists of the plan, with the two that are not read
 abbrev planned : tie.Start → List ℕ → List ℕ → Lists
@@ -31,30 +31,32 @@ planned st edges table =
     lists edges (a .below .now) table (a .longer .now) (a .places .now) (a .spans .now) (a .number .now) (a .used .now) (a .column .now)
 
 whole : (c : tie.Else1) → let a = start c .args in
-    (a .p .refusal ≡ 0) × (a .n ≤ length (a .words .now) / 5) × (length (a .ends .now) / 2 ≤ length (a .arrows .now) / 5)
+    (a .p .refusal ≡ 0) × (a .n ≤ length (a .words .now) / 6) × (length (a .ends .now) / 2 ≤ length (a .arrows .now) / 5)
     × (a .p .bundles ≤ length (a .bundles .now) / 4)
 whole c =
     let a = start c .args in
-    told-whole (a .p .refusal) (a .n) (length (a .ends .now) / 2) (a .p .bundles) (length (a .words .now) / 5) (length (a .arrows .now) / 5)
+    told-whole (a .p .refusal) (a .n) (length (a .ends .now) / 2) (a .p .bundles) (length (a .words .now) / 6) (length (a .arrows .now) / 5)
     (length (a .bundles .now) / 4) _ (c .before .refusal-of .ensures) (c .if1 .left)
 
 laid : (c : tie.Else1) → let a = start c .args in let q = start c .pre in
-    Laid (graphContent (a .n) (a .ends .now) (q .given) (q .field)) (a .p) (planned (start c) (q .planned .edges) (q .planned .table))
+    Laid (graphContent (a .n) (a .ends .now) (q .given) (q .field) (a .floored) (a .floors .now)) (a .p)
+    (planned (start c) (q .planned .edges) (q .planned .table))
 laid c = start c .pre .planned .laid (whole c .0)
 
 words-ready : (c : tie.Else1) → let a = start c .args in
     (a .n ≤ 128) × (4 * a .n ≤ length (a .places .now)) × (a .n ≤ length (a .column .now))
-words-ready c = words-fit _ _ _ _ _ _ (laid c)
+words-ready c = words-fit _ _ _ _ _ _ _ _ (laid c)
 
 -- ---- the needs
 
 returns : tie.Need-returns
 returns c =
     let clear = clear-of c in let if1 = clear .before .before in let told = if1 .before in
-    let st = told .before .before .before .before .before .before .before .before .before .before .before .before .before in
+    let st = told .before .before .before .before .before .before .before .before .before .before .before .before .before .before in
     let a = st .args in
     λ given field q.
-    call-refused (a .n) (a .ends .now) given field (a .p) (planned st (q .edges) (q .table)) (q .answer) (q .laid) (a .words .now)
+    call-refused (a .n) (a .ends .now) given field (a .floored) (a .floors .now) (a .p) (planned st (q .edges) (q .table)) (q .answer)
+    (q .laid) (a .words .now)
     (a .arrows .now) (a .bundles .now) _ (told .refusal-of .ensures) (if1 .if1 .taken) _ _
     (c .refused .ensures) (clear .clear .ensures ∙ ap (λ (k : ℕ). replicate k 0) (st .pre .used-long))
 
@@ -67,12 +69,12 @@ put-words-requires c κs =
 put-arrows-requires : tie.Need-put-arrows-requires
 put-arrows-requires c κs =
     let e = else1-of (c .before) in
-    (omega (arith, whole e .2), ready _ _ _ _ _ _ (laid e) _)
+    (omega (arith, whole e .2), ready _ _ _ _ _ _ _ _ (laid e) _)
 
 put-bundles-requires : tie.Need-put-bundles-requires
 put-bundles-requires c κs =
     let put-arrows-arg2 = c .before .before .before .before .before in let e = else1-of put-arrows-arg2 in
-    let f = bundles-fit _ _ _ _ _ _ (laid e) in
+    let f = bundles-fit _ _ _ _ _ _ _ _ (laid e) in
     (f .0, omega (arith, whole e .3), f .1)
 
 -- where all is done, back to the calls
@@ -95,11 +97,14 @@ returns-2 c =
     (made .before .before .wide .ensures .0) (made .make-left .ensures .0) in
     λ given field q.
     let t : Lists = planned st (q .edges) (q .table) in
-    call-left (a .n) (a .ends .now) given field (a .p) t (q .answer) (q .laid) (a .words .now) (a .arrows .now) (a .bundles .now) _
+    call-left (a .n) (a .ends .now) given field (a .floored) (a .floors .now) (a .p) t (q .answer) (q .laid) (a .words .now)
+    (a .arrows .now) (a .bundles .now) _
     (e .before .refusal-of .ensures) (e .if1 .left) _ _ _ _ refl
-    (charted (a .n) (a .ends .now) given field (a .p) t (q .laid (whole e .0)) _ (length (a .left .now)) (st .pre .left-room) left
+    (charted (a .n) (a .ends .now) given field (a .floored) (a .floors .now) (a .p) t (q .laid (whole e .0)) _ (length (a .left .now))
+    (st .pre .left-room) left
     (a .words .now) (a .arrows .now) (a .bundles .now) _ _ _ _ (st .pre .used-long) (vertices c .put-words .ensures)
-    (passed (a .n) (a .ends .now) given field (a .p) t (q .laid (whole e .0)) _ (length (a .left .now)) (st .pre .left-room) left
+    (passed (a .n) (a .ends .now) given field (a .floored) (a .floors .now) (a .p) t (q .laid (whole e .0)) _ (length (a .left .now))
+    (st .pre .left-room) left
     (a .arrows .now) _ _ (omega (arith, whole e .2)) (edges c .put-arrows .ensures)) (c .before .before .put-bundles .ensures))
 
 pub hand-over-spec : {M : Type 1} → statement M
