@@ -18,10 +18,10 @@ pub record Refused (ws es bs : List ℕ) (r : ChartCounts) (ws′ es′ bs′ : 
 
 module _ (d : Drawn) (ok : Sound d) where
   pub refused-untouched : (ws ws′ es es′ bs bs′ : List ℕ) (r : ChartCounts)
-      → Left (lent (length ws / 5) (length es / 5) (length bs / 4) d) ws es bs r ws′ es′ bs′ → (r .refusal ≡ 0 → ⊥)
+      → Left (lent (length ws / 6) (length es / 5) (length bs / 4) d) ws es bs r ws′ es′ bs′ → (r .refusal ≡ 0 → ⊥)
       → Refused ws es bs r ws′ es′ bs′
   refused-untouched ws ws′ es es′ bs bs′ r h ne =
-      let none = lent-quiet d ok (length ws / 5) (length es / 5) (length bs / 4) (λ z. ne (h .refusal ∙ z)) in
+      let none = lent-quiet d ok (length ws / 6) (length es / 5) (length bs / 4) (λ z. ne (h .refusal ∙ z)) in
       let l = subst (λ (c : Content). Numbered c (planOf c) ws es bs r ws′ es′ bs′) none (h .numbered) in
       record {
         word-list = untouched _ _ _ _ refl (l .word-list);

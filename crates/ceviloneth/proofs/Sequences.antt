@@ -5,16 +5,16 @@ use Rattle.counting.proofs.Prelude.{zero, suc, _<_, getD}
 use Rattle.specification.specs.Machine.{Call, Answer, Graph, step, run, answers}
 use Rattle.specification.specs.Graph.{sizeRefusal}
 use Rattle.editing.specs.Promise.{replyAnswer, changeAnswer}
-use Rattle.specification.specs.Connection.{connectionNumber}
-use Rattle.specification.specs.declared.Connection.{Connection}
-use Rattle.specification.specs.declared.Connection.the-variants.{Unreached, EdgeOnly, LongerOnly, Both}
+use Rattle.specification.specs.Connection.{numbered}
+use Rattle.specification.proofs.Cases.{connection-told}
+use Rattle.specification.specs.declared.Connection.the-variants.{Unreached}
 use Rattle.specification.specs.declared.Reply.{Reply}
 use Rattle.specification.specs.declared.Leading.{Leading}
 use Rattle.ceviloneth.specs.State.{sessionOf, Starts, Tells}
 use Rattle.editing.specs.Meaning.{Asks}
 use Rattle.editing.proofs.Meaning.{leads-asks}
 use Rattle.specification.specs.Asked.{replyBy, leadingOf}
-use Rattle.ceviloneth.specs.Calls.{Called, Calls, LentCall, LentAnswer, startAnswer, numbered, Life, begun, lifeStep, lifeRun, Right}
+use Rattle.ceviloneth.specs.Calls.{Called, Calls, LentCall, LentAnswer, startAnswer, Life, begun, lifeStep, lifeRun, Right}
 use Rattle.ceviloneth.specs.Calls.{AllRight, Spells, Lived, Short}
 use Rattle.ceviloneth.specs.Calls.Called.{adds, asks, starts}
 use Rattle.ceviloneth.specs.Calls.Calls.{done, next}
@@ -23,17 +23,10 @@ use Rattle.specification.specs.Lent.{Untouched}
 use Rattle.editing.proofs.Machines.{leads-kept}
 use Rattle.ceviloneth.proofs.Changing.{short, whole}
 
-number-back : (a : Connection) → numbered (connectionNumber a) ≡ a
-unfolding numbered
-number-back Unreached = refl
-number-back EdgeOnly = refl
-number-back LongerOnly = refl
-number-back Both = refl
-
 answered : (r : Leading) (a : Reply) → r ≡ leadingOf a
     → replyAnswer (r .refusal) (numbered (r .leads)) ≡ replyAnswer (a .refusal) (a .connection)
 answered r a e =
-    ap (λ (x : Leading). replyAnswer (x .refusal) (numbered (x .leads))) e ∙ ap (replyAnswer (a .refusal)) (number-back (a .connection))
+    ap (λ (x : Leading). replyAnswer (x .refusal) (numbered (x .leads))) e ∙ ap (replyAnswer (a .refusal)) (connection-told (a .connection))
 
 -- a start that is answered with k: 0, and the list spells a fresh session; else it is as it was, and so is the life
 begins : (l : Life) (s t : List ℕ) (n r k : ℕ) → Spells l s → Starts s n r t → r ≡ k → Spells (begun l n k) t

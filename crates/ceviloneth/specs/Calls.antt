@@ -6,8 +6,7 @@ use lib.ListN.{length, getD, replicate}
 use Rattle.specification.specs.Graph.{sizeRefusal}
 use Rattle.specification.specs.Machine.{Graph, Call, Answer, step, fresh}
 use Rattle.specification.specs.Lent.{Untouched}
-use Rattle.specification.specs.declared.Connection.{Connection}
-use Rattle.specification.specs.declared.Connection.the-variants.{Unreached, EdgeOnly, LongerOnly, Both}
+use Rattle.specification.specs.Connection.{numbered}
 use Rattle.specification.specs.declared.Leading.{Leading}
 use Rattle.editing.specs.Promise.{Represents, changeAnswer, replyAnswer}
 use Rattle.ceviloneth.specs.State.{stateNumbers, sessionOf, Starts, Adds, Tells}
@@ -27,13 +26,6 @@ pub data LentAnswer : Type 0 where
 unfoldable pub startAnswer : ℕ → LentAnswer
 startAnswer zero = LentAnswer.started
 startAnswer (suc k) = LentAnswer.says (Answer.refused (suc k))
-
--- the answer that a number stands for
-unfoldable pub numbered : ℕ → Connection
-numbered zero = Unreached
-numbered (suc zero) = EdgeOnly
-numbered (suc (suc zero)) = LongerOnly
-numbered (suc (suc (suc k))) = Both
 
 -- ---- what the calls do, each by a result that meets its promise
 

@@ -22,7 +22,7 @@ use state::session_of;
 use state::told;
 use strokes::stroke_of;
 
-const VERSION: u32 = 4;
+const VERSION: u32 = 5;
 
 // The version of the interface, so that an app can refuse a library that was made by another header.
 #[no_mangle]
@@ -32,10 +32,10 @@ pub extern "C" fn ceviloneth_version() -> u32
     VERSION
 }
 
-// The chart of a record into three lists. A word has five numbers: line, position, column, row, descendants; an arrow five: its number, its
-// kind (0 spine, 1 side, 2 straight, 3 bent), the bundle or the bend's column, the bend's row, 1 if implied; a bundle four: line, the
-// first and the last row, side column (SPECIFICATION.md, 9.4). Refused with 1 to 7 as the record is, with 11 where it has more than 31
-// lines, and then with 8 where a list has no room for all its entries. Numbers past the last entry stay.
+// The chart of a record into three lists. A word has six numbers: line, position, column, row, descendants, floor; an arrow five: its
+// number, its kind (0 spine, 1 side, 2 straight, 3 bent), the bundle or the bend's column, the bend's row, 1 if implied; a bundle four:
+// line, the first and the last row, side column (SPECIFICATION.md, 9.4). Refused with 1, 2, 12 and 3 to 7 as the record is, with 11 where
+// it has more than 31 lines, and then with 8 where a list has no room for all its entries. Numbers past the last entry stay.
 #[no_mangle]
 pub extern "C" fn ceviloneth_chart(
     bytes: &[u8],
@@ -49,7 +49,7 @@ pub extern "C" fn ceviloneth_chart(
 }
 
 // How one word of a record leads to another: 0 not at all, 1 by an arrow only, 2 by longer routes (two arrows or more) only, 3 by both.
-// Refused with 1 to 7 as the record is, and with 3 where one of the two is no word of it; a record whose chart is broad is answered for.
+// Refused with 1, 2, 12 and 3 to 7 as the record is, and with 3 where one of the two is no word of it; a record whose chart is broad is answered for.
 #[no_mangle]
 pub extern "C" fn ceviloneth_leads(bytes: &[u8], from: usize, to: usize) -> Leading
     ensures { λ r. ⌜ r ≡ leadingOf (asked (now (bytes .entry)) from to) ⌝ }

@@ -1,16 +1,17 @@
 -- The number that is answered of a graph is that of the first check that fails, with 'broad' before 'short'. Assumes nothing.
-use Rattle.counting.proofs.Prelude.{_≡_, refl, sym, ap, _∙_, subst, _↔_, _⊎_, inl, inr, ⊎-elim, Bool, true, false, true≢false}
+use Rattle.counting.proofs.Prelude.{_≡_, refl, sym, ap, _∙_, subst, _↔_, _≢_, _⊎_, inl, inr, ⊎-elim, Bool, true, false, true≢false}
 use Rattle.counting.proofs.Prelude.{ℕ, suc, _≤_, _<_, arith, length, getD, eq-eqb, ltb-false, List·getD-eq-default}
 use native.Mathlib.Decide.{ℕ-discrete}
 use Rattle.counting.proofs.Truth.{true-or-false, lt-or-le}
 use Rattle.counting.proofs.Falsity.{not-true}
 use Rattle.specification.specs.Limits.{mostVertices, mostEdges, mostBundles, mostChannels}
-use Rattle.specification.specs.Checks.{Content, connectionIn, givenLine, size?, stranger?, double?, ring?, repeated?, unled?}
+use Rattle.specification.specs.Checks.{Content, connectionIn, givenLine, size?, floor?, Floored, stranger?, double?, ring?, repeated?}
+use Rattle.specification.specs.Checks.{unled?}
 use Rattle.specification.specs.Checks.{looseChecks, laterChecks, firstOf, refusalOf, Sized, Distinct, Acyclic, Once, Led, Sound}
 use Rattle.specification.specs.Chart.{channelsOf, planOf, tracksIn}
 use Rattle.specification.specs.Drawn.{broad?, chartRefusal, Drawn, judged, short?, lent, Summary}
 use Rattle.specification.specs.declared.ChartCounts.{ChartCounts}
-use Rattle.record.proofs.Soundness.{size-says, stranger-says, double-says, ring-says, cover-says, led-says, sound-accepted}
+use Rattle.record.proofs.Soundness.{size-says, floor-says, stranger-says, double-says, ring-says, cover-says, led-says, sound-accepted}
 use Rattle.record.proofs.Soundness.{content-means, unled-lacks}
 use Rattle.reach.proofs.Connecting.{unled-number}
 use Rattle.demands.specs.Leading.{Unled}
@@ -21,7 +22,7 @@ use Rattle.chart_plan.proofs.Refusals.{lent-quiet, lent-eight, lent-refused, dr
 use Rattle.chart_plan.proofs.Refusals as plan
 use Rattle.demands.specs.Demands.{Entries, Faithful, Roomy, seen, Smallest, Carried}
 use Rattle.demands.specs.Refusals.{Known, Fails, Broad, Answered, Told, Narrow}
-use Rattle.demands.specs.Refusals.Fails.{size, stranger, double, ring, cover, broken}
+use Rattle.demands.specs.Refusals.Fails.{size, floor, stranger, double, ring, cover, broken}
 use Rattle.demands.specs.Refusals.Answered.{accepted, failed, broad, short}
 use Rattle.demands.proofs.Accepting.{Handed, roomy, roomy-enough, call-accepted, drawn-whole, call-summary}
 use Rattle.demands.proofs.Accepting.{call-faithful, call-smallest}
@@ -57,65 +58,80 @@ module _ (c : Content) where
 -- ---- a graph is sound, or a check is the first that fails
 
 module _ (c : Content) where
-  pub sound-parts : Sound c ↔ (Sized c × Known c × Distinct c × Acyclic c × Once c × Led c)
+  pub sound-parts : Sound c ↔ (Sized c × Floored c × Known c × Distinct c × Acyclic c × Once c × Led c)
   sound-parts = (
-    (λ s. (s .size, (s .ends, s .named), s .distinct, s .acyclic, s .once, s .led)),
-    λ p. record { size = p .0; ends = p .1 .0; named = p .1 .1; distinct = p .2; acyclic = p .3; once = p .4; led = p .5 },
+    (λ s. (s .size, s .floors, (s .ends, s .named), s .distinct, s .acyclic, s .once, s .led)),
+    λ p. record {
+      size = p .0;
+      floors = p .1;
+      ends = p .2 .0;
+      named = p .2 .1;
+      distinct = p .3;
+      acyclic = p .4;
+      once = p .5;
+      led = p .6;
+    },
   )
 
   first : Sound c ⊎ ((k : ℕ) × Fails c k)
   first =
       next (size? c) (size-says c) (λ n. inr (2, size n)) λ z.
-      next (stranger? c) (stranger-says c) (λ n. inr (3, stranger z n)) λ k.
-      next (double? c) (double-says c) (λ n. inr (4, double z k n)) λ d.
-      next (ring? c) (ring-says c z k) (λ n. inr (5, ring z k d n)) λ a.
-      next (repeated? c) (cover-says c) (λ n. inr (6, cover z k d a n)) λ o.
-      told (unled? c) (λ t. inr (7, broken z k d a o (unled-found c t))) λ f.
-      let l = led-says c z k .0 f in
-      inl (sound-parts .1 (z, k, d, a, o, l))
+      next (floor? c) (floor-says c) (λ n. inr (12, floor z n)) λ f.
+      next (stranger? c) (stranger-says c) (λ n. inr (3, stranger z f n)) λ k.
+      next (double? c) (double-says c) (λ n. inr (4, double z f k n)) λ d.
+      next (ring? c) (ring-says c z k) (λ n. inr (5, ring z f k d n)) λ a.
+      next (repeated? c) (cover-says c) (λ n. inr (6, cover z f k d a n)) λ o.
+      told (unled? c) (λ t. inr (7, broken z f k d a o (unled-found c t))) λ u.
+      let l = led-says c z k .0 u in
+      inl (sound-parts .1 (z, f, k, d, a, o, l))
 
-  fails-number : {k : ℕ} → Fails c k → (refusalOf c ≡ k) × (0 < k) × (k < 8)
+  -- none of them is 0, 8 or 11
+  abbrev Early : ℕ → Type 0
+  Early k = (0 < k) × (k ≢ 8) × (k ≢ 11)
+
+  fails-early : {k : ℕ} → Fails c k → Early k
+  fails-early (size n) = (omega arith, (λ e. omega arith), λ e. omega arith)
+  fails-early (floor z n) = (omega arith, (λ e. omega arith), λ e. omega arith)
+  fails-early (stranger z f n) = (omega arith, (λ e. omega arith), λ e. omega arith)
+  fails-early (double z f k n) = (omega arith, (λ e. omega arith), λ e. omega arith)
+  fails-early (ring z f k d n) = (omega arith, (λ e. omega arith), λ e. omega arith)
+  fails-early (cover z f k d a n) = (omega arith, (λ e. omega arith), λ e. omega arith)
+  fails-early (broken z f k d a o n) = (omega arith, (λ e. omega arith), λ e. omega arith)
+
+  fails-number : {k : ℕ} → Fails c k → refusalOf c ≡ k
   unfolding refusalOf firstOf looseChecks laterChecks
-  fails-number (size n) = (rw (failing (size? c) (size-says c) n) refl, omega arith, omega arith)
-  fails-number (stranger z n) = (rw (size-says c .1 z, failing (stranger? c) (stranger-says c) n) refl, omega arith, omega arith)
-  fails-number (double z k n) =
-      (rw (size-says c .1 z, stranger-says c .1 k, failing (double? c) (double-says c) n) refl, omega arith, omega arith)
-  fails-number (ring z k d n) = (
-    rw (size-says c .1 z, stranger-says c .1 k, double-says c .1 d, failing (ring? c) (ring-says c z k) n) refl,
-    omega arith,
-    omega arith,
-  )
-  fails-number (cover z k d a n) = (
-    rw (size-says c .1 z, stranger-says c .1 k, double-says c .1 d, ring-says c z k .1 a)
-        (rw (failing (repeated? c) (cover-says c) n) refl),
-    omega arith,
-    omega arith,
-  )
-  fails-number (broken z k d a o n) = (
-    rw (size-says c .1 z, stranger-says c .1 k, double-says c .1 d, ring-says c z k .1 a, cover-says c .1 o)
-        (rw (failing (unled? c) (led-says c z k) (unled-led c z k n)) refl),
-    omega arith,
-    omega arith,
-  )
+  fails-number (size n) = rw (failing (size? c) (size-says c) n) refl
+  fails-number (floor z n) = rw (size-says c .1 z, failing (floor? c) (floor-says c) n) refl
+  fails-number (stranger z f n) = rw (size-says c .1 z, floor-says c .1 f, failing (stranger? c) (stranger-says c) n) refl
+  fails-number (double z f k n) =
+      rw (size-says c .1 z, floor-says c .1 f, stranger-says c .1 k, failing (double? c) (double-says c) n) refl
+  fails-number (ring z f k d n) =
+      rw (size-says c .1 z, floor-says c .1 f, stranger-says c .1 k, double-says c .1 d, failing (ring? c) (ring-says c z k) n) refl
+  fails-number (cover z f k d a n) =
+      rw (size-says c .1 z, floor-says c .1 f, stranger-says c .1 k, double-says c .1 d, ring-says c z k .1 a)
+      (rw (failing (repeated? c) (cover-says c) n) refl)
+  fails-number (broken z f k d a o n) =
+      rw (size-says c .1 z, floor-says c .1 f, stranger-says c .1 k, double-says c .1 d, ring-says c z k .1 a, cover-says c .1 o)
+      (rw (failing (unled? c) (led-says c z k) (unled-led c z k n)) refl)
 
 -- ---- what the numbers say
 
 module _ {c : Content} {room : Content → Type 0} where
   pub accepted-is : {i : ℕ} → Answered c room i → i ≡ 0 → Sound c × (Broad c → ⊥) × room c
   accepted-is (accepted s n m) q = (s, n, m)
-  accepted-is (failed f) q = absurd (omega (arith, fails-number c f .1))
+  accepted-is (failed f) q = absurd (omega (arith, fails-early c f .0))
   accepted-is (broad s b) q = absurd (omega arith)
   accepted-is (short s n m) q = absurd (omega arith)
 
   pub broad-is : {i : ℕ} → Answered c room i → i ≡ 11 → Sound c × Broad c
   broad-is (accepted s n m) q = absurd (omega arith)
-  broad-is (failed f) q = absurd (omega (arith, fails-number c f .2))
+  broad-is (failed f) q = absurd (fails-early c f .2 q)
   broad-is (broad s b) q = (s, b)
   broad-is (short s n m) q = absurd (omega arith)
 
   pub short-is : {i : ℕ} → Answered c room i → i ≡ 8 → Sound c × (Broad c → ⊥) × (room c → ⊥)
   short-is (accepted s n m) q = absurd (omega arith)
-  short-is (failed f) q = absurd (omega (arith, fails-number c f .2))
+  short-is (failed f) q = absurd (fails-early c f .1 q)
   short-is (broad s b) q = absurd (omega arith)
   short-is (short s n m) q = (s, n, m)
 
@@ -161,11 +177,11 @@ module _ (c : Content) where
   broad-number : Sound c → Broad c → chartRefusal c ≡ 11
   broad-number s b = chart-broad c (sound-accepted c s) (broad-decided s .1 b)
 
-  failed-number : {k : ℕ} → Fails c k → (chartRefusal c ≡ k) × (0 < k) × (k < 8)
+  failed-number : {k : ℕ} → Fails c k → chartRefusal c ≡ k
   failed-number f =
       let n = fails-number c f in
-      let refused : refusalOf c ≡ 0 → ⊥ = λ z. omega (arith, n .0, n .1) in
-      (chart-refused c refused ∙ n .0, n .1, n .2)
+      let refused : refusalOf c ≡ 0 → ⊥ = λ z. omega (arith, n, fails-early c f .0, z) in
+      chart-refused c refused ∙ n
 
   abbrev drawn : Drawn
   drawn = judged (chartRefusal c) c
@@ -190,7 +206,7 @@ module _ (c : Content) where
     number (accepted s b m) =
         let z = whole-number s b in call-accepted v e k drawn r n h .1 (z, subst room (sym (drawn-graph z)) m)
     number (failed f) =
-        let x = failed-number f in h .refusal ∙ lent-refused drawn ok v e k _ (x .1) (λ q. omega (arith, x .2)) .1 (x .0)
+        let x = fails-early c f in h .refusal ∙ lent-refused drawn ok v e k _ (x .0) (x .1) .1 (failed-number f)
     number (broad s b) = h .refusal ∙ lent-refused drawn ok v e k 11 (omega arith) (λ q. omega arith) .1 (broad-number s b)
     number (short s b m) = let z = whole-number s b in h .refusal ∙ lent-eight drawn ok v e k .1 (z, lacks z m)
 

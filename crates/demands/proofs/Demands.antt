@@ -6,10 +6,13 @@ use Rattle.counting.proofs.Prelude.{lt-ltb, eq-eqb, eqb-true}
 use Rattle.specification.specs.Limits.{mostChannels}
 use Rattle.specification.specs.Channels.{givenLines}
 use Rattle.specification.specs.Given.{Whole}
-use Rattle.specification.specs.Writing.{written, Writable}
-use Rattle.specification.specs.Checks.{Content, edgesOf, Sized, Distinct, Acyclic, Once, Led, Sound, SoundRecord, contentOf, said, givenOf}
+use Rattle.specification.specs.Writing.{Draft, written, Writable}
+use Rattle.specification.specs.Numbers.{wordNumbers, arrowNumbers, bundleNumbers}
+use Rattle.rows.specs.Levels.{level, levelsUsed}
+use Rattle.specification.specs.Checks.{Content, edgesOf, Sized, Floored, Distinct, Acyclic, Once, Led, Sound, SoundRecord, contentOf}
+use Rattle.specification.specs.Checks.{said, givenOf}
 use Rattle.matching.proofs.Beside.{none-whole}
-use Rattle.specification.specs.Chart.{tailOf, headOf, channelsOf, planOf, rowCount, reducedEdges, tracksIn}
+use Rattle.specification.specs.Chart.{tailOf, headOf, floorOf, rowOf, channelsOf, planOf, rowCount, reducedEdges, tracksIn}
 use Rattle.specification.specs.declared.VertexEntry.{VertexEntry}
 use Rattle.specification.specs.declared.EdgeEntry.{EdgeEntry}
 use Rattle.specification.specs.declared.BundleEntry.{BundleEntry}
@@ -24,7 +27,7 @@ use Rattle.ceviloneth.proofs.Refusing as flat
 use Rattle.ceviloneth.specs.State.{stateNumbers, Tells}
 use Rattle.ceviloneth.specs.Calls.{LentCall, LentAnswer, Calls, Life, lifeRun, Lived, Short}
 use Rattle.ceviloneth.proofs.Sequences.{every-life, every-answer, every-short}
-use Rattle.specification.specs.Graph.{Edge}
+use Rattle.specification.specs.Graph.{Edge, edge?}
 use Rattle.specification.specs.Connection.{connectionNumber}
 use Rattle.specification.specs.Machine.{Graph, Call, Answer, run, fresh}
 use Rattle.specification.specs.Asked.{leadingOf, asked}
@@ -39,7 +42,7 @@ use Rattle.editing.proofs.Sequences as value
 use Rattle.demands.specs.Leading.{Asks}
 use Rattle.demands.proofs.Asking.{reply-asks, leads-asks}
 use Rattle.demands.specs.Demands.{Entries, entriesIn, entriesOf, oursOf, seen, Faithful, Roomy, Ample, unlined, Smallest, Counted}
-use Rattle.demands.specs.Demands.{Carried}
+use Rattle.demands.specs.Demands.{Carried, Flat, floorless}
 use Rattle.demands.specs.Numbers.{numberAt, vertexFrom, edgeFrom, entriesFrom}
 use Rattle.demands.specs.Refusals.{Known, Broad, Answered, AnsweredRecord, Told, Narrow}
 use Rattle.demands.proofs.Agreeing.{defined-shown, ours-agrees}
@@ -52,6 +55,7 @@ use Rattle.demands.proofs.Records.{said-fields, said-ends, said-answere
 use Rattle.demands.proofs.Handing.{handed-lists, handed-numbers}
 use Rattle.demands.proofs.Marking as marked
 use Rattle.demands.proofs.Unlined.{empty-as-none}
+use Rattle.demands.proofs.Flat.{flat-rows, flat-count, flat-as-none}
 use Rattle.specification.specs.declared.ChartCounts.{ChartCounts}
 
 -- ---- the chart of a sound graph
@@ -71,7 +75,7 @@ pub record-says : (b : List ℕ) (s : SoundRecord b) → said b ≡ contentOf b 
 record-says = said-fields
 
 -- sound is what fails no check (13.3)
-pub sound-passes : (c : Content) → Sound c ↔ (Sized c × Known c × Distinct c × Acyclic c × Once c × Led c)
+pub sound-passes : (c : Content) → Sound c ↔ (Sized c × Floored c × Known c × Distinct c × Acyclic c × Once c × Led c)
 sound-passes = sound-parts
 
 -- without given channels every division has them whole, so that no lawful chart at all has fewer parts than ours then (10.5)
@@ -147,11 +151,11 @@ module _ (vs vs′ : List VertexEntry) (es es′ : List EdgeEntry) (bs bs′ : L
     pub record-marking : r .refusal ≡ 0 → Marking asEntries (said b) (planOf (said b)) es es′ (r .firm)
     record-marking z = marked.entries-marking (recordDrawn b) vs vs′ es es′ bs bs′ r (said b) h z (said-drawn b _ _ _ r entries of-record z)
 
-  -- of a graph: n vertices, the bytes of the edges' ends, and the bytes of the given channels, if any are given
-  module _ (n : ℕ) (ends : List ℕ) (given : Bool) (field : List ℕ)
-      (h : HandedOver (graphDrawn n ends given field) vs es bs r vs′ es′ bs′) where
+  -- of a graph: n vertices, the bytes of the edges' ends, those of the given channels, if any are given, and the floors, if there are any
+  module _ (n : ℕ) (ends : List ℕ) (given : Bool) (field : List ℕ) (floored : Bool) (floors : List ℕ)
+      (h : HandedOver (graphDrawn n ends given field floored floors) vs es bs r vs′ es′ bs′) where
     abbrev c : Content
-    c = graphContent n ends given field
+    c = graphContent n ends given field floored floors
 
     of-graph : Handed (length vs) (length es) (length bs) (judged (chartRefusal c) c) r entries
     unfolding graphDrawn
@@ -164,7 +168,10 @@ module _ (vs vs′ : List VertexEntry) (es es′ : List EdgeEntry) (bs bs′ : L
     graph-answered-exactly = answering.graph-answered c _ _ _ r entries of-graph
 
     pub graph-refused : (r .refusal ≡ 0 → ⊥) → Refused vs es bs r vs′ es′ bs′
-    graph-refused = refused-untouched (graphDrawn n ends given field) (graph-sound n ends given field) vs vs′ es es′ bs bs′ r h
+    graph-refused =
+        refused-untouched (graphDrawn n ends given field floored floors) (graph-sound n ends given field floored floors) vs vs′ es es′ bs
+        bs′
+        r h
 
     pub graph-narrow : Narrow r
     graph-narrow = answering.graph-narrow c _ _ _ r entries of-graph
@@ -182,9 +189,9 @@ module _ (vs vs′ : List VertexEntry) (es es′ : List EdgeEntry) (bs bs′ : L
 -- ---- the calls on numbers: the lists ws, es and bs of numbers are lent, and ws′, es′ and bs′ are these afterwards
 
 module _ (ws ws′ es es′ bs bs′ : List ℕ) (r : ChartCounts) where
-  -- every list has room, five numbers a vertex or edge and four a bundle
+  -- every list has room, by how many numbers an entry has
   abbrev room : Content → Type 0
-  room c = Roomy c (length ws / 5) (length es / 5) (length bs / 4)
+  room c = Roomy c (length ws / wordNumbers) (length es / arrowNumbers) (length bs / bundleNumbers)
 
   -- what the caller reads then
   abbrev read : Entries
@@ -192,7 +199,7 @@ module _ (ws ws′ es es′ bs bs′ : List ℕ) (r : ChartCounts) where
 
   -- the exported call of a record b, `ceviloneth_chart`
   module _ (b : List ℕ) (h : HandedFlat b ws es bs r ws′ es′ bs′) where
-    abbrev exported : Handed (length ws / 5) (length es / 5) (length bs / 4) (recordDrawn b) r read
+    abbrev exported : Handed (length ws / wordNumbers) (length es / arrowNumbers) (length bs / bundleNumbers) (recordDrawn b) r read
     exported = handed-numbers (recordDrawn b) ws ws′ es es′ bs bs′ r h
 
     -- accepted are the sound records that are not broad, with room in every list (15.2); 11 and 8 are answered exactly where it is so
@@ -232,7 +239,7 @@ module _ (ws ws′ es es′ bs bs′ : List ℕ) (r : ChartCounts) where
 
     -- an arrow's mark is 1 exactly where its ends, asked of the same record, answer 3 'by both' (5.1)
     pub exported-implied : r .refusal ≡ 0 → (e : ℕ) → e < edgesOf (said b) → (a : Leading)
-        → a ≡ leadingOf (asked b (tailOf (said b) e) (headOf (said b) e)) → (numberAt 5 es′ e 4 ≡ 1) ↔ (a .leads ≡ 3)
+        → a ≡ leadingOf (asked b (tailOf (said b) e) (headOf (said b) e)) → (numberAt arrowNumbers es′ e 4 ≡ 1) ↔ (a .leads ≡ 3)
     unfolding edgeFrom
     exported-implied z e l a q =
         let s = exported-told .accepted-exactly .0 z .0 in
@@ -244,7 +251,7 @@ module _ (ws ws′ es es′ bs bs′ : List ℕ) (r : ChartCounts) where
     -- words next to each other in a line, the editor's or a planned one, never answer 0 'not at all', and 2 'by longer routes only' where
     -- no arrow goes from one to the next (15.5)
     pub exported-neighbours : r .refusal ≡ 0 → (u v : ℕ) → u < said b .vertices → v < said b .vertices
-        → numberAt 5 ws′ u 0 ≡ numberAt 5 ws′ v 0 → numberAt 5 ws′ v 1 ≡ suc (numberAt 5 ws′ u 1)
+        → numberAt wordNumbers ws′ u 0 ≡ numberAt wordNumbers ws′ v 0 → numberAt wordNumbers ws′ v 1 ≡ suc (numberAt wordNumbers ws′ u 1)
         → (a : Leading) → a ≡ leadingOf (asked b u v)
         → (a .leads ≢ 0) × ((Edge (said b .tails) (said b .heads) u v → ⊥) → a .leads ≡ 2)
     unfolding vertexFrom
@@ -255,14 +262,16 @@ module _ (ws ws′ es es′ bs bs′ : List ℕ) (r : ChartCounts) where
         ((λ x. f .led u v hu hv (together, next) (sym h ∙ x)), λ none. h ∙ f .apart u v hu hv (together, next) none)
 
   -- the same of a graph, `chart_numbers::of_graph`
-  module _ (n : ℕ) (ends : List ℕ) (given : Bool) (field : List ℕ)
-      (h : Left (lent (length ws / 5) (length es / 5) (length bs / 4) (graphDrawn n ends given field)) ws es bs r ws′ es′ bs′) where
+  module _ (n : ℕ) (ends : List ℕ) (given : Bool) (field : List ℕ) (floored : Bool) (floors : List ℕ)
+      (h : Left (lent (length ws / wordNumbers) (length es / arrowNumbers) (length bs / bundleNumbers)
+      (graphDrawn n ends given field floored floors)) ws es bs r ws′ es′ bs′) where
     abbrev drawn : Content
-    drawn = graphContent n ends given field
+    drawn = graphContent n ends given field floored floors
 
-    numbers : Handed (length ws / 5) (length es / 5) (length bs / 4) (judged (chartRefusal drawn) drawn) r read
+    numbers : Handed (length ws / wordNumbers) (length es / arrowNumbers) (length bs / bundleNumbers) (judged (chartRefusal drawn) drawn)
+        r read
     unfolding graphDrawn
-    numbers = handed-numbers (graphDrawn n ends given field) ws ws′ es es′ bs bs′ r h
+    numbers = handed-numbers (graphDrawn n ends given field floored floors) ws ws′ es es′ bs bs′ r h
 
     pub numbers-told : Told (Sound drawn) (Broad drawn) (room drawn) (r .refusal)
     numbers-told = answering.graph-told drawn _ _ _ r read numbers
@@ -272,7 +281,8 @@ module _ (ws ws′ es es′ bs bs′ : List ℕ) (r : ChartCounts) where
 
     pub numbers-refused : (r .refusal ≡ 0 → ⊥) → flat.Refused ws es bs r ws′ es′ bs′
     numbers-refused =
-        flat.refused-untouched (graphDrawn n ends given field) (graph-sound n ends given field) ws ws′ es es′ bs bs′ r h
+        flat.refused-untouched (graphDrawn n ends given field floored floors) (graph-sound n ends given field floored floors) ws ws′ es
+        es′ bs bs′ r h
 
     pub numbers-narrow : Narrow r
     numbers-narrow = answering.graph-narrow drawn _ _ _ r read numbers
@@ -304,6 +314,20 @@ module _ {was is : List ℕ} {cs : List LentCall} {out : List LentAnswer} (h : C
   -- a list that is too short for a session: each call is refused with 8, and nothing changes
   pub exported-sessions-short : length was < stateNumbers → Short was cs out is
   exported-sessions-short few = every-short few h
+
+-- ---- floors
+
+-- with floors all 0, or none, rows are what they are by the edges alone: 0 where no edge enters, else one more than the highest of the
+-- tails (4.2), and so is their number
+pub rows-flat : (c : Content) → ((v : ℕ) → v < c .vertices → floorOf c v ≡ 0)
+    → ((v : ℕ) → v < c .vertices → rowOf c v ≡ level (edge? (c .tails) (c .heads)) (c .vertices) v)
+    × (rowCount c ≡ levelsUsed (edge? (c .tails) (c .heads)) (c .vertices))
+rows-flat c none = (flat-rows c none, flat-count c none)
+
+-- a record with floors of 0 is answered as the one without floors, in every number (4.2)
+pub exported-flat-as-none : (x : Draft) → Writable x → Flat x → (ws es bs : List ℕ) (r : ChartCounts) (ws′ es′ bs′ : List ℕ)
+    → HandedFlat (written x) ws es bs r ws′ es′ bs′ ↔ HandedFlat (written (floorless x)) ws es bs r ws′ es′ bs′
+exported-flat-as-none = flat-as-none
 
 -- ---- given channels
 

@@ -6,7 +6,7 @@ use Rattle.specification.specs.Checks.{Content, edgesOf}
 use Rattle.specification.specs.Chart.{planOf, vertexEntry, edgeEntry, bundleEntry}
 use Rattle.specification.specs.Drawn.{Drawn, lent}
 use Rattle.specification.specs.Lent.{Filled}
-use Rattle.specification.specs.Numbers.{codeOf, wordNumber, arrowNumber, bundleNumber}
+use Rattle.specification.specs.Numbers.{wordNumbers, arrowNumbers, bundleNumbers, codeOf, wordNumber, arrowNumber, bundleNumber}
 use Rattle.specification.specs.declared.VertexEntry.{VertexEntry}
 use Rattle.specification.specs.declared.EdgeEntry.{EdgeEntry}
 use Rattle.specification.specs.declared.BundleEntry.{BundleEntry}
@@ -38,10 +38,10 @@ handed-lists d vs vs′ es es′ bs bs′ r h = record {
 -- ---- lists of numbers
 
 -- an entry by its numbers
-vertex-by : (x : VertexEntry) (a b c d e : ℕ)
-    → a ≡ x .channel → b ≡ x .position → c ≡ x .column → d ≡ x .row → e ≡ x .descendants
-    → record { channel = a; position = b; column = c; row = d; descendants = e } ≡ x
-vertex-by x a b c d e ea eb ec ed ee = rw (ea, eb, ec, ed, ee) refl
+vertex-by : (x : VertexEntry) (a b c d e f : ℕ)
+    → a ≡ x .channel → b ≡ x .position → c ≡ x .column → d ≡ x .row → e ≡ x .descendants → f ≡ x .floor
+    → record { channel = a; position = b; column = c; row = d; descendants = e; floor = f } ≡ x
+vertex-by x a b c d e f ea eb ec ed ee ef = rw (ea, eb, ec, ed, ee, ef) refl
 
 edge-by : (x : EdgeEntry) (a b c d e : ℕ)
     → a ≡ x .number → b ≡ codeOf (x .kind) .code → c ≡ codeOf (x .kind) .value → d ≡ codeOf (x .kind) .row → e ≡ indicator (x .transitive)
@@ -52,10 +52,11 @@ bundle-by : (x : BundleEntry) (a b c d : ℕ) → a ≡ x .channel → b ≡ x .
     → record { channel = a; «first_row» = b; «last_row» = c; track = d } ≡ x
 bundle-by x a b c d ea eb ec ed = rw (ea, eb, ec, ed) refl
 
-vertex-read : (ws : List ℕ) (v : ℕ) (x : VertexEntry) → ((f : ℕ) → f < 5 → numberAt 5 ws v f ≡ wordNumber x f) → vertexFrom ws v ≡ x
+vertex-read : (ws : List ℕ) (v : ℕ) (x : VertexEntry) → ((f : ℕ) → f < 6 → numberAt 6 ws v f ≡ wordNumber x f) → vertexFrom ws v ≡ x
 unfolding vertexFrom wordNumber
 vertex-read ws v x h =
-    vertex-by x _ _ _ _ _ (h 0 (omega arith)) (h 1 (omega arith)) (h 2 (omega arith)) (h 3 (omega arith)) (h 4 (omega arith))
+    vertex-by x _ _ _ _ _ _ (h 0 (omega arith)) (h 1 (omega arith)) (h 2 (omega arith)) (h 3 (omega arith)) (h 4 (omega arith))
+    (h 5 (omega arith))
 
 edge-read : (es : List ℕ) (e : ℕ) (x : EdgeEntry) → ((f : ℕ) → f < 5 → numberAt 5 es e f ≡ arrowNumber x f) → edgeFrom es e ≡ x
 unfolding edgeFrom arrowNumber
@@ -74,7 +75,7 @@ module _ (c : Content) (ws ws′ es es′ bs bs′ : List ℕ) (r : ChartCounts)
   numbers-shown : Numbered c (planOf c) ws es bs r ws′ es′ bs′ → Shown c (entriesFrom ws′ es′ bs′)
   numbers-shown h = record {
     vertex = λ v l. vertex-read ws′ v (vertexEntry c (planOf c) v)
-        (number-made 5 (c .vertices) (λ v. wordNumber (vertexEntry c (planOf c) v)) ws ws′ (h .word-list) v l);
+        (number-made 6 (c .vertices) (λ v. wordNumber (vertexEntry c (planOf c) v)) ws ws′ (h .word-list) v l);
     edge = λ e l. edge-read es′ e (edgeEntry c (planOf c) e)
         (number-made 5 (edgesOf c) (λ e. arrowNumber (edgeEntry c (planOf c) e)) es es′ (h .arrow-list) e l);
     bundle = λ b l. bundle-read bs′ b (bundleEntry (planOf c) b)
@@ -82,8 +83,8 @@ module _ (c : Content) (ws ws′ es es′ bs bs′ : List ℕ) (r : ChartCounts)
   }
 
 pub handed-numbers : (d : Drawn) (ws ws′ es es′ bs bs′ : List ℕ) (r : ChartCounts)
-    → Left (lent (length ws / 5) (length es / 5) (length bs / 4) d) ws es bs r ws′ es′ bs′
-    → Handed (length ws / 5) (length es / 5) (length bs / 4) d r (entriesFrom ws′ es′ bs′)
+    → Left (lent (length ws / wordNumbers) (length es / arrowNumbers) (length bs / bundleNumbers) d) ws es bs r ws′ es′ bs′
+    → Handed (length ws / wordNumbers) (length es / arrowNumbers) (length bs / bundleNumbers) d r (entriesFrom ws′ es′ bs′)
 handed-numbers d ws ws′ es es′ bs bs′ r h = record {
   refusal = h .refusal;
   summary = h .numbered .summary;

@@ -15,7 +15,7 @@ use Rattle.tracks.proofs.FirstFit.{row-meet, meet-row, meet-fact}
 use Rattle.tracks.proofs.Different.{different-ext}
 use Rattle.chart_laws.proofs.Channels.{channels-divide, channel-below, lines-below, channels-whole, channels-least}
 use Rattle.chart_laws.proofs.Broad.{division-decided}
-use Rattle.chart_laws.proofs.Rows.{edge-rises, row-count, rows-fewest}
+use Rattle.chart_laws.proofs.Rows.{floor-kept, edge-rises, row-count, rows-fewest}
 use Rattle.chart_laws.proofs.Marks.{chart-links, chart-links-least, chart-links-count}
 use Rattle.chart_laws.proofs.Bundling.{bundle-channel, bundle-ordered, plan-packed, tracks-different}
 use Rattle.specification.specs.Lawful.{Chart, ShareRow, Divided, Lawful, rowsOf, linksOf, sideColumns, SameBundles}
@@ -173,7 +173,8 @@ module _ (c : Content) (s : Sound c) where
     agreed-smallest = record {
       lawful = agreed-lawful;
       filled = λ l h. let u = channels-divide c s .used l (omega (arith, a .parts)) in (u .0, u .1, a .part (u .0) (u .1) ∙ u .2);
-      rows = λ y h. omega (arith, rows-counted, rows-fewest c s (y .row) (h .rises));
+      keeps = record { floors = λ v l. omega (arith, a .row v l, floor-kept c s v l) };
+      rows = λ y h k. omega (arith, rows-counted, rows-fewest c s (y .row) (k .floors) (h .rises));
       whole = agreed-whole;
       lines = λ y h w. omega (arith, a .parts, channels-least c s (y .parts) (y .part) (division-decided c s _ _ .0 (h .division)) w);
       links = λ y h. omega (arith, links-counted, chart-links-least c s (y .link) (h .descent));

@@ -40,12 +40,12 @@ module _ {E : Type 0} (f : Form E) (legible : Legible f) (v e b : ℕ) (d : Draw
 -- ---- the two forms
 
 pub numbers-marking : (d : Drawn) (ws ws′ es es′ bs bs′ : List ℕ) (r : ChartCounts) (c : Content)
-    → Left (lent (length ws / 5) (length es / 5) (length bs / 4) d) ws es bs r ws′ es′ bs′
-    → r .refusal ≡ 0 → lent (length ws / 5) (length es / 5) (length bs / 4) d .graph ≡ c
+    → Left (lent (length ws / 6) (length es / 5) (length bs / 4) d) ws es bs r ws′ es′ bs′
+    → r .refusal ≡ 0 → lent (length ws / 6) (length es / 5) (length bs / 4) d .graph ≡ c
     → Marking asNumbers c (planOf c) es es′ (r .firm)
 numbers-marking d ws ws′ es es′ bs bs′ r c h z i =
     subst (λ (x : Content). Marking asNumbers x (planOf x) es es′ (r .firm)) i
-    (drawn-marking asNumbers numbers-legible (length ws / 5) (length es / 5) (length bs / 4) d r (entriesFrom ws′ es′ bs′)
+    (drawn-marking asNumbers numbers-legible (length ws / 6) (length es / 5) (length bs / 4) d r (entriesFrom ws′ es′ bs′)
     (handed-numbers d ws ws′ es es′ bs bs′ r h) es es′ (omega arith) (h .numbered .arrow-list) z)
 
 pub entries-marking : (d : Drawn) (vs vs′ : List VertexEntry) (es es′ : List EdgeEntry) (bs bs′ : List BundleEntry) (r : ChartCounts)

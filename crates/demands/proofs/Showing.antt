@@ -32,6 +32,7 @@ use Rattle.demands.specs.Leading.{how}
 use Rattle.chart_laws.proofs.Paging.{chart-on-page}
 use Rattle.demands.specs.Demands.{Entries, entriesOf, Firm, placeIn, lineIn, Follows, Faithful}
 use Rattle.demands.proofs.Agreeing.{Shown, mark, firm-reduced, reduced-firm}
+use Rattle.demands.proofs.Standing.{shown-standing}
 
 -- a kind's bundle, if it has one, is of the first k
 abbrev Within : ℕ → Kind → Type 0
@@ -125,6 +126,7 @@ module _ (c : Content) (s : Sound c) where
 
     pub shown-faithful : Faithful c n
     shown-faithful = record {
+      standing = shown-standing c s n h;
       marked = λ e l. rw (mark c s n h e l) (marked-longer c s e l);
       both = shown-both;
       answers = sound-means c s;

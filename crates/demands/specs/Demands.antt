@@ -4,11 +4,11 @@ use mathlib.Core.Path.{_≡_}
 use mathlib.Core.Logic.{_≢_, _↔_}
 use mathlib.Core.Bool.{Bool, true, false, not, _&&_}
 use mathlib.Core.List.{List, []}
-use Prim.Native.Nat.{ℕ, suc, _≤_, _<_}
+use Prim.Native.Nat.{ℕ, suc, _≤_, _<_, max}
 use lib.Dec.{eqb}
 use lib.ListN.{length, getD}
-use Rattle.specification.specs.Count.{some}
-use Rattle.specification.specs.Graph.{Reaches, Longer, Edge}
+use Rattle.specification.specs.Count.{some, above}
+use Rattle.specification.specs.Graph.{Reaches, Longer, Edge, edge?}
 use Rattle.specification.specs.Channels.{channelOf}
 use Rattle.specification.specs.Given.{Whole}
 use Rattle.specification.specs.Checks.{Content, edgesOf, givenOf, connectionIn, Leads}
@@ -16,13 +16,13 @@ use Rattle.specification.specs.Connection.{Means}
 use Rattle.specification.specs.Writing.{Draft}
 use Rattle.specification.specs.Marks.{reducedLink}
 use Rattle.specification.specs.Geometry.{Point, Clear}
-use Rattle.specification.specs.Chart.{tailOf, headOf, rowOf, channelsOf, planOf, bundleIn, trackIn, vertexEntry, edgeEntry}
+use Rattle.specification.specs.Chart.{tailOf, headOf, floorOf, rowOf, channelsOf, planOf, bundleIn, trackIn, vertexEntry, edgeEntry}
 use Rattle.specification.specs.Chart.{bundleEntry, pointAt, polylineOf, OnPage}
 use Rattle.specification.specs.declared.Kind.the-variants.{Path}
 use Rattle.specification.specs.declared.VertexEntry.{VertexEntry}
 use Rattle.specification.specs.declared.EdgeEntry.{EdgeEntry}
 use Rattle.specification.specs.declared.BundleEntry.{BundleEntry}
-use Rattle.specification.specs.Lawful.{Chart, Lawful, rowsOf, linksOf, sideColumns, SameLines, SameRows, SameBundles}
+use Rattle.specification.specs.Lawful.{Chart, Lawful, Keeps, rowsOf, linksOf, sideColumns, SameLines, SameRows, SameBundles}
 use Rattle.specification.specs.declared.ChartCounts.{ChartCounts}
 use Rattle.demands.specs.Leading.{how}
 
@@ -37,7 +37,7 @@ pub record Entries : Type 0 where
 -- those that lists hold; what stands past a list's end no law reads
 abbrev pub entriesIn : List VertexEntry → List EdgeEntry → List BundleEntry → Entries
 entriesIn vs es bs = record {
-  vertex = λ v. getD vs v (record { channel = 0; position = 0; column = 0; row = 0; descendants = 0 });
+  vertex = λ v. getD vs v (record { channel = 0; position = 0; column = 0; row = 0; descendants = 0; floor = 0 });
   edge = λ e. getD es e (record { number = 0; kind = Path; transitive = false });
   bundle = λ b. getD bs b (record { channel = 0; «first_row» = 0; «last_row» = 0; track = 0 });
 }
@@ -98,7 +98,20 @@ abbrev pub Follows : Entries → ℕ → ℕ → Type 0
 Follows entries u v =
     (entries .vertex u .channel ≡ entries .vertex v .channel) × (entries .vertex v .position ≡ suc (entries .vertex u .position))
 
+-- how vertices stand, by their entries
+pub record Standing (c : Content) (entries : Entries) : Type 0 where
+  -- each carries its floor, 0 where there are none (9.2)
+  pub carried : (v : ℕ) → v < c .vertices → entries .vertex v .floor ≡ floorOf c v
+  -- its row is the greater of the floor and one more than the highest row of those with an edge into it, 0 where there is none (4.1)
+  pub rule : (v : ℕ) → v < c .vertices → entries .vertex v .row
+      ≡ max (entries .vertex v .floor) (above (c .vertices) (λ u. edge? (c .tails) (c .heads) u v) (λ u. entries .vertex u .row))
+  -- so that no row is below its floor, and the highest is 254
+  pub kept : (v : ℕ) → v < c .vertices → entries .vertex v .floor ≤ entries .vertex v .row
+  pub low : (v : ℕ) → v < c .vertices → entries .vertex v .row ≤ 254
+
 pub record Faithful (c : Content) (entries : Entries) : Type 0 where
+  -- rows keep the floors and go by the rule (4.1)
+  pub standing : Standing c entries
   -- marked are the edges along which a longer route goes (5.1)
   pub marked : (e : ℕ) → e < edgesOf c → (entries .edge e .transitive ≡ true)
       ↔ Longer (Edge (c .tails) (c .heads)) (tailOf c e) (headOf c e)
@@ -125,13 +138,22 @@ pub record Roomy (c : Content) (v e b : ℕ) : Type 0 where
 
 -- lists of numbers as long as the header names (CEVILONETH_WORDS, CEVILONETH_ARROWS, CEVILONETH_BUNDLES)
 pub record Ample (ws es bs : List ℕ) : Type 0 where
-  pub words : 640 ≤ length ws
+  pub words : 768 ≤ length ws
   pub arrows : 20480 ≤ length es
   pub bundles : 1024 ≤ length bs
 
 -- a record of so many vertices and these edges, with an empty field of given channels, or without one
 abbrev pub unlined : ℕ → List (ℕ × ℕ) → Bool → Draft
-unlined n edges given = record { vertices = n; edges = edges; given = given; channels = [] }
+unlined n edges given = record { vertices = n; edges = edges; given = given; channels = []; floored = false; floors = [] }
+
+-- a floor a vertex, and all of them 0
+abbrev pub Flat : Draft → Type 0
+Flat x = (length (x .floors) ≡ x .vertices) × ((v : ℕ) → getD (x .floors) v 0 ≡ 0)
+
+-- the record x without floors
+abbrev pub floorless : Draft → Draft
+floorless x =
+    record { vertices = x .vertices; edges = x .edges; given = x .given; channels = x .channels; floored = false; floors = [] }
 
 -- ---- no lawful chart is smaller
 
@@ -139,8 +161,9 @@ pub record Smallest (c : Content) (x : Chart) : Type 0 where
   pub lawful : Lawful c x
   -- each of its parts has a vertex, so that `parts` is their number
   pub filled : (p : ℕ) → p < x .parts → (v : ℕ) × (v < c .vertices) × (x .part v ≡ p)
-  -- no lawful chart has fewer rows (10.5)
-  pub rows : (y : Chart) → Lawful c y → rowsOf c x ≤ rowsOf c y
+  -- it keeps the floors, and no lawful chart that keeps them has fewer rows (10.5)
+  pub keeps : Keeps c x
+  pub rows : (y : Chart) → Lawful c y → Keeps c y → rowsOf c x ≤ rowsOf c y
   -- each given channel (house line) is one of its parts: the part of a vertex of it has that channel's vertices, and no other
   pub whole : Whole (c .vertices) (givenOf c) (x .part)
   -- and no lawful chart that has the given channels whole has fewer parts; where none are given every lawful chart has (`bare-whole`)

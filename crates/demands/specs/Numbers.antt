@@ -6,6 +6,7 @@ use lib.ListN.{getD}
 use Rattle.specification.specs.declared.VertexEntry.{VertexEntry}
 use Rattle.specification.specs.declared.EdgeEntry.{EdgeEntry}
 use Rattle.specification.specs.declared.BundleEntry.{BundleEntry}
+use Rattle.specification.specs.Numbers.{wordNumbers, arrowNumbers, bundleNumbers}
 use Rattle.kinds.specs.Codes.{kindOf}
 use Rattle.demands.specs.Demands.{Entries}
 
@@ -15,27 +16,28 @@ numberAt w l i f = getD l (i * w + f) 0
 
 unfoldable pub vertexFrom : List ℕ → ℕ → VertexEntry
 vertexFrom ws v = record {
-  channel = numberAt 5 ws v 0;
-  position = numberAt 5 ws v 1;
-  column = numberAt 5 ws v 2;
-  row = numberAt 5 ws v 3;
-  descendants = numberAt 5 ws v 4;
+  channel = numberAt wordNumbers ws v 0;
+  position = numberAt wordNumbers ws v 1;
+  column = numberAt wordNumbers ws v 2;
+  row = numberAt wordNumbers ws v 3;
+  descendants = numberAt wordNumbers ws v 4;
+  floor = numberAt wordNumbers ws v 5;
 }
 
 -- the kind by its number and values (`kindOf`), and a mark that is 1
 unfoldable pub edgeFrom : List ℕ → ℕ → EdgeEntry
 edgeFrom es e = record {
-  number = numberAt 5 es e 0;
-  kind = kindOf (numberAt 5 es e 1) (numberAt 5 es e 2) (numberAt 5 es e 3);
-  transitive = eqb (numberAt 5 es e 4) 1;
+  number = numberAt arrowNumbers es e 0;
+  kind = kindOf (numberAt arrowNumbers es e 1) (numberAt arrowNumbers es e 2) (numberAt arrowNumbers es e 3);
+  transitive = eqb (numberAt arrowNumbers es e 4) 1;
 }
 
 unfoldable pub bundleFrom : List ℕ → ℕ → BundleEntry
 bundleFrom bs b = record {
-  channel = numberAt 4 bs b 0;
-  «first_row» = numberAt 4 bs b 1;
-  «last_row» = numberAt 4 bs b 2;
-  track = numberAt 4 bs b 3;
+  channel = numberAt bundleNumbers bs b 0;
+  «first_row» = numberAt bundleNumbers bs b 1;
+  «last_row» = numberAt bundleNumbers bs b 2;
+  track = numberAt bundleNumbers bs b 3;
 }
 
 abbrev pub entriesFrom : List ℕ → List ℕ → List ℕ → Entries

@@ -8,7 +8,7 @@ use Rattle.specification.specs.Limits.{mostVertices, mostChannels}
 use Rattle.specification.specs.Layout.{layoutOf}
 use Rattle.specification.specs.declared.Fields.{Fields}
 use Rattle.specification.specs.declared.Layout.the-variants.{Good}
-use Rattle.specification.specs.Checks.{Content, contentOf, Sized, EndsKnown, GivenKnown, Distinct, Acyclic, Once, Sound}
+use Rattle.specification.specs.Checks.{Content, contentOf, Sized, Floored, EndsKnown, GivenKnown, Distinct, Acyclic, Once, Sound}
 use Rattle.specification.specs.Checks.{givenOf}
 use Rattle.specification.specs.Lawful.{Divided}
 use Rattle.specification.specs.Given.{Whole}
@@ -24,11 +24,12 @@ Known c = EndsKnown c × GivenKnown c
 -- of a graph: those before k pass
 pub data Fails (c : Content) : ℕ → Type 0 where
   size : (Sized c → ⊥) → Fails c 2
-  stranger : Sized c → (Known c → ⊥) → Fails c 3
-  double : Sized c → Known c → (Distinct c → ⊥) → Fails c 4
-  ring : Sized c → Known c → Distinct c → (Acyclic c → ⊥) → Fails c 5
-  cover : Sized c → Known c → Distinct c → Acyclic c → (Once c → ⊥) → Fails c 6
-  broken : Sized c → Known c → Distinct c → Acyclic c → Once c → Unled c → Fails c 7
+  floor : Sized c → (Floored c → ⊥) → Fails c 12
+  stranger : Sized c → Floored c → (Known c → ⊥) → Fails c 3
+  double : Sized c → Floored c → Known c → (Distinct c → ⊥) → Fails c 4
+  ring : Sized c → Floored c → Known c → Distinct c → (Acyclic c → ⊥) → Fails c 5
+  cover : Sized c → Floored c → Known c → Distinct c → Acyclic c → (Once c → ⊥) → Fails c 6
+  broken : Sized c → Floored c → Known c → Distinct c → Acyclic c → Once c → Unled c → Fails c 7
 
 -- 11: every division of the graph that has its given channels whole has more parts than a chart may have lines. A part may be empty, which
 -- makes no difference
