@@ -7,7 +7,10 @@ use specification::ChartCounts;
 use specification::Layout;
 
 // Room for any line but the first.
-const LINE: usize = 36;
+const LINE: usize = 38;
+
+// How many numbers a word has.
+const WORD_NUMBERS: usize = 6;
 
 const NEWLINE: u8 = 10;
 
@@ -57,7 +60,7 @@ fn put_count<'a>(output: &mut [u8], used: usize, name: &'a [u8], n: u16) -> usiz
 // ---- lines
 
 // A letter and five numbers.
-fn put_line(
+fn put_fields(
     output: &mut [u8],
     used: usize,
     letter: u8,
@@ -67,14 +70,44 @@ fn put_line(
     d: u16,
     e: u16,
 ) -> usize
-    requires { ⌜ used + 32 ≤ length (now output) ⌝ }
-    ensures { λ r. ⌜ r ≤ used + 32 ⌝ }
+    requires { ⌜ used + 31 ≤ length (now output) ⌝ }
+    ensures { λ r. ⌜ r ≤ used + 31 ⌝ }
 {
     let first = text::put_byte(output, used, letter);
     let second = put_pair(output, first, a, b);
     let third = put_pair(output, second, c, d);
-    let last = put_number(output, third, e);
-    text::put_byte(output, last, NEWLINE)
+    put_number(output, third, e)
+}
+
+// The floor, where the record has floors.
+fn put_floor(output: &mut [u8], used: usize, floored: bool, floor: u16) -> usize
+    requires { ⌜ used + 6 ≤ length (now output) ⌝ }
+    ensures { λ r. ⌜ r ≤ used + 6 ⌝ }
+{
+    if floored {
+        return put_number(output, used, floor);
+    }
+    used
+}
+
+// Word v from its six numbers: the last is written where the record has floors, and how many it leads to never.
+fn put_word<'a>(output: &mut [u8], used: usize, words: &'a [u16], v: usize, floored: bool) -> usize
+    requires { ⌜ (used + 38 ≤ length (now output)) × (v < 128) × (v * 6 + 6 ≤ length (now words)) ⌝ }
+    ensures { λ r. ⌜ r ≤ used + 38 ⌝ }
+{
+    let i = v * WORD_NUMBERS;
+    let at = put_fields(
+        output,
+        used,
+        b'w',
+        v as u16,
+        words[i],
+        words[i + 1],
+        words[i + 2],
+        words[i + 3],
+    );
+    let end = put_floor(output, at, floored, words[i + 5]);
+    text::put_byte(output, end, NEWLINE)
 }
 
 fn put_counts(output: &mut [u8], used: usize, chart: ChartCounts, bundles: u16) -> usize
@@ -163,8 +196,8 @@ fn flush(output: &[u8], used: usize)
 
 // Writes what the output holds where less than a line's room is left; answers where the next line begins.
 fn make_room(output: &[u8], used: usize) -> usize
-    requires { ⌜ (used ≤ length (now output)) × (36 ≤ length (now output)) ⌝ }
-    ensures { λ r. ⌜ r + 36 ≤ length (now (output .entry)) ⌝ }
+    requires { ⌜ (used ≤ length (now output)) × (38 ≤ length (now output)) ⌝ }
+    ensures { λ r. ⌜ r + 38 ≤ length (now (output .entry)) ⌝ }
 {
     if output.len() - used < LINE {
         flush(output, used);
@@ -173,24 +206,14 @@ fn make_room(output: &[u8], used: usize) -> usize
     used
 }
 
-fn put_words<'a>(output: &mut [u8], used: usize, n: usize, words: &'a [u16]) -> usize
-    requires { ⌜ (used ≤ length (now output)) × (36 ≤ length (now output)) × (n ≤ 128) × (n * 5 ≤ length (now words)) ⌝ }
+fn put_words<'a>(output: &mut [u8], used: usize, n: usize, words: &'a [u16], floored: bool) -> usize
+    requires { ⌜ (used ≤ length (now output)) × (38 ≤ length (now output)) × (n ≤ 128) × (n * 6 ≤ length (now words)) ⌝ }
     ensures { λ r. ⌜ r ≤ length (now (output .entry)) ⌝ }
 {
     let mut end = used;
     for v in 0..n {
         let at = make_room(output, end);
-        let i = v * 5;
-        end = put_line(
-            output,
-            at,
-            b'w',
-            v as u16,
-            words[i],
-            words[i + 1],
-            words[i + 2],
-            words[i + 3],
-        );
+        end = put_word(output, at, words, v, floored);
     }
     end
 }
@@ -203,7 +226,7 @@ fn put_arrows<'a>(
     arrows: &'a [u16],
     ends: &'a [u8],
 ) -> usize
-    requires { ⌜ (used ≤ length (now output)) × (36 ≤ length (now output)) × (m ≤ 4096) × (m * 5 ≤ length (now arrows)) × (m + m ≤ length (now ends)) ⌝ }
+    requires { ⌜ (used ≤ length (now output)) × (38 ≤ length (now output)) × (m ≤ 4096) × (m * 5 ≤ length (now arrows)) × (m + m ≤ length (now ends)) ⌝ }
     ensures { λ r. ⌜ r ≤ length (now (output .entry)) ⌝ }
 {
     let mut end = used;
@@ -215,14 +238,14 @@ fn put_arrows<'a>(
 }
 
 fn put_bundles<'a>(output: &mut [u8], used: usize, count: usize, bundles: &'a [u16]) -> usize
-    requires { ⌜ (used ≤ length (now output)) × (36 ≤ length (now output)) × (count ≤ 256) × (count * 4 ≤ length (now bundles)) ⌝ }
+    requires { ⌜ (used ≤ length (now output)) × (38 ≤ length (now output)) × (count ≤ 256) × (count * 4 ≤ length (now bundles)) ⌝ }
     ensures { λ r. ⌜ r ≤ length (now (output .entry)) ⌝ }
 {
     let mut end = used;
     for b in 0..count {
         let at = make_room(output, end);
         let i = b * 4;
-        end = put_line(
+        let last = put_fields(
             output,
             at,
             b'b',
@@ -232,6 +255,7 @@ fn put_bundles<'a>(output: &mut [u8], used: usize, count: usize, bundles: &'a [u
             bundles[i + 2],
             bundles[i + 3],
         );
+        end = text::put_byte(output, last, NEWLINE);
     }
     end
 }
@@ -258,6 +282,15 @@ fn edges_of(b: &[u8]) -> &[u8] {
     &b[start..end]
 }
 
+// Whether a record has floors.
+fn is_floored(b: &[u8]) -> bool {
+    let layout = fields::layout_of(b);
+    let Layout::Good(fields) = layout else {
+        return false;
+    };
+    fields.floored
+}
+
 fn write_refusal(number: u8) {
     let mut output = [0u8; 16];
     let a = text::put(&mut output, 0, b"refused");
@@ -268,7 +301,7 @@ fn write_refusal(number: u8) {
 
 // Prints the chart of a record, or its refusal. Every chart fits the lists, so that each count is itself the lesser.
 fn write_chart(record: &[u8]) {
-    let mut words = [0u16; 640];
+    let mut words = [0u16; 768];
     let mut arrows = [0u16; 20480];
     let mut bundles = [0u16; 1024];
     let chart = chart_numbers::of_record(record, &mut words, &mut arrows, &mut bundles);
@@ -282,7 +315,7 @@ fn write_chart(record: &[u8]) {
     let k = lesser(chart.bundles, 256);
     let mut output = [0u8; 512];
     let a = put_header(&mut output, 0, chart, n as u16, m as u16, k as u16);
-    let b = put_words(&mut output, a, n, &words);
+    let b = put_words(&mut output, a, n, &words, is_floored(record));
     let c = put_arrows(&mut output, b, m, &arrows, ends);
     let d = put_bundles(&mut output, c, k, &bundles);
     flush(&output, d);

@@ -6,10 +6,10 @@ use Rattle.chart.proofs.put_words.Statement.{statement}
 use Rattle.chart.proofs.put_words.Tie as tie
 
 abbrev Inv-loop : tie.InvT-loop
-Inv-loop output₀ used n words end₀ v₀ output end v = (v ≤ n) × (end ≤ length output) × (length output ≡ length output₀)
+Inv-loop output₀ used n words floored end₀ v₀ output end v = (v ≤ n) × (end ≤ length output) × (length output ≡ length output₀)
 
 abbrev μ-loop : tie.MeasureT-loop
-μ-loop output₀ used n words end₀ v₀ output end v = n - v
+μ-loop output₀ used n words floored end₀ v₀ output end v = n - v
 
 pub put-words-spec : {M : Type 1} → statement M
 put-words-spec =
@@ -19,19 +19,6 @@ put-words-spec =
     μ-loop
     (λ c. search needs)
     (λ c κs. search needs)
-    (λ c. search needs)
-    (λ c. search needs)
-    (λ c. search needs)
-    (λ c. search needs)
-    (λ c. search needs)
-    (λ c. search needs)
-    (λ c. search needs)
-    (λ c. search needs)
-    (λ c. search needs)
-    (λ c. search needs)
-    (λ c. search needs)
-    (λ c. search needs)
-    (λ c. search needs)
     (λ c κs. search needs)
     (λ c. search needs)
     (λ c. search needs)
