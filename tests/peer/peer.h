@@ -1,7 +1,7 @@
 /* The whole chart of a record by hand, written for speed: what the proved library is timed beside and compared with.
  *
  * It proves nothing. It takes the same bytes and lent lists as ceviloneth_chart of include/ceviloneth.h and answers the same
- * numbers: refusals 1 to 8 and 11, counts, and the three lists, of which nothing past the last entry is written.
+ * numbers: refusals 1 to 8, 11 and 12, counts, and the three lists, of which nothing past the last entry is written.
  */
 #ifndef CEVILONETH_PEER_H
 #define CEVILONETH_PEER_H

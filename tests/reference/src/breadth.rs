@@ -50,9 +50,8 @@ pub fn of_channels(generator: &mut Generator, given: usize, planned: usize) -> R
     let lists = channels.split_off(planned).into_iter();
     let lists = lists.map(|channel| channel.into_iter().map(|(_, vertex)| vertex).collect());
     Record {
-        vertex_count,
-        edges,
         channels: (given > 0).then(|| lists.collect()),
+        ..Record::new(vertex_count, edges)
     }
 }
 

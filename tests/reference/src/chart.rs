@@ -53,6 +53,8 @@ pub struct VertexEntry {
     pub row: usize,
     /// The number of vertices that it reaches.
     pub descendants: usize,
+    /// Its floor, 0 where the record has no floors.
+    pub floor: usize,
 }
 
 /// What is told of an edge.
@@ -85,7 +87,7 @@ impl Chart {
         Chart::draw(&Record::parse(bytes)?)
     }
 
-    /// Draws a record that passes the checks 2 to 7 and is not broad.
+    /// Draws a record that passes the checks 2, 12 and 3 to 7 and is not broad.
     pub fn draw(record: &Record) -> Result<Chart, Refusal> {
         record.check()?;
         let (vertex_count, edges) = (record.vertex_count, &record.edges);
@@ -94,11 +96,12 @@ impl Chart {
         if channels.lists().len() > MAX_CHANNELS {
             return Err(Refusal::Broad);
         }
-        let rows = rows::compacted(vertex_count, edges);
+        let floors = record.lowest_rows();
+        let rows = rows::compacted(&floors, edges);
         let bundling = Bundling::of(edges, &channels, &rows);
         let columns = Columns::of(&bundling.track_counts);
         let vertices: Vec<VertexEntry> = (0..vertex_count)
-            .map(|vertex| vertex_entry(vertex, &reach, &channels, &rows, &columns))
+            .map(|vertex| vertex_entry(vertex, &reach, &channels, &floors, &rows, &columns))
             .collect();
         let edges = edge_entries(edges, &reach, &channels, &bundling, &vertices);
         Ok(Chart {
@@ -147,6 +150,7 @@ fn vertex_entry(
     vertex: usize,
     reach: &Reachability,
     channels: &Channels,
+    floors: &[usize],
     rows: &[usize],
     columns: &Columns,
 ) -> VertexEntry {
@@ -157,6 +161,7 @@ fn vertex_entry(
         column: columns.own[slot.channel],
         row: rows[vertex],
         descendants: reach.descendant_count(vertex),
+        floor: floors[vertex],
     }
 }
 

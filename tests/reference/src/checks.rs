@@ -1,7 +1,7 @@
-//! The checks 2 to 7 of a record, in their order (13).
+//! The checks 2, 12 and 3 to 7 of a record, in their order (13).
 
 use crate::descent::Reachability;
-use crate::record::{Record, MAX_EDGES, MAX_VERTICES};
+use crate::record::{Record, MAX_EDGES, MAX_FLOOR, MAX_VERTICES};
 use crate::refusal::Refusal;
 use std::collections::BTreeSet;
 
@@ -9,8 +9,9 @@ use std::collections::BTreeSet;
 type Check = fn(&Record) -> bool;
 
 /// Each check may rely on those before it.
-const CHECKS: [(Refusal, Check); 6] = [
+const CHECKS: [(Refusal, Check); 7] = [
     (Refusal::Size, sizes_are_allowed),
+    (Refusal::Floor, floors_are_allowed),
     (Refusal::UnknownVertex, vertices_are_known),
     (Refusal::DuplicateEdge, edges_are_distinct),
     (Refusal::Cycle, no_vertex_reaches_itself),
@@ -28,6 +29,12 @@ pub fn first_failing(record: &Record) -> Option<Refusal> {
 
 fn sizes_are_allowed(record: &Record) -> bool {
     (1..=MAX_VERTICES).contains(&record.vertex_count) && record.edges.len() <= MAX_EDGES
+}
+
+fn floors_are_allowed(record: &Record) -> bool {
+    record.floors.as_ref().is_none_or(|floors| {
+        floors.len() == record.vertex_count && floors.iter().all(|&floor| floor <= MAX_FLOOR)
+    })
 }
 
 fn vertices_are_known(record: &Record) -> bool {

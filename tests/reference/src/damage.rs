@@ -3,9 +3,9 @@
 // All faults of the bytes have one type, also those that keep the length.
 #![allow(clippy::ptr_arg)]
 
-use crate::random::{give_channels, give_some_channels, Generator};
-use crate::record::{push_field, split_fields, Edge, Record};
-use crate::record::{MAX_BYTES, MAX_EDGES, MAX_VERTICES, TAG_CHANNELS, TAG_VERTICES};
+use crate::random::{give_channels, give_floors, give_some_channels, Generator};
+use crate::record::{push_field, split_fields, Edge, Record, MAX_BYTES, MAX_EDGES, MAX_FLOOR};
+use crate::record::{MAX_VERTICES, TAG_CHANNELS, TAG_FLOORS, TAG_VERTICES};
 
 /// A fault in what the record says.
 pub type Fault = fn(&mut Record, &mut Generator);
@@ -13,7 +13,7 @@ pub type Fault = fn(&mut Record, &mut Generator);
 pub type ByteFault = fn(&mut Vec<u8>, &mut Generator);
 
 /// Every fault in what a record says.
-pub const FAULTS: [Fault; 15] = [
+pub const FAULTS: [Fault; 19] = [
     no_vertex,
     too_many_vertices,
     fewer_vertices,
@@ -29,10 +29,14 @@ pub const FAULTS: [Fault; 15] = [
     channels_joined,
     unknown_in_channel,
     empty_channel,
+    floor_too_high,
+    floors_too_few,
+    floors_too_many,
+    floors_none,
 ];
 
 /// Every fault in the bytes.
-pub const BYTE_FAULTS: [ByteFault; 12] = [
+pub const BYTE_FAULTS: [ByteFault; 14] = [
     truncated,
     extended,
     bit_flipped,
@@ -45,6 +49,8 @@ pub const BYTE_FAULTS: [ByteFault; 12] = [
     field_twice,
     fields_swapped,
     oversized,
+    floors_too_early,
+    floors_twice,
 ];
 
 /// The bytes of `record` with one to four faults.
@@ -224,6 +230,44 @@ fn empty_channel(record: &mut Record, generator: &mut Generator) {
     lists.insert(generator.below(lists.len() + 1), Vec::new());
 }
 
+/// The record's floors; where it has none, good ones or else zeros.
+fn floors<'a>(record: &'a mut Record, generator: &mut Generator) -> &'a mut Vec<usize> {
+    if record.floors.is_none() && record.check().is_ok() {
+        give_floors(record, generator);
+    }
+    let zeros = || vec![0; record.vertex_count];
+    record.floors.get_or_insert_with(zeros)
+}
+
+fn floor_too_high(record: &mut Record, generator: &mut Generator) {
+    let far = generator.between(MAX_FLOOR + 1, 255);
+    let high = generator.pick(&[MAX_FLOOR + 1, far, 255]).unwrap_or(far);
+    let floors = floors(record, generator);
+    let place = generator.below(floors.len());
+    match floors.get_mut(place) {
+        Some(floor) => *floor = high,
+        None => floors.push(high),
+    }
+}
+
+fn floors_too_few(record: &mut Record, generator: &mut Generator) {
+    let floors = floors(record, generator);
+    let lost = generator.between(1, 3);
+    floors.truncate(floors.len().saturating_sub(lost));
+}
+
+fn floors_too_many(record: &mut Record, generator: &mut Generator) {
+    let floors = floors(record, generator);
+    for _ in 0..generator.between(1, 3) {
+        floors.push(generator.below(MAX_FLOOR + 1));
+    }
+}
+
+/// An empty field, which is none of house lines alone.
+fn floors_none(record: &mut Record, _: &mut Generator) {
+    record.floors = Some(Vec::new());
+}
+
 fn truncated(bytes: &mut Vec<u8>, generator: &mut Generator) {
     bytes.truncate(generator.below(bytes.len()));
 }
@@ -280,7 +324,7 @@ fn heads(bytes: &[u8]) -> Vec<usize> {
 fn tag_changed(bytes: &mut Vec<u8>, generator: &mut Generator) {
     if let Some(head) = generator.pick(&heads(bytes)) {
         let any = generator.below(256) as u8;
-        bytes[head] = generator.pick(&[0, 1, 2, 3, 4, any]).unwrap_or(any);
+        bytes[head] = generator.pick(&[0, 1, 2, 3, 4, 5, any]).unwrap_or(any);
     }
 }
 
@@ -328,15 +372,26 @@ fn fields_swapped(bytes: &mut Vec<u8>, generator: &mut Generator) {
     change_fields(bytes, |fields| generator.shuffle(fields));
 }
 
-/// A field of good channels so long that the record is one byte too long, or just not.
+/// A field of good channels or of floors so long that the record is one byte too long, or just not.
 fn oversized(bytes: &mut Vec<u8>, generator: &mut Generator) {
     let over = generator.below(2);
     change_fields(bytes, |fields| {
-        fields.retain(|&(tag, _)| tag != TAG_CHANNELS);
+        fields.retain(|&(tag, _)| tag != TAG_CHANNELS && tag != TAG_FLOORS);
     });
+    let left = (MAX_BYTES + over).saturating_sub(bytes.len() + 3);
+    let (tag, content) = match generator.percent(50) {
+        true => (TAG_CHANNELS, long_channels(bytes, left, generator)),
+        false => (TAG_FLOORS, vec![0; left]),
+    };
+    if content.len() <= MAX_BYTES {
+        push_field(bytes, tag, &content);
+    }
+}
+
+/// So many bytes of channels, all of one vertex.
+fn long_channels(bytes: &[u8], mut left: usize, generator: &mut Generator) -> Vec<u8> {
     let vertices = bytes.get(3).copied().filter(|_| bytes[0] == TAG_VERTICES);
     let vertex = generator.below(usize::from(vertices.unwrap_or(1))) as u8;
-    let mut left = (MAX_BYTES + over).saturating_sub(bytes.len() + 3);
     let mut content = Vec::new();
     while left >= 2 {
         // A last byte alone would be no channel, so the one before leaves two.
@@ -345,7 +400,32 @@ fn oversized(bytes: &mut Vec<u8>, generator: &mut Generator) {
         content.extend(std::iter::repeat_n(vertex, length));
         left -= length + 1;
     }
-    if content.len() <= MAX_BYTES {
-        push_field(bytes, TAG_CHANNELS, &content);
-    }
+    content
+}
+
+/// The field of floors: the record's own, or one of a zero for each vertex.
+fn floors_field<'a>(fields: &[(u8, &'a [u8])]) -> (u8, &'a [u8]) {
+    const ZEROS: [u8; 255] = [0; 255];
+    let vertices = fields.first().and_then(|(_, content)| content.first());
+    let zeros = &ZEROS[..usize::from(vertices.copied().unwrap_or(1))];
+    let mut own = fields.iter().filter(|(tag, _)| *tag == TAG_FLOORS);
+    own.next().copied().unwrap_or((TAG_FLOORS, zeros))
+}
+
+/// Floors stand before the last of the other fields: before the channels, if there are any.
+fn floors_too_early(bytes: &mut Vec<u8>, _: &mut Generator) {
+    change_fields(bytes, |fields| {
+        let floors = floors_field(fields);
+        fields.retain(|&(tag, _)| tag != TAG_FLOORS);
+        fields.insert(fields.len().saturating_sub(1), floors);
+    });
+}
+
+/// Floors stand twice at the end.
+fn floors_twice(bytes: &mut Vec<u8>, _: &mut Generator) {
+    change_fields(bytes, |fields| {
+        let floors = floors_field(fields);
+        fields.retain(|&(tag, _)| tag != TAG_FLOORS);
+        fields.extend([floors; 2]);
+    });
 }

@@ -135,6 +135,11 @@ impl LawfulChart {
         parts_have_whole(&self.parts, record.given())
     }
 
+    /// Whether no vertex is below its floor. Lawful charts need not do so.
+    pub fn keeps_floors(&self, record: &Record) -> bool {
+        rows_keep_floors(&self.rows, &record.lowest_rows())
+    }
+
     /// The number of rows.
     pub fn row_count(&self) -> usize {
         self.rows.iter().max().map_or(0, |highest| highest + 1)
@@ -168,6 +173,10 @@ fn edges_rise(edges: &[Edge], rows: &[usize]) -> bool {
     edges.iter().all(|edge| rows[edge.tail] < rows[edge.head])
 }
 
+fn rows_keep_floors(rows: &[usize], floors: &[usize]) -> bool {
+    rows.iter().zip(floors).all(|(row, floor)| row >= floor)
+}
+
 /// Of two vertices of a part, one reaches the other.
 fn parts_are_chains(descent: &Relation, parts: &[usize]) -> bool {
     let related = |u: usize, v: usize| descent.has(u, v) || descent.has(v, u);
@@ -193,12 +202,15 @@ fn distinct(numbers: impl Iterator<Item = usize>) -> usize {
     numbers.collect::<BTreeSet<_>>().len()
 }
 
-/// The fewest rows of any lawful chart. (One with more rows than vertices is not the least.)
+/// The fewest rows of any lawful chart that keeps the floors: all choices of rows are tried, of one row,
+/// of two and so on. (The highest floor and a row more for each vertex are always enough.)
 pub fn least_rows(record: &Record) -> Option<usize> {
-    choices(record.vertex_count, record.vertex_count)
-        .filter(|rows| edges_rise(&record.edges, rows))
-        .filter_map(|rows| rows.iter().max().map(|highest| highest + 1))
-        .min()
+    let (size, floors) = (record.vertex_count, record.lowest_rows());
+    let enough = size + floors.iter().max()?;
+    (1..=enough).find(|&count| {
+        choices(size, count)
+            .any(|rows| rows_keep_floors(&rows, &floors) && edges_rise(&record.edges, &rows))
+    })
 }
 
 /// All divisions into parts of which any lawful chart could have one; some come more than once.
@@ -312,11 +324,8 @@ pub fn acyclic_graphs(size: usize) -> impl Iterator<Item = Record> {
         .collect();
     choices(pairs.len(), 2).filter_map(move |chosen| {
         let edges = pairs.iter().zip(chosen).filter(|&(_, chosen)| chosen == 1);
-        let record = Record {
-            vertex_count: size,
-            edges: edges.map(|(&(u, v), _)| Edge::new(u, v)).collect(),
-            channels: None,
-        };
+        let edges = edges.map(|(&(u, v), _)| Edge::new(u, v));
+        let record = Record::new(size, edges.collect());
         (!descent(&record).has_loop()).then_some(record)
     })
 }

@@ -15,7 +15,9 @@ fn drawn(bytes: &[u8]) -> Result<String, Refusal> {
     let record = Record::parse(bytes)?;
     let chart = Chart::draw(&record)?;
     let mut lines = vec![header(&record, &chart.counts)];
-    lines.extend((0..).zip(&chart.vertices).map(vertex_line));
+    let has_floors = record.floors.is_some();
+    let vertices = (0..).zip(&chart.vertices);
+    lines.extend(vertices.map(|(vertex, entry)| vertex_line(vertex, entry, has_floors)));
     let edges = record.edges.iter().zip(&chart.edges);
     lines.extend(edges.map(|(edge, entry)| edge_line(*edge, entry)));
     lines.extend((0..).zip(&chart.bundles).map(bundle_line));
@@ -35,15 +37,21 @@ fn header(record: &Record, counts: &Counts) -> String {
     )
 }
 
-fn vertex_line((vertex, entry): (usize, &VertexEntry)) -> String {
+/// The floor stands last, where the record has the field.
+fn vertex_line(vertex: usize, entry: &VertexEntry, has_floors: bool) -> String {
     let VertexEntry {
         channel,
         position,
         column,
         row,
         descendants: _,
+        floor,
     } = entry;
-    format!("w {vertex} {channel} {position} {column} {row}")
+    let line = format!("w {vertex} {channel} {position} {column} {row}");
+    match has_floors {
+        true => format!("{line} {floor}"),
+        false => line,
+    }
 }
 
 fn edge_line(edge: Edge, entry: &EdgeEntry) -> String {

@@ -3,7 +3,7 @@
 use crate::breadth::near_limit;
 use crate::damage;
 use crate::descent::Reachability;
-use crate::record::{Edge, Record, MAX_EDGES, MAX_VERTICES};
+use crate::record::{Edge, Record, MAX_EDGES, MAX_FLOOR, MAX_VERTICES};
 use crate::rows;
 use crate::session::{Call, LentCall};
 
@@ -103,12 +103,23 @@ pub fn record(generator: &mut Generator) -> Vec<u8> {
     }
 }
 
-/// A random record that passes the checks 1 to 7, a third of them with given channels, of all
-/// vertices or of some. Some are broad, and some have just as many channels as a chart may have.
+/// A random record that passes the checks 1, 2, 12 and 3 to 7, a third of them with given channels,
+/// of all vertices or of some, and a third with floors. Some are broad, and some have just as many
+/// channels as a chart may have.
 pub fn sound_record(generator: &mut Generator) -> Record {
-    if generator.percent(3) {
-        return near_limit(generator);
+    let mut record = if generator.percent(3) {
+        near_limit(generator)
+    } else {
+        shaped_record(generator)
+    };
+    if generator.percent(33) {
+        give_floors(&mut record, generator);
     }
+    record
+}
+
+/// A record of one of the shapes, without floors.
+fn shaped_record(generator: &mut Generator) -> Record {
     let weighted = [
         Shape::Empty,
         Shape::Sparse,
@@ -167,11 +178,7 @@ pub fn graph(generator: &mut Generator, shape: Shape, size: usize) -> Record {
         pairs.sort_unstable();
     }
     let named = |(low, high): (usize, usize)| Edge::new(names[low], names[high]);
-    Record {
-        vertex_count: size,
-        edges: pairs.into_iter().map(named).collect(),
-        channels: None,
-    }
+    Record::new(size, pairs.into_iter().map(named).collect())
 }
 
 /// Different pairs of a lower and a higher number below `size`.
@@ -229,7 +236,7 @@ pub fn give_some_channels(record: &mut Record, generator: &mut Generator) {
 /// Channels that hold every vertex.
 fn covering_channels(record: &Record, generator: &mut Generator) -> Vec<Vec<usize>> {
     let reach = Reachability::of(record.vertex_count, &record.edges);
-    let rows = rows::compacted(record.vertex_count, &record.edges);
+    let rows = rows::compacted(&vec![0; record.vertex_count], &record.edges);
     let alone = generator.below(60);
     let mut order: Vec<usize> = (0..record.vertex_count).collect();
     generator.shuffle(&mut order);
@@ -250,6 +257,24 @@ fn covering_channels(record: &Record, generator: &mut Generator) -> Vec<Vec<usiz
     }
     generator.shuffle(&mut channels);
     channels
+}
+
+/// Gives the record floors: all zeros, all as high as can be, small ones, any, a few high ones among
+/// zeros, or centuries, which rise about as the rows do.
+pub fn give_floors(record: &mut Record, generator: &mut Generator) {
+    let (kind, century) = (generator.below(8), generator.between(1, 9));
+    let floor = |row: usize| match kind {
+        0 => 0,
+        1 => MAX_FLOOR,
+        2 => generator.below(4),
+        3 => generator.between(0, MAX_FLOOR),
+        4 => generator
+            .pick(&[0, 0, 0, 1, MAX_FLOOR - 1, MAX_FLOOR])
+            .unwrap_or(0),
+        _ => (century * (row + generator.below(3))).min(MAX_FLOOR),
+    };
+    let rows = rows::compacted(&vec![0; record.vertex_count], &record.edges);
+    record.floors = Some(rows.into_iter().map(floor).collect());
 }
 
 /// A number of vertices for a session, now and then a wrong one, and calls on it.

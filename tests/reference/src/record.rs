@@ -1,6 +1,6 @@
 //! The record: its bytes, and what stands in them.
 //!
-//! Vertices are words, edges arrows, given channels house lines (1).
+//! Vertices are words, edges arrows, given channels house lines (1); floors have their own name.
 
 use crate::checks;
 use crate::refusal::Refusal;
@@ -9,6 +9,8 @@ use crate::refusal::Refusal;
 pub const MAX_VERTICES: usize = 128;
 /// The largest number of edges.
 pub const MAX_EDGES: usize = 4096;
+/// The highest floor.
+pub const MAX_FLOOR: usize = 127;
 /// The largest number of bytes of a record.
 pub const MAX_BYTES: usize = 65_535;
 
@@ -18,6 +20,8 @@ pub const TAG_VERTICES: u8 = 1;
 pub const TAG_EDGES: u8 = 2;
 /// The field that holds the given channels.
 pub const TAG_CHANNELS: u8 = 3;
+/// The field that holds the floors.
+pub const TAG_FLOORS: u8 = 4;
 
 /// An edge from its tail to its head.
 #[derive(Clone, Copy, Debug, PartialEq, Eq, PartialOrd, Ord, Hash)]
@@ -44,20 +48,32 @@ pub struct Record {
     pub edges: Vec<Edge>,
     /// The given channels, where the record has that field; an empty one gives none.
     pub channels: Option<Vec<Vec<usize>>>,
+    /// The floors, the lowest row of each vertex, where the record has that field.
+    pub floors: Option<Vec<usize>>,
 }
 
 impl Record {
+    /// A graph, without given channels and floors.
+    pub fn new(vertex_count: usize, edges: Vec<Edge>) -> Record {
+        Record {
+            vertex_count,
+            edges,
+            channels: None,
+            floors: None,
+        }
+    }
+
     /// Takes the bytes apart: check 1.
     pub fn parse(bytes: &[u8]) -> Result<Record, Refusal> {
         parse_layout(bytes).ok_or(Refusal::Layout)
     }
 
-    /// The checks 2 to 7: the first that fails.
+    /// The checks 2, 12 and 3 to 7, in this order: the first that fails.
     pub fn check(&self) -> Result<(), Refusal> {
         checks::first_failing(self).map_or(Ok(()), Err)
     }
 
-    /// The checks 1 to 7.
+    /// The checks 1, 2, 12 and 3 to 7.
     pub fn read(bytes: &[u8]) -> Result<Record, Refusal> {
         let record = Record::parse(bytes)?;
         record.check()?;
@@ -75,6 +91,20 @@ impl Record {
             channels: Some(channels),
             ..self.clone()
         }
+    }
+
+    /// The same graph and channels with these floors.
+    pub fn with_floors(&self, floors: Vec<usize>) -> Record {
+        Record {
+            floors: Some(floors),
+            ..self.clone()
+        }
+    }
+
+    /// The floor of each vertex of a checked record: 0 where the record has no such field.
+    pub fn lowest_rows(&self) -> Vec<usize> {
+        let none = || vec![0; self.vertex_count];
+        self.floors.clone().unwrap_or_else(none)
     }
 
     /// The vertices that no given channel holds, ascending.
@@ -101,6 +131,10 @@ impl Record {
             }
             push_field(&mut bytes, TAG_CHANNELS, &content);
         }
+        if let Some(floors) = &self.floors {
+            let content: Vec<u8> = floors.iter().copied().map(byte).collect();
+            push_field(&mut bytes, TAG_FLOORS, &content);
+        }
         bytes
     }
 }
@@ -111,14 +145,16 @@ fn parse_layout(bytes: &[u8]) -> Option<Record> {
         return None;
     }
     let fields = split_fields(bytes)?;
-    let (size, edges, channels) = match fields.as_slice() {
-        [(TAG_VERTICES, size), (TAG_EDGES, edges)] => (size, edges, None),
-        [(TAG_VERTICES, size), (TAG_EDGES, edges), (TAG_CHANNELS, channels)] => {
-            (size, edges, Some(channels))
-        }
+    let [(TAG_VERTICES, [vertex_count]), (TAG_EDGES, edges), more @ ..] = fields.as_slice() else {
+        return None;
+    };
+    let (channels, floors) = match *more {
+        [] => (None, None),
+        [(TAG_CHANNELS, channels)] => (Some(channels), None),
+        [(TAG_FLOORS, floors)] => (None, Some(floors)),
+        [(TAG_CHANNELS, channels), (TAG_FLOORS, floors)] => (Some(channels), Some(floors)),
         _ => return None,
     };
-    let [vertex_count] = size else { return None };
     Some(Record {
         vertex_count: usize::from(*vertex_count),
         edges: split_edges(edges)?,
@@ -126,11 +162,12 @@ fn parse_layout(bytes: &[u8]) -> Option<Record> {
             Some(content) => Some(split_channels(content)?),
             None => None,
         },
+        floors: floors.map(|content| content.iter().copied().map(usize::from).collect()),
     })
 }
 
 /// Tags and contents of all fields; nothing where one runs past the end.
-pub(crate) fn split_fields(bytes: &[u8]) -> Option<Vec<(u8, &[u8])>> {
+pub fn split_fields(bytes: &[u8]) -> Option<Vec<(u8, &[u8])>> {
     let mut fields = Vec::new();
     let mut rest = bytes;
     while !rest.is_empty() {

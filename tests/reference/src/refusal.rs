@@ -1,4 +1,4 @@
-//! Why something is sent back: the eleven refusals (13).
+//! Why something is sent back: the twelve refusals (13).
 
 use std::fmt;
 
@@ -27,6 +27,8 @@ pub enum Refusal {
     OffPage,
     /// 11, "broad": the chart has too many channels. Said after 7 and before 8.
     Broad,
+    /// 12, "floor": there is not one floor a vertex, or one is too high. Said after 2 and before 3.
+    Floor,
 }
 
 impl Refusal {
@@ -49,6 +51,7 @@ impl Refusal {
             Refusal::Full => "full",
             Refusal::OffPage => "off page",
             Refusal::Broad => "broad",
+            Refusal::Floor => "floor",
         }
     }
 }

@@ -1,27 +1,27 @@
-//! Rows: as low as the edges allow.
+//! Rows: as low as the edges and the floors allow (4).
 
 use crate::descent::successors;
 use crate::record::Edge;
 
-/// The row of each vertex: 0 where no edge enters, else 1 + the highest row of a tail.
+/// The row of each vertex, by its floor and the edges: the floor, or 1 + the highest row of a tail
+/// where that is higher.
 ///
-/// Vertices are taken off in rounds: in each, all whose edges come from rounds before. The
-/// number of the round is the row. (Vertices on or behind a cycle would never be taken off and
-/// keep row 0; a checked record has none.)
-pub fn compacted(vertex_count: usize, edges: &[Edge]) -> Vec<usize> {
-    let successors = successors(vertex_count, edges);
-    let mut entering = vec![0; vertex_count];
+/// Vertices are taken off in rounds: in each, all whose edges come from rounds before. Whoever is
+/// taken off lifts the heads of its edges above itself. (Vertices on or behind a cycle would never
+/// be taken off; a checked record has none.)
+pub fn compacted(floors: &[usize], edges: &[Edge]) -> Vec<usize> {
+    let successors = successors(floors.len(), edges);
+    let mut entering = vec![0; floors.len()];
     for edge in edges {
         entering[edge.head] += 1;
     }
-    let mut rows = vec![0; vertex_count];
-    let mut round: Vec<usize> = (0..vertex_count).filter(|&v| entering[v] == 0).collect();
-    let mut row = 0;
+    let mut rows = floors.to_vec();
+    let mut round: Vec<usize> = (0..rows.len()).filter(|&v| entering[v] == 0).collect();
     while !round.is_empty() {
         let mut next = Vec::new();
         for &u in &round {
-            rows[u] = row;
             for &v in &successors[u] {
+                rows[v] = rows[v].max(rows[u] + 1);
                 entering[v] -= 1;
                 if entering[v] == 0 {
                     next.push(v);
@@ -29,7 +29,6 @@ pub fn compacted(vertex_count: usize, edges: &[Edge]) -> Vec<usize> {
             }
         }
         round = next;
-        row += 1;
     }
     rows
 }

@@ -31,18 +31,22 @@ fn take(smallest: &mut Vec<u8>, candidate: Vec<u8>, holds: &mut impl FnMut(&[u8]
     taken
 }
 
-/// Steps in what the record says: fewer vertices, fewer edges, shorter channels.
+/// Steps in what the record says: fewer vertices, fewer edges, shorter channels, fewer floors.
 fn shrink_record(smallest: &mut Vec<u8>, holds: &mut impl FnMut(&[u8]) -> bool) {
     let Ok(mut record) = Record::parse(smallest) else {
         return;
     };
     let mut accept = |candidate: &Record| take(smallest, candidate.to_bytes(), holds);
-    let bare = Record {
-        channels: None,
-        ..record.clone()
-    };
-    if accept(&bare) {
-        record = bare;
+    let fields: [fn(&mut Record); 2] = [
+        |record| record.channels = None,
+        |record| record.floors = None,
+    ];
+    for leave_out in fields {
+        let mut bare = record.clone();
+        leave_out(&mut bare);
+        if accept(&bare) {
+            record = bare;
+        }
     }
     for vertex in (0..record.vertex_count).rev() {
         let fewer = without_vertex(&record, vertex);
@@ -53,6 +57,7 @@ fn shrink_record(smallest: &mut Vec<u8>, holds: &mut impl FnMut(&[u8]) -> bool) 
     shrink_edges(&mut record, &mut accept);
     shrink_channels(&mut record, &mut accept);
     join_channels(&mut record, &mut accept);
+    shrink_floors(&mut record, &mut accept);
 }
 
 /// Leaves out edges.
@@ -98,7 +103,18 @@ fn join_channels(record: &mut Record, accept: &mut impl FnMut(&Record) -> bool) 
     }
 }
 
-/// The record without one vertex; higher ones move down.
+/// Leaves out floors.
+fn shrink_floors(record: &mut Record, accept: &mut impl FnMut(&Record) -> bool) {
+    let mut candidate = record.clone();
+    if let Some(floors) = &mut record.floors {
+        *floors = without_pieces(floors.clone(), |floors| {
+            candidate.floors = Some(floors.to_vec());
+            accept(&candidate)
+        });
+    }
+}
+
+/// The record without one vertex and its floor; higher ones move down.
 fn without_vertex(record: &Record, lost: usize) -> Record {
     let moved = |vertex: usize| vertex - usize::from(vertex > lost);
     let kept = |edge: &&Edge| edge.tail != lost && edge.head != lost;
@@ -111,10 +127,15 @@ fn without_vertex(record: &Record, lost: usize) -> Record {
         let shorter = channels.iter().map(shorter);
         shorter.filter(|channel| !channel.is_empty()).collect()
     });
+    let mut floors = record.floors.clone();
+    if let Some(floors) = floors.as_mut().filter(|floors| lost < floors.len()) {
+        floors.remove(lost);
+    }
     Record {
         vertex_count: record.vertex_count - 1,
         edges: record.edges.iter().filter(kept).map(rename).collect(),
         channels,
+        floors,
     }
 }
 

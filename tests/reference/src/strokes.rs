@@ -9,8 +9,8 @@ pub const COLUMN_PITCH: u32 = 42;
 pub const ROW_PITCH: u32 = 113;
 /// The number of columns of a page.
 pub const PAGE_COLUMNS: usize = 640;
-/// The number of rows of a page.
-pub const PAGE_ROWS: usize = 128;
+/// The number of rows of a page, as many as a chart of the most vertices from the highest floor has.
+pub const PAGE_ROWS: usize = 255;
 
 /// A point of the page (12.1), in whole quarter points.
 #[derive(Clone, Copy, Debug, PartialEq, Eq)]

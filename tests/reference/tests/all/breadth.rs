@@ -1,6 +1,6 @@
 //! Charts of 31 lines and of more, and that no division into lines saves a refused one.
 
-use crate::support::{graph, refusal, rising, with_channels};
+use crate::support::{graph, refusal, rising, with_channels, with_floors};
 use reference::breadth::{is_broad, near_limit, of_channels};
 use reference::chart::Chart;
 use reference::descent::Reachability;
@@ -62,6 +62,8 @@ fn every_refusal_of_the_record_goes_before_11() {
     broken.channels.as_mut().expect("lines").pop();
     assert_eq!(chart_refusal(&broken), 7);
     assert_eq!(chart_refusal(&graph(40, &[(3, 3)])), 5);
+    assert_eq!(chart_refusal(&with_floors(40, &[], &[0; 39])), 12);
+    assert_eq!(chart_refusal(&with_floors(40, &[], &[127; 40])), 11);
 }
 
 #[test]

@@ -1,6 +1,6 @@
 //! What the chart hands over, and the lists that a caller lends.
 
-use crate::support::{draw, graph, layered, rising, with_channels};
+use crate::support::{draw, graph, layered, rising, with_channels, with_floors};
 use reference::bundles::Bundle;
 use reference::chart::{draw_into, Chart, Counts, EdgeEntry, Lists, VertexEntry};
 use reference::descent::Reachability;
@@ -115,6 +115,7 @@ fn short_is_said_after_every_other_refusal() {
     let records = [
         (Vec::new(), Refusal::Layout),
         (graph(129, &[]).to_bytes(), Refusal::Size),
+        (with_floors(1, &[], &[128]).to_bytes(), Refusal::Floor),
         (graph(1, &[(0, 1)]).to_bytes(), Refusal::UnknownVertex),
         (
             graph(2, &[(0, 1), (0, 1)]).to_bytes(),
@@ -214,6 +215,7 @@ fn masks_have_a_bit_where_one_reaches_another() {
 fn an_unchecked_record_is_not_drawn() {
     let refused = |record: &Record| Chart::draw(record).err().map(Refusal::number);
     assert_eq!(refused(&graph(0, &[])), Some(2));
+    assert_eq!(refused(&with_floors(2, &[(0, 1)], &[0])), Some(12));
     assert_eq!(refused(&graph(1, &[(0, 7)])), Some(3));
     assert_eq!(refused(&graph(2, &[(0, 1), (1, 0)])), Some(5));
     assert_eq!(refused(&with_channels(1, &[], &[&[0, 0]])), Some(6));

@@ -22,8 +22,8 @@ fn refusals(fault: impl Fn(&mut Generator) -> Vec<u8>) -> Vec<u8> {
 
 #[test]
 fn faults_in_what_a_record_says_have_their_refusals() {
-    // In the order of the list: sizes, ends, doubles, rings, edges, channels (repeats first).
-    let expected: [&[u8]; 15] = [
+    // In the order of the list: sizes, ends, doubles, rings, edges, channels (repeats first), floors.
+    let expected: [&[u8]; 19] = [
         &[2],
         &[2],
         &[0, 2, 3],
@@ -39,6 +39,10 @@ fn faults_in_what_a_record_says_have_their_refusals() {
         &[7],
         &[3],
         &[1],
+        &[12],
+        &[12],
+        &[12],
+        &[12],
     ];
     for (number, (fault, expected)) in FAULTS.iter().zip(expected).enumerate() {
         let met = refusals(|generator| {
@@ -60,19 +64,43 @@ fn byte_refusals(number: usize) -> Vec<u8> {
 }
 
 #[test]
+fn faults_of_other_kinds_do_not_hide_behind_floors() {
+    // Where vertices are fewer there are too many floors; any other fault is told as without floors.
+    let floors = || sound().with_floors(vec![0, 9, 0, 1, 127, 0]);
+    assert_eq!(floors().check(), Ok(()));
+    let fewer = refusals(|generator| {
+        let mut record = floors();
+        FAULTS[2](&mut record, generator);
+        record.to_bytes()
+    });
+    assert_eq!(fewer, [0, 2, 12]);
+    for (number, expected) in [(3, 3), (4, 4), (5, 5), (8, 6), (11, 7)] {
+        let met = refusals(|generator| {
+            let mut record = floors();
+            FAULTS[number](&mut record, generator);
+            record.to_bytes()
+        });
+        assert_eq!(met, [expected], "{number}");
+    }
+}
+
+#[test]
 fn faults_in_the_bytes_have_their_refusals() {
-    // A record cut after its edges, or without its channels, or with its old tag, is sound.
-    let expected: [(usize, &[u8]); 10] = [
+    // A record cut after its edges, or without its channels, or with its old tag, is sound; with the
+    // tag of floors its channels are too many floors.
+    let expected: [(usize, &[u8]); 12] = [
         (0, &[0, 1]),
         (1, &[1]),
         (4, &[1]),
         (5, &[1]),
-        (6, &[0, 1]),
+        (6, &[0, 1, 12]),
         (7, &[1]),
         (8, &[0, 1]),
         (9, &[1]),
         (10, &[0, 1]),
-        (11, &[1, 6]),
+        (11, &[1, 6, 12]),
+        (12, &[1]),
+        (13, &[1]),
     ];
     for (number, expected) in expected {
         assert_eq!(byte_refusals(number), expected, "{number}");
@@ -95,7 +123,8 @@ fn an_oversized_record_is_at_the_limit_or_one_byte_over() {
         let mut bytes = sound().to_bytes();
         BYTE_FAULTS[11](&mut bytes, &mut generator);
         let over = bytes.len() > MAX_BYTES;
-        assert_eq!(refusal(&bytes), if over { 1 } else { 6 });
+        let expected: &[u8] = if over { &[1] } else { &[6, 12] };
+        assert!(expected.contains(&refusal(&bytes)));
         lengths.insert(bytes.len());
     }
     assert!(lengths.into_iter().eq([MAX_BYTES, MAX_BYTES + 1]));

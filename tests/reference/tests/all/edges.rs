@@ -69,7 +69,7 @@ fn other_orders_and_other_tags_give_1() {
     for order in wrong {
         assert_eq!(refusal(&fields(order)), 1, "{order:?}");
     }
-    for tag in [0, 1, 2, 4, 255] {
+    for tag in [0, 1, 2, 5, 255] {
         assert_eq!(refusal(&fields(&[ONE, NO_ARROWS, (tag, &[1, 0])])), 1);
         assert_eq!(refusal(&fields(&[ONE, NO_ARROWS, (tag, &[])])), 1);
     }
@@ -247,18 +247,26 @@ fn planned_lines_follow_the_house_lines() {
     assert_eq!(channels(&chart), [vec![3], vec![1, 4], vec![0, 2], vec![5]]);
 }
 
+/// The refusals of a record in the order of their checks.
+const ORDER: [u8; 8] = [1, 2, 12, 3, 4, 5, 6, 7];
+
 #[test]
-fn of_several_faults_the_lowest_number_is_given() {
-    for faults in 1u8..128 {
-        let has = |number: u8| faults >> (number - 1) & 1 == 1;
-        let first = (1..=7).find(|&number| has(number));
-        assert_eq!(Some(refusal(&with_faults(has))), first, "{faults:07b}");
+fn of_several_faults_the_first_in_order_is_given() {
+    for faults in 1..=u8::MAX {
+        let chosen = ORDER.iter().enumerate();
+        let chosen = chosen.filter(|(place, _)| faults >> place & 1 == 1);
+        let chosen: Vec<u8> = chosen.map(|(_, &number)| number).collect();
+        for floors in [vec![0; 3], vec![0; 5], vec![0, 128, 0, 0], Vec::new()] {
+            let bytes = with_faults(|number| chosen.contains(&number), floors);
+            assert_eq!(refusal(&bytes), chosen[0], "{chosen:?}");
+        }
     }
 }
 
-/// A record with the wanted ones of the faults 1 to 7.
-fn with_faults(has: impl Fn(u8) -> bool) -> Vec<u8> {
+/// A record with the wanted ones of these faults, of which 12 is by these floors.
+fn with_faults(has: impl Fn(u8) -> bool, floors: Vec<usize>) -> Vec<u8> {
     let mut record = with_channels(4, &[(0, 1), (2, 3)], &[&[0, 1], &[2, 3]]);
+    record.floors = has(12).then_some(floors);
     let lines = record.channels.as_mut().expect("lines");
     if has(7) {
         lines[0].reverse();
@@ -296,6 +304,7 @@ fn refusals_have_their_numbers_and_words() {
         (Refusal::Full, 9, "full"),
         (Refusal::OffPage, 10, "off page"),
         (Refusal::Broad, 11, "broad"),
+        (Refusal::Floor, 12, "floor"),
     ];
     for (refusal, number, word) in table {
         assert_eq!((refusal.number(), refusal.word()), (number, word));
@@ -306,6 +315,8 @@ fn refusals_have_their_numbers_and_words() {
 #[test]
 fn reading_keeps_what_the_record_says() {
     let record = with_channels(3, &[(0, 1), (0, 2)], &[&[0, 2], &[1]]);
+    assert_eq!(Record::read(&record.to_bytes()).as_ref(), Ok(&record));
+    let record = record.with_floors(vec![0, 127, 3]);
     assert_eq!(Record::read(&record.to_bytes()), Ok(record));
     let record = graph(3, &[(2, 1), (2, 0)]);
     assert_eq!(Record::read(&record.to_bytes()), Ok(record));

@@ -1,6 +1,6 @@
 //! All small graphs: no lawful chart is smaller than the one drawn (SPECIFICATION.md, 10.5).
 
-use crate::support::{draw, graph, with_channels};
+use crate::support::{draw, graph, with_channels, with_floors};
 use reference::bundles::Bundle;
 use reference::chart::Chart;
 use reference::lawful::{
@@ -18,6 +18,7 @@ fn assert_lawful(record: &Record, chart: &Chart) -> LawfulChart {
     let ours = LawfulChart::of(record, chart);
     assert!(ours.is_lawful(record), "{record:?}");
     assert!(ours.has_given_whole(record), "{record:?}");
+    assert!(ours.keeps_floors(record), "{record:?}");
     let counts = &chart.counts;
     assert_eq!(ours.row_count(), counts.rows, "{record:?}");
     assert_eq!(ours.part_count(), counts.channels, "{record:?}");
@@ -29,8 +30,8 @@ fn assert_lawful(record: &Record, chart: &Chart) -> LawfulChart {
     ours
 }
 
-/// No lawful chart has fewer rows, fewer links or, with the same bundles, fewer tracks; and none
-/// that has the given channels whole has fewer parts.
+/// No lawful chart has fewer links or, with the same bundles, fewer tracks; none that keeps the floors
+/// has fewer rows, and none that has the given channels whole has fewer parts.
 fn assert_least(record: &Record, chart: &Chart, links: &BTreeMap<Relation, usize>) {
     let ours = assert_lawful(record, chart);
     assert_eq!(Some(ours.row_count()), least_rows(record), "{record:?}");
@@ -73,6 +74,71 @@ fn nor_with_given_channels() {
         }
     }
     assert!(tried > 10_000, "{tried}");
+}
+
+#[test]
+fn nor_with_floors() {
+    let mut tried = 0;
+    for size in SIZES {
+        let links = least_links(size);
+        for record in acyclic_graphs(size) {
+            for floors in choices(size, 3) {
+                let record = record.with_floors(floors);
+                assert_least(&record, &draw(&record), &links);
+                tried += 1;
+            }
+        }
+    }
+    assert_eq!(tried, 3 + 9 * 3 + 27 * 25 + 81 * 543);
+}
+
+#[test]
+fn nor_with_floors_and_given_channels() {
+    for size in 1..=3 {
+        let links = least_links(size);
+        for record in acyclic_graphs(size) {
+            for channels in sound_channels(&record) {
+                for floors in choices(size, 4) {
+                    let record = record.with_given(channels.clone()).with_floors(floors);
+                    assert_least(&record, &draw(&record), &links);
+                }
+            }
+        }
+    }
+}
+
+#[test]
+fn nor_with_the_highest_floors() {
+    let high = [0, 126, 127];
+    for record in acyclic_graphs(2) {
+        for chosen in choices(2, high.len()) {
+            let floors = chosen.iter().map(|&place| high[place]).collect();
+            let record = record.with_floors(floors);
+            assert_least(&record, &draw(&record), &least_links(2));
+        }
+    }
+}
+
+/// With floors that are not kept fewer rows would do; of lawful charts that keep them none has fewer.
+#[test]
+fn floors_are_asked_for_where_rows_are_counted() {
+    let record = with_floors(3, &[(0, 1), (1, 2)], &[0, 4, 0]);
+    let ours = LawfulChart::of(&record, &draw(&record));
+    assert!(ours.is_lawful(&record) && ours.keeps_floors(&record));
+    let low = LawfulChart {
+        rows: vec![0, 1, 2],
+        ..ours.clone()
+    };
+    assert!(low.is_lawful(&record) && !low.keeps_floors(&record));
+    let high = LawfulChart {
+        rows: vec![9, 10, 11],
+        ..ours.clone()
+    };
+    assert!(high.is_lawful(&record) && high.keeps_floors(&record));
+    assert_eq!((low.row_count(), ours.row_count()), (3, 6));
+    assert_eq!(least_rows(&record), Some(6));
+    let floors = None;
+    assert_eq!(least_rows(&Record { floors, ..record }), Some(3));
 }
 
 #[test]

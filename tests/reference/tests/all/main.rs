@@ -5,6 +5,7 @@ mod chart;
 mod connections;
 mod damage;
 mod edges;
+mod floors;
 mod geometry;
 mod lawful;
 mod misreadings;

@@ -1,6 +1,6 @@
 //! The programs, run as they are.
 
-use crate::support::{graph, layered, rising};
+use crate::support::{graph, layered, rising, tallest, with_floors};
 use reference::listing::listing;
 use reference::random::{record, Generator};
 use reference::vectors::{parse, parse_script};
@@ -33,7 +33,7 @@ fn text(output: &Output) -> String {
 
 #[test]
 fn reference_prints_the_listing() {
-    for record in [graph(5, &rising(5, 8)), layered(31)] {
+    for record in [graph(5, &rising(5, 8)), layered(31), tallest()] {
         let output = run(REFERENCE, &[], &record.to_bytes());
         assert!(output.status.success());
         assert_eq!(text(&output), listing(&record.to_bytes()));
@@ -48,6 +48,7 @@ fn reference_prints_the_refusal() {
         (graph(129, &[]).to_bytes(), "refused 2\n"),
         (graph(1, &[(0, 0)]).to_bytes(), "refused 5\n"),
         (layered(32).to_bytes(), "refused 11\n"),
+        (with_floors(1, &[], &[]).to_bytes(), "refused 12\n"),
     ] {
         assert_eq!(text(&run(REFERENCE, &[], &bytes)), expected);
     }

@@ -4,7 +4,7 @@ use reference::chart::Chart;
 use reference::descent::Reachability;
 use reference::kinds::Kind;
 use reference::random::{graph, record, sound_record, Generator, Shape, SHAPES};
-use reference::record::{Record, MAX_BYTES, MAX_EDGES, MAX_VERTICES};
+use reference::record::{split_fields, Record, MAX_BYTES, MAX_EDGES, MAX_VERTICES};
 use reference::refusal::Refusal;
 use std::collections::{BTreeMap, BTreeSet};
 
@@ -38,7 +38,7 @@ fn numbers_stay_below_their_bound_and_reach_it() {
 }
 
 #[test]
-fn sound_records_pass_the_checks_1_to_7() {
+fn sound_records_pass_the_checks_of_a_record() {
     let mut generator = Generator::new(4);
     let mut given = 0;
     for _ in 0..2000 {
@@ -84,7 +84,7 @@ fn channels_of_every_kind_are_given() {
 fn repeats_and_breaks_of_every_kind_are_met() {
     // Repeated in one channel, in two; broken; both at once; beside vertices that none holds.
     let mut met = [0; 5];
-    for bytes in records(15, 6000) {
+    for bytes in records(15, 9000) {
         let Err(refusal @ (Refusal::Cover | Refusal::Broken)) = Record::read(&bytes) else {
             continue;
         };
@@ -117,12 +117,70 @@ fn broken(record: &Record) -> bool {
     record.given().iter().any(|list| list.windows(2).any(falls))
 }
 
+/// What there is to tell of the floors of a record's bytes, by name.
+fn floor_cases(bytes: &[u8]) -> Vec<&'static str> {
+    let cases = match Record::parse(bytes) {
+        Ok(record) => said_floors(&record),
+        Err(_) => misplaced_floors(bytes),
+    };
+    let met = cases.into_iter().filter(|&(_, is)| is);
+    met.map(|(name, _)| name).collect()
+}
+
+fn misplaced_floors(bytes: &[u8]) -> Vec<(&'static str, bool)> {
+    let fields = split_fields(bytes).unwrap_or_default();
+    let tags: Vec<u8> = fields.iter().map(|&(tag, _)| tag).collect();
+    vec![
+        ("before house lines", tags == [1, 2, 4, 3]),
+        ("twice", tags == [1, 2, 4, 4]),
+        ("twice behind house lines", tags == [1, 2, 3, 4, 4]),
+    ]
+}
+
+fn said_floors(record: &Record) -> Vec<(&'static str, bool)> {
+    let Some(floors) = &record.floors else {
+        return Vec::new();
+    };
+    let (count, highest) = (floors.len(), floors.iter().max().copied().unwrap_or(0));
+    let (right, lines) = (count == record.vertex_count, record.channels.is_some());
+    let lifted = Chart::draw(record).is_ok_and(|chart| {
+        let mut entries = chart.vertices.iter();
+        entries.any(|entry| 0 < entry.floor && entry.floor < entry.row)
+    });
+    vec![
+        ("zeros", right && highest == 0),
+        ("small", right && (1..9).contains(&highest)),
+        ("large", right && (60..127).contains(&highest)),
+        ("127", right && highest == 127),
+        ("128", right && highest == 128),
+        ("above 128", right && highest > 128),
+        ("none", count == 0),
+        ("too few", 0 < count && count < record.vertex_count),
+        ("too many", count > record.vertex_count),
+        ("behind house lines", right && lines),
+        ("without house lines", right && !lines),
+        ("below the row", lifted),
+    ]
+}
+
+#[test]
+fn floors_of_every_kind_are_met() {
+    let mut met: BTreeMap<&str, usize> = BTreeMap::new();
+    for bytes in records(16, 8000) {
+        for case in floor_cases(&bytes) {
+            *met.entry(case).or_default() += 1;
+        }
+    }
+    assert_eq!(met.len(), 15, "{met:?}");
+    assert!(met.values().all(|&count| count > 10), "{met:?}");
+}
+
 #[test]
 fn every_refusal_and_every_size_is_met() {
     let mut answers: BTreeMap<u8, usize> = BTreeMap::new();
     let mut lengths = BTreeSet::new();
     let mut sizes = BTreeSet::new();
-    for bytes in records(5, 8000) {
+    for bytes in records(5, 10_000) {
         let chart = Chart::read(&bytes);
         sizes.extend(chart.as_ref().map(|chart| chart.vertices.len()));
         let number = chart.err().map_or(0, |refusal| refusal.number());
@@ -130,7 +188,7 @@ fn every_refusal_and_every_size_is_met() {
         lengths.insert(bytes.len());
     }
     assert!(
-        answers.keys().copied().eq((0..=7).chain([11])),
+        answers.keys().copied().eq((0..=7).chain([11, 12])),
         "{answers:?}"
     );
     assert!(answers.values().all(|&count| count >= 60), "{answers:?}");

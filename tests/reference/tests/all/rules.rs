@@ -61,7 +61,8 @@ fn cycles_are_where_rounds_of_taking_off_stop() {
             reference::record::Edge::new(tail, head)
         };
         let edges: Vec<_> = (0..size).map(|_| edge(&mut generator)).collect();
-        let rows = rows::compacted(size, &edges);
+        let floors: Vec<usize> = (0..size).map(|_| generator.below(3)).collect();
+        let rows = rows::compacted(&floors, &edges);
         let all_rise = edges.iter().all(|edge| rows[edge.tail] < rows[edge.head]);
         assert_eq!(Reachability::of(size, &edges).has_cycle(), !all_rise);
         cyclic += usize::from(!all_rise);
@@ -120,16 +121,62 @@ fn an_empty_field_of_house_lines_changes_nothing() {
 }
 
 #[test]
-fn rows_are_0_or_one_above_the_highest_tail() {
-    for (record, chart) in sample(15, 1000) {
+fn rows_are_the_floor_or_one_above_the_highest_tail() {
+    // No edge into it; the floor lower than the edges ask, as high, higher.
+    let mut met = [0; 4];
+    for (record, chart) in sample(15, 1500) {
         for (vertex, entry) in chart.vertices.iter().enumerate() {
             let entering = record.edges.iter().filter(|edge| edge.head == vertex);
             let tails = entering.map(|edge| chart.vertices[edge.tail].row + 1);
-            assert_eq!(entry.row, tails.max().unwrap_or(0));
+            let (floor, above) = (record.lowest_rows()[vertex], tails.max());
+            assert_eq!(entry.row, floor.max(above.unwrap_or(0)));
+            assert_eq!(entry.floor, floor);
+            let above = above.map_or(0, |above| {
+                1 + usize::from(floor >= above) + usize::from(floor > above)
+            });
+            met[above] += usize::from(record.floors.is_some());
         }
         let highest = chart.vertices.iter().map(|entry| entry.row).max();
         assert_eq!(Some(chart.counts.rows), highest.map(|row| row + 1));
     }
+    assert!(met.iter().all(|&count| count > 40), "{met:?}");
+}
+
+/// Rows rise along a line, with floors or without, so that bundles meet where they met: lines, marks, side
+/// columns and columns go by the arrows alone. And zeros are no floors at all.
+#[test]
+fn floors_move_rows_and_the_courses_of_cross_arrows_alone() {
+    let mut moved = 0;
+    for (record, chart) in sample(29, 600) {
+        let floors = None;
+        let without = draw(&Record {
+            floors,
+            ..record.clone()
+        });
+        let zeros = vec![0; record.vertex_count];
+        assert_eq!(draw(&record.with_floors(zeros)), without);
+        assert!(chart.counts.rows >= without.counts.rows);
+        moved += usize::from(chart.counts.rows > without.counts.rows);
+        assert_eq!(leveled(chart), leveled(without), "{record:?}");
+    }
+    assert!(moved > 50, "{moved}");
+}
+
+/// The chart without its rows, its floors and what its cross arrows make of them.
+fn leveled(mut chart: Chart) -> Chart {
+    chart.counts.rows = 0;
+    for entry in &mut chart.vertices {
+        (entry.row, entry.floor) = (0, 0);
+    }
+    for entry in &mut chart.edges {
+        if let Kind::Bent { .. } = entry.kind {
+            entry.kind = Kind::Straight;
+        }
+    }
+    for bundle in &mut chart.bundles {
+        (bundle.first_row, bundle.last_row) = (0, 0);
+    }
+    chart
 }
 
 #[test]

@@ -14,18 +14,19 @@ fn smaller(one: &[u8], other: &[u8]) -> bool {
 
 #[test]
 fn each_refusal_ends_at_a_least_record() {
-    // For 3, of an unknown vertex in an edge or in a channel.
-    let lengths: [&[usize]; 8] = [&[7], &[0], &[7], &[9, 12], &[11], &[9], &[13], &[13]];
+    // For 3, of an unknown vertex in an edge or in a channel; for 12, of an empty field.
+    let lengths: [&[usize]; 9] = [&[7], &[0], &[7], &[9, 12], &[11], &[9], &[13], &[13], &[10]];
     let mut generator = Generator::new(31);
-    let mut met = [0; 8];
-    for _ in 0..400 {
+    let mut met = [0; 9];
+    for _ in 0..500 {
         let bytes = record(&mut generator);
         let number = refusal(&bytes);
         let found = shrink(&bytes, |bytes| refusal(bytes) == number);
         assert_eq!(refusal(&found), number);
-        let least = lengths[usize::from(number)];
+        let place = if number == 12 { 8 } else { usize::from(number) };
+        let least = lengths[place];
         assert!(least.contains(&found.len()), "{number} {found:?}");
-        met[usize::from(number)] += 1;
+        met[place] += 1;
     }
     assert!(met.iter().all(|&count| count > 0), "{met:?}");
 }
@@ -53,6 +54,17 @@ fn a_large_chart_with_a_bundle_becomes_a_triangle() {
     assert!(has_bundle(&found));
     let record = Record::parse(&found).expect("a record");
     assert_eq!((record.vertex_count, record.edges.len()), (3, 3));
+}
+
+#[test]
+fn a_floor_that_counts_stays_and_the_others_become_0() {
+    let is_tall = |bytes: &[u8]| Chart::read(bytes).is_ok_and(|chart| chart.counts.rows > 40);
+    let record = graph(9, &rising(9, 30)).with_floors(vec![3, 0, 70, 5, 0, 0, 99, 1, 0]);
+    let found = shrink(&record.to_bytes(), is_tall);
+    assert_eq!(Some(found), from_hex("010001 01 020000 040001 28"));
+    let low = graph(9, &rising(9, 30)).with_floors(vec![0; 9]);
+    let found = shrink(&low.to_bytes(), |bytes| Chart::read(bytes).is_ok());
+    assert_eq!(Some(found), from_hex("010001 01 020000"));
 }
 
 #[test]

@@ -1,9 +1,9 @@
 //! Page strokes: exact quarters, and the edge of the page.
 
-use crate::support::{draw, layered, with_channels};
+use crate::support::{draw, layered, tallest, with_channels};
 use reference::geometry::Place;
 use reference::refusal::Refusal;
-use reference::strokes::{Point, Polyline};
+use reference::strokes::{Point, Polyline, PAGE_COLUMNS, PAGE_ROWS};
 
 fn point(column: usize, row: usize) -> Result<Point, Refusal> {
     Point::at(Place::new(column, row))
@@ -24,8 +24,8 @@ fn the_first_place_is_the_corner() {
 
 #[test]
 fn every_place_of_the_page_is_exact() {
-    for column in 0..640 {
-        for row in 0..128 {
+    for column in 0..PAGE_COLUMNS {
+        for row in 0..PAGE_ROWS {
             let point = point(column, row).expect("on the page");
             assert_eq!(f64::from(point.across()) * 4.0, column as f64 * 42.0);
             assert_eq!(f64::from(point.up()) * 4.0, row as f64 * 113.0);
@@ -34,12 +34,12 @@ fn every_place_of_the_page_is_exact() {
 }
 
 #[test]
-fn the_page_ends_before_column_640_and_row_128() {
-    assert!(point(639, 127).is_ok());
+fn the_page_ends_before_column_640_and_row_255() {
+    assert!(point(639, 254).is_ok());
     for (column, row) in [
         (640, 0),
-        (0, 128),
-        (640, 128),
+        (0, 255),
+        (640, 255),
         (usize::MAX, 0),
         (0, usize::MAX),
     ] {
@@ -50,7 +50,7 @@ fn the_page_ends_before_column_640_and_row_128() {
 #[test]
 fn each_place_of_a_stroke_is_checked() {
     let on = Place::new(1, 1);
-    for off in [Place::new(640, 0), Place::new(0, 128)] {
+    for off in [Place::new(640, 0), Place::new(0, 255)] {
         for length in 2..=4 {
             for wrong in 0..length {
                 let mut places = vec![on; length];
@@ -107,11 +107,13 @@ fn arrows_become_strokes_of_their_kind() {
 }
 
 #[test]
-fn the_largest_chart_fits_the_page() {
-    let record = layered(31);
-    let chart = draw(&record);
-    for (number, &edge) in record.edges.iter().enumerate() {
-        let stroke = Polyline::through(&chart.route(number, edge));
-        assert!(matches!(stroke, Some(Ok(_))), "{number}");
+fn the_largest_and_the_tallest_chart_fit_the_page() {
+    for record in [layered(31), tallest()] {
+        let chart = draw(&record);
+        for (number, &edge) in record.edges.iter().enumerate() {
+            let stroke = Polyline::through(&chart.route(number, edge));
+            assert!(matches!(stroke, Some(Ok(_))), "{number}");
+        }
     }
+    assert_eq!(draw(&tallest()).counts.rows, PAGE_ROWS);
 }

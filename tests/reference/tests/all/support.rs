@@ -4,13 +4,10 @@ use reference::chart::Chart;
 use reference::record::{Edge, Record};
 use reference::refusal::Refusal;
 
-/// A record without given channels.
+/// A record without given channels and floors.
 pub fn graph(vertex_count: usize, edges: &[(usize, usize)]) -> Record {
-    Record {
-        vertex_count,
-        edges: edges.iter().map(|&(u, v)| Edge::new(u, v)).collect(),
-        channels: None,
-    }
+    let edges = edges.iter().map(|&(u, v)| Edge::new(u, v));
+    Record::new(vertex_count, edges.collect())
 }
 
 /// A record with given channels.
@@ -21,6 +18,11 @@ pub fn with_channels(
 ) -> Record {
     let channels = channels.iter().map(|channel| channel.to_vec());
     graph(vertex_count, edges).with_given(channels.collect())
+}
+
+/// A record with floors and no given channels.
+pub fn with_floors(vertex_count: usize, edges: &[(usize, usize)], floors: &[usize]) -> Record {
+    graph(vertex_count, edges).with_floors(floors.to_vec())
 }
 
 /// The chart of a record that must be accepted.
@@ -95,4 +97,14 @@ pub fn layered(breadth: usize) -> Record {
     };
     let pairs: Vec<_> = rising(1).chain(rising(2)).take(4096).collect();
     graph(128, &pairs)
+}
+
+/// The tallest chart there is: 128 vertices in one path, with some edges two on, and the first at the
+/// highest floor.
+pub fn tallest() -> Record {
+    let path = (0..127).map(|u| (u, u + 1));
+    let over = (0..126).step_by(5).map(|u| (u, u + 2));
+    let mut floors = vec![0; 128];
+    floors[0] = 127;
+    with_floors(128, &path.chain(over).collect::<Vec<_>>(), &floors)
 }

@@ -1,4 +1,4 @@
-//! The 110 records whose listings are given, and the script whose answers are, byte for byte.
+//! The 147 records whose listings are given, and the script whose answers are, byte for byte.
 
 use reference::listing::listing;
 use reference::record::Record;
@@ -9,8 +9,9 @@ use std::collections::BTreeSet;
 const BASE: &str = include_str!("../../vectors/base.txt");
 const HOUSE_LINES: &str = include_str!("../../vectors/a.txt");
 const BREADTH: &str = include_str!("../../vectors/b.txt");
+const FLOORS: &str = include_str!("../../vectors/e.txt");
 const SCRIPT: &str = include_str!("../../vectors/d.txt");
-const FILES: [&str; 3] = [BASE, HOUSE_LINES, BREADTH];
+const FILES: [&str; 4] = [BASE, HOUSE_LINES, BREADTH, FLOORS];
 
 fn vectors(text: &str) -> Vec<Vector> {
     parse(text).expect("a file of vectors")
@@ -23,9 +24,9 @@ fn all() -> Vec<Vector> {
 #[test]
 fn all_are_there() {
     let counts = FILES.map(|text| vectors(text).len());
-    assert_eq!(counts, [67, 34, 9]);
+    assert_eq!(counts, [67, 34, 9, 37]);
     let names: BTreeSet<String> = all().into_iter().map(|vector| vector.name).collect();
-    assert_eq!(names.len(), 110);
+    assert_eq!(names.len(), 147);
 }
 
 #[test]
@@ -57,6 +58,13 @@ fn a_changed_listing_is_noticed() {
     let changed = vectors(&BASE.replacen("w 4 0 2 1 3", "w 4 0 2 1 2", 1));
     assert_eq!(changed[0].bytes, first.bytes);
     assert_ne!(changed[0].listing, listing(&first.bytes));
+}
+
+#[test]
+fn a_changed_floor_is_noticed() {
+    let changed = vectors(&FLOORS.replacen("w 1 0 1 1 5 5", "w 1 0 1 1 5 4", 1));
+    assert_eq!(changed[0].bytes, vectors(FLOORS)[0].bytes);
+    assert_ne!(changed[0].listing, listing(&changed[0].bytes));
 }
 
 #[test]
