@@ -54,12 +54,7 @@ fn session_questions() {
 fn record_questions() {
     let pairs = shuffled_pairs();
     let edges = pairs[..512].iter().map(|&(u, v)| Edge::new(u, v));
-    let record = Record {
-        vertex_count: MAX_VERTICES,
-        edges: edges.collect(),
-        channels: None,
-    };
-    let bytes = record.to_bytes();
+    let bytes = Record::new(MAX_VERTICES, edges.collect()).to_bytes();
     let asked: Vec<(usize, usize)> = pairs.iter().copied().step_by(127).collect();
     let times = timing::seconds([
         &mut || sides::ask_record_proved(&bytes, &asked),

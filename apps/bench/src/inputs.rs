@@ -5,7 +5,8 @@ use ceviloneth::{
 };
 use reference::breadth::is_broad;
 use reference::random::{give_channels, graph, Generator, Shape};
-use reference::record::{Edge, Record, MAX_BYTES, MAX_EDGES, MAX_VERTICES};
+use reference::record::{Edge, Record, MAX_BYTES, MAX_EDGES, MAX_FLOOR, MAX_VERTICES};
+use reference::rows;
 
 /// How many entries of the made-up dictionary are timed.
 const ENTRIES: usize = 100_000;
@@ -92,33 +93,27 @@ pub fn grouped(number: usize) -> String {
 }
 
 /// The first entries of the dictionary: nine of ten have 2 to 20 words, a few up to 128; a tenth
-/// of them has house lines, and none is broad. After it the broad ones that were met on the way.
-pub fn dictionary(entries: usize) -> [Input; 2] {
-    let mut generator = Generator::new(1);
-    let (mut drawn, mut broad) = (Vec::new(), Vec::new());
+/// of them has house lines, and none is broad. Then the same with floors, and the broad ones that were met
+/// on the way.
+pub fn dictionary(entries: usize) -> [Input; 3] {
+    let (mut generator, mut floors) = (Generator::new(1), Generator::new(9));
+    let (mut drawn, mut floored, mut broad) = (Vec::new(), Vec::new(), Vec::new());
     while drawn.len() < entries {
         let record = entry(&mut generator);
-        let kind = if is_broad(&record) {
-            &mut broad
+        if is_broad(&record) {
+            broad.push(record.to_bytes());
         } else {
-            &mut drawn
-        };
-        kind.push(record.to_bytes());
+            drawn.push(record.to_bytes());
+            floored.push(with_floors(record, &mut floors).to_bytes());
+        }
     }
-    let broad_name = format!(
-        "refused: broad, dictionary, {} entries",
-        grouped(broad.len())
-    );
     [
-        (
-            format!("dictionary, {} entries", grouped(entries)),
-            Class::Dictionary,
-            drawn,
-        ),
-        (broad_name, Class::Refused, broad),
+        ("dictionary", Class::Dictionary, drawn),
+        ("dictionary with floors", Class::Dictionary, floored),
+        ("refused: broad, dictionary", Class::Refused, broad),
     ]
     .map(|(name, class, records)| Input {
-        name,
+        name: format!("{name}, {} entries", grouped(records.len())),
         class,
         records,
         room: ROOM,
@@ -175,8 +170,8 @@ fn widest(shape: Grown) -> Record {
 
 /// Everything that is timed.
 pub fn all() -> Vec<Input> {
-    let [drawn, broad] = dictionary(ENTRIES);
-    let mut inputs = vec![drawn];
+    let [drawn, floored, broad] = dictionary(ENTRIES);
+    let mut inputs = vec![drawn, floored];
     inputs.extend(alone());
     inputs.push(broad);
     inputs
@@ -197,6 +192,8 @@ fn growing() -> Vec<Input> {
         .iter()
         .map(|&(words, arrows)| Input::chart("random", &scattered(words, arrows)))
         .collect();
+    let floored = [(8, 16), (MAX_VERTICES, 512)].map(|(n, m)| floored(scattered(n, m)));
+    inputs.extend(floored.map(|record| Input::chart("random with floors", &record)));
     let shapes: [(&str, Grown); 3] = [
         ("chain", |words| chain(words, 1)),
         ("reversed chain", reversed_chain),
@@ -217,11 +214,14 @@ fn largest() -> Vec<Input> {
     let dense = Input::chart("dense", &scattered(MAX_VERTICES, MAX_EDGES));
     let mut inputs = vec![
         Input::chart("medium", &medium(MAX_VERTICES)),
+        Input::chart("medium with floors", &floored(medium(MAX_VERTICES))),
         Input {
             class: Class::Dense,
             ..dense
         },
+        Input::chart("chain from floor 127", &tallest(1)),
         Input::chart("chain with arrows up to 32 on", &chain(MAX_VERTICES, 32)),
+        Input::chart("chain with arrows up to 32 on from floor 127", &tallest(32)),
         Input::chart("deepest search", &deepest_search(0)),
         Input::chart("deepest search beside a house line", &deepest_search(1)),
     ];
@@ -242,16 +242,19 @@ fn refused() -> Vec<Input> {
         medium.to_bytes(),
     );
     short.room[1] = ARROW_NUMBERS * medium.edges.len() - 1;
+    let mut floors = vec![0; MAX_VERTICES];
+    floors[MAX_VERTICES - 1] = MAX_FLOOR + 1;
+    let floor = Input::refused(
+        "a floor of 128 at the last of 128 words",
+        medium.with_floors(floors).to_bytes(),
+    );
     let broad = BROADENING.map(|(name, shape)| Input::broad(name, &shape(MAX_VERTICES)));
-    [ring, no_layout, short].into_iter().chain(broad).collect()
+    let refused = [ring, no_layout, short, floor].into_iter();
+    refused.chain(broad).collect()
 }
 
 fn record(words: usize, pairs: impl Iterator<Item = (usize, usize)>) -> Record {
-    Record {
-        vertex_count: words,
-        edges: pairs.map(|(u, v)| Edge::new(u, v)).collect(),
-        channels: None,
-    }
+    Record::new(words, pairs.map(|(u, v)| Edge::new(u, v)).collect())
 }
 
 /// So many arrows anywhere, each from a lower to a higher word.
@@ -274,6 +277,13 @@ fn medium(words: usize) -> Record {
 fn chain(words: usize, longest: usize) -> Record {
     let pairs = (1..=longest).flat_map(|step| (0..words - step).map(move |u| (u, u + step)));
     record(words, pairs)
+}
+
+/// The same of the most words, from the highest floor: as many rows as there are.
+fn tallest(longest: usize) -> Record {
+    let mut floors = vec![0; MAX_VERTICES];
+    floors[0] = MAX_FLOOR;
+    chain(MAX_VERTICES, longest).with_floors(floors)
 }
 
 /// One line through the words in this order.
@@ -316,6 +326,19 @@ fn bipartite(words: usize, limit: impl Fn(usize) -> usize) -> Record {
     let half = words / 2;
     let pairs = (0..half).flat_map(|u| (half..limit(u)).map(move |v| (u, v)));
     record(words, pairs)
+}
+
+fn floored(record: Record) -> Record {
+    with_floors(record, &mut Generator::new(10))
+}
+
+/// Centuries: later ones for words that others lead to, here and there by leaps.
+fn with_floors(record: Record, generator: &mut Generator) -> Record {
+    let mut floors = rows::compacted(&vec![0; record.vertex_count], &record.edges);
+    for floor in &mut floors {
+        *floor = (2 * *floor + generator.below(4)).min(MAX_FLOOR);
+    }
+    record.with_floors(floors)
 }
 
 fn house_lines(mut record: Record) -> Record {

@@ -18,7 +18,7 @@ Times the proved library, the peer (tests/peer, written for speed) and the secon
 --plot FILE  also times growing charts and writes a picture (SVG) of it
 --others     also times Graphviz and networkx on the same graphs, where they are installed
 --check      ends with 1 where a ratio to the peer is over what is asked: 1.0 on a chart, 0.7 on the
-             dictionary, 0.3 on the dense record
+             dictionary, with floors and without, 0.3 on the dense record
 
 Exit status: 0 done; 1 a ratio is over; 2 wrong use, or a file can't be written.
 ";
@@ -34,8 +34,9 @@ The proved library, the peer (`tests/peer`, C++ written for speed) and the secon
 release builds. The lists are made once, with room for every chart, and lent again and again: caches are
 warm. Records are in memory. A figure is the best of fifteen turns of 0.06 s or more. A ratio below 1 says
 that the proved library is faster. A shape whose largest record is broad is timed as a chart of 31 lines,
-the most there are, and that record as a refusal. With `--check` the exit status tells whether all ratios are as asked,
-with `--others` Graphviz and networkx are timed too.
+the most there are, and that record as a refusal. Records with floors stand beside the same ones without.
+With `--check` the exit status tells whether all ratios are as asked, with `--others` Graphviz and networkx
+are timed too.
 ";
 
 /// What is asked for.

@@ -5,8 +5,8 @@ use bench::inputs::{alone, dictionary, scattered, Class, ROOM};
 use bench::memory::peak_stack;
 use bench::plot::svg;
 use bench::sides::Side;
-use ceviloneth::{chart_into, Refusal, MOST_LINES};
-use reference::random::{give_channels, give_some_channels, graph, Generator, SHAPES};
+use ceviloneth::{chart_into, Refusal, MOST_LINES, MOST_ROWS};
+use reference::random::{give_channels, give_floors, give_some_channels, graph, Generator, SHAPES};
 use reference::record::{Edge, Record, MAX_VERTICES};
 use std::collections::BTreeSet;
 
@@ -50,6 +50,24 @@ fn timed_records_are_what_they_are_called() {
     );
 }
 
+/// What is called by its floors has them, and nothing else does; from floor 127 charts are as tall as can be.
+#[test]
+fn timed_floors_are_what_they_are_called() {
+    let mut tallest = 0;
+    for input in alone().into_iter().chain(dictionary(200)) {
+        for bytes in &input.records {
+            let floors = Record::parse(bytes).is_ok_and(|record| record.floors.is_some());
+            assert_eq!(floors, input.name.contains("floor"), "{}", input.name);
+            if input.name.contains("from floor 127") {
+                let rows = ceviloneth::chart(bytes).map(|chart| chart.counts.rows);
+                assert_eq!(rows, Ok(MOST_ROWS), "{}", input.name);
+                tallest += 1;
+            }
+        }
+    }
+    assert_eq!(tallest, 2);
+}
+
 #[test]
 fn growing_charts_are_drawn() {
     for (words, arrows) in sizes().concat() {
@@ -84,12 +102,14 @@ fn random_largest_records_take_little_stack() {
             give(&mut record, &mut generator);
             records.push(record.to_bytes());
         }
+        give_floors(&mut record, &mut generator);
+        records.push(record.to_bytes());
     }
     assert_small("random largest records", &records, ROOM);
 }
 
 /// Lines through all words in any order: their searches are deep. Half of them are planned beside
-/// house lines of some words.
+/// house lines of some words, and a third have floors.
 #[test]
 fn random_lines_take_little_stack() {
     let mut generator = Generator::new(7);
@@ -97,13 +117,12 @@ fn random_lines_take_little_stack() {
     let line = |number| {
         generator.shuffle(&mut order);
         let steps = order.windows(2).map(|pair| Edge::new(pair[0], pair[1]));
-        let mut record = Record {
-            vertex_count: MAX_VERTICES,
-            edges: steps.collect(),
-            channels: None,
-        };
+        let mut record = Record::new(MAX_VERTICES, steps.collect());
         if number % 2 == 1 {
             give_some_channels(&mut record, &mut generator);
+        }
+        if number % 3 == 1 {
+            give_floors(&mut record, &mut generator);
         }
         record.to_bytes()
     };

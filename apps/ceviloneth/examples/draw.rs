@@ -35,8 +35,8 @@ fn show(record: &[u8], chart: &Chart) -> Result<(), Refusal> {
     );
     for (number, word) in chart.words.iter().enumerate() {
         println!(
-            "word {number}: column {}, row {}, leads to {}",
-            word.column, word.row, word.descendants
+            "word {number}: column {}, row {}, floor {}, leads to {}",
+            word.column, word.row, word.floor, word.descendants
         );
     }
     for arrow in chart.arrows.iter().take(8) {

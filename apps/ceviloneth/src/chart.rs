@@ -4,7 +4,7 @@ use crate::raw;
 use crate::refusal::Refusal;
 
 /// Numbers of a word, of an arrow and of a bundle in the lent lists.
-pub const WORD_NUMBERS: usize = 5;
+pub const WORD_NUMBERS: usize = 6;
 /// Numbers of an arrow.
 pub const ARROW_NUMBERS: usize = 5;
 /// Numbers of a bundle.
@@ -18,6 +18,10 @@ pub const MOST_ARROWS: usize = 4096;
 pub const MOST_BUNDLES: usize = 256;
 /// The most lines of a chart.
 pub const MOST_LINES: usize = 31;
+/// The most rows of a chart, and the rows of a page.
+pub const MOST_ROWS: usize = 255;
+/// The highest floor of a word.
+pub const MOST_FLOOR: u8 = 127;
 
 /// The counts of a chart.
 #[derive(Clone, Copy, Debug, PartialEq, Eq)]
@@ -28,7 +32,7 @@ pub struct Counts {
     pub arrows: usize,
     /// The number of bundles.
     pub bundles: usize,
-    /// The number of rows.
+    /// The number of rows, at most [`MOST_ROWS`].
     pub rows: usize,
     /// The number of lines, at most [`MOST_LINES`].
     pub lines: usize,
@@ -40,7 +44,7 @@ pub struct Counts {
     pub side_columns: [u16; MOST_WORDS],
 }
 
-/// A word: where it stands, and how many words it leads to.
+/// A word: where it stands, how many words it leads to, and its floor.
 #[derive(Clone, Copy, Debug, PartialEq, Eq)]
 pub struct Word {
     /// Its line.
@@ -53,6 +57,8 @@ pub struct Word {
     pub row: u16,
     /// The number of its descendants.
     pub descendants: u16,
+    /// Its floor, the lowest row that it may have: 0 where the record has no floors.
+    pub floor: u8,
 }
 
 /// How an arrow is drawn.
@@ -118,7 +124,8 @@ pub fn chart(record: &[u8]) -> Result<Chart, Refusal> {
     Lists::new().chart(record)
 }
 
-/// The chart of a record as numbers into lent lists: 5 a word, 5 an arrow, 4 a bundle.
+/// The chart of a record as numbers into lent lists: [`WORD_NUMBERS`] a word, [`ARROW_NUMBERS`] an arrow,
+/// [`BUNDLE_NUMBERS`] a bundle.
 ///
 /// Numbers past the needed ones stay as they are, and so do all where the record is refused.
 pub fn chart_into(
@@ -177,13 +184,14 @@ fn entries<T, const N: usize>(numbers: &[u16], count: usize, entry: fn([u16; N])
     numbers.chunks_exact(N).take(count).map(of_chunk).collect()
 }
 
-fn word([line, position, column, row, descendants]: [u16; WORD_NUMBERS]) -> Word {
+fn word([line, position, column, row, descendants, floor]: [u16; WORD_NUMBERS]) -> Word {
     Word {
         line,
         position,
         column,
         row,
         descendants,
+        floor: u8::try_from(floor).expect("a floor is at most 127"),
     }
 }
 

@@ -16,7 +16,8 @@ mod stroke;
 
 pub use chart::{
     chart, chart_into, Arrow, Bundle, Chart, Counts, Kind, Lists, Word, ARROW_NUMBERS,
-    BUNDLE_NUMBERS, MOST_ARROWS, MOST_BUNDLES, MOST_LINES, MOST_WORDS, WORD_NUMBERS,
+    BUNDLE_NUMBERS, MOST_ARROWS, MOST_BUNDLES, MOST_FLOOR, MOST_LINES, MOST_ROWS, MOST_WORDS,
+    WORD_NUMBERS,
 };
 pub use leads::{leads, Leads};
 pub use refusal::Refusal;
@@ -24,7 +25,7 @@ pub use session::{Session, STATE_NUMBERS};
 pub use stroke::{stroke_bent, stroke_side, stroke_straight, Place, Point};
 
 /// The version of the header that this crate was written by.
-pub const VERSION: u32 = 4;
+pub const VERSION: u32 = 5;
 
 /// The version of the archive that is linked; where it isn't [`VERSION`] an app must not go on.
 pub fn version() -> u32 {

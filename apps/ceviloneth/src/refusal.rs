@@ -1,4 +1,4 @@
-//! The eleven refusals (docs/SPECIFICATION.md, 13).
+//! The twelve refusals (docs/SPECIFICATION.md, 13).
 
 use std::fmt;
 
@@ -28,10 +28,12 @@ pub enum Refusal {
     OffPage,
     /// The chart has more than 31 lines.
     Broad,
+    /// There are floors, but not one for each word, or one is above 127; told straight after [`Refusal::Size`].
+    Floor,
 }
 
 /// Each refusal with its word, and when it is given.
-const TABLE: [(Refusal, &str, &str); 11] = [
+const TABLE: [(Refusal, &str, &str); 12] = [
     (
         Refusal::Layout,
         "layout",
@@ -63,6 +65,11 @@ const TABLE: [(Refusal, &str, &str); 11] = [
     (Refusal::Full, "full", "the session has 4,096 arrows"),
     (Refusal::OffPage, "off page", "a place lies beyond the page"),
     (Refusal::Broad, "broad", "the chart has more than 31 lines"),
+    (
+        Refusal::Floor,
+        "floor",
+        "there is not one floor for each word, or one is above 127",
+    ),
 ];
 
 impl Refusal {

@@ -8,7 +8,7 @@ use crate::refusal::Refusal;
 pub struct Place {
     /// The column, below 640 on the page.
     pub column: u32,
-    /// The row, below 128 on the page.
+    /// The row, below [`crate::MOST_ROWS`] on the page.
     pub row: u32,
 }
 

@@ -2,7 +2,8 @@
 
 use ceviloneth::{
     chart, chart_into, leads, stroke_bent, stroke_side, stroke_straight, version, Bundle, Kind,
-    Leads, Lists, Place, Point, Refusal, Session, Word, MOST_LINES, VERSION,
+    Leads, Lists, Place, Point, Refusal, Session, Word, ARROW_NUMBERS, BUNDLE_NUMBERS, MOST_ARROWS,
+    MOST_BUNDLES, MOST_FLOOR, MOST_LINES, MOST_ROWS, MOST_WORDS, VERSION, WORD_NUMBERS,
 };
 
 const P5: &[u8] = &[1, 0, 1, 4, 2, 0, 12, 0, 1, 0, 2, 0, 3, 1, 2, 1, 3, 2, 3];
@@ -10,31 +11,46 @@ const P6: &[u8] = &[
     1, 0, 1, 6, 2, 0, 8, 1, 2, 3, 4, 4, 5, 0, 5, 3, 0, 9, 1, 0, 2, 1, 2, 3, 3, 4, 5,
 ];
 
+/// The number behind a name of the header.
+fn header(name: &str) -> Option<usize> {
+    let header = include_str!("../../../include/ceviloneth.h");
+    let mut words = header.lines().map(|line| line.split_whitespace());
+    let mut found = words.find(|words| words.clone().take(2).eq(["#define", name]))?;
+    found.nth(2)?.parse().ok()
+}
+
 #[test]
 fn header_wrapper_and_archive_are_of_one_version() {
-    let header = include_str!("../../../include/ceviloneth.h");
-    let line = format!("#define CEVILONETH_VERSION {VERSION}\n");
-    assert!(header.contains(&line), "the header's version");
-    let line = format!("#define CEVILONETH_LINES {MOST_LINES}\n");
-    assert!(header.contains(&line), "the header's most lines");
+    assert_eq!(header("CEVILONETH_VERSION"), Some(VERSION as usize));
     assert_eq!(version(), VERSION);
 }
 
 #[test]
+fn sizes_and_limits_are_those_of_the_header() {
+    for (name, number) in [
+        ("CEVILONETH_WORD_NUMBERS", WORD_NUMBERS),
+        ("CEVILONETH_ARROW_NUMBERS", ARROW_NUMBERS),
+        ("CEVILONETH_BUNDLE_NUMBERS", BUNDLE_NUMBERS),
+        ("CEVILONETH_WORDS", WORD_NUMBERS * MOST_WORDS),
+        ("CEVILONETH_ARROWS", ARROW_NUMBERS * MOST_ARROWS),
+        ("CEVILONETH_BUNDLES", BUNDLE_NUMBERS * MOST_BUNDLES),
+        ("CEVILONETH_LINES", MOST_LINES),
+        ("CEVILONETH_ROWS", MOST_ROWS),
+        ("CEVILONETH_MOST_FLOOR", usize::from(MOST_FLOOR)),
+    ] {
+        assert_eq!(header(name), Some(number), "{name}");
+    }
+}
+
+#[test]
 fn answers_have_the_numbers_of_the_header_and_their_words() {
-    let header = include_str!("../../../include/ceviloneth.h");
-    let number = |name: &str| {
-        let mut words = header.lines().map(|line| line.split_whitespace());
-        let mut found = words.find(|words| words.clone().take(2).eq(["#define", name]));
-        found.as_mut().and_then(|words| words.nth(2))
-    };
     for (answer, name, said) in [
         (Leads::NotAtAll, "CEVILONETH_NOT_AT_ALL", "not at all"),
         (Leads::Arrow, "CEVILONETH_ARROW", "by an arrow only"),
         (Leads::Longer, "CEVILONETH_LONGER", "by longer routes only"),
         (Leads::Both, "CEVILONETH_BOTH", "by both"),
     ] {
-        assert_eq!(number(name), Some(answer.number().to_string().as_str()));
+        assert_eq!(header(name), Some(usize::from(answer.number())));
         assert_eq!(answer.to_string(), said);
         assert_eq!(answer.at_all(), answer != Leads::NotAtAll);
     }
@@ -67,6 +83,7 @@ fn a_chart_is_handed_over_whole() {
         column: 3,
         row: 3,
         descendants: 0,
+        floor: 0,
     };
     assert_eq!((chart.words.len(), chart.words[3]), (4, last));
     assert_eq!(chart.arrows[2].kind, Kind::Side { bundle: 0 });
@@ -113,6 +130,59 @@ fn an_empty_field_of_house_lines_counts_as_none() {
     assert!(chart(without).is_ok());
 }
 
+/// A record with a field of floors behind it.
+fn with_floors(record: &[u8], floors: &[u8]) -> Vec<u8> {
+    [record, &[4, 0, floors.len() as u8], floors].concat()
+}
+
+#[test]
+fn words_stand_at_their_floors_or_above() {
+    for record in [P5.to_vec(), four_words(&[1, 3])] {
+        let lifted = chart(&with_floors(&record, &[0, 5, 0, 9])).expect("a chart");
+        let heights: Vec<_> = lifted.words.iter().map(|w| (w.row, w.floor)).collect();
+        assert_eq!(heights, [(0, 0), (5, 5), (6, 0), (9, 9)]);
+        assert_eq!(lifted.counts.rows, 10);
+        assert_eq!(chart(&with_floors(&record, &[0; 4])), chart(&record));
+    }
+}
+
+#[test]
+fn the_tallest_chart_has_all_rows_of_the_page() {
+    let last = MOST_WORDS as u8 - 1;
+    let arrows: Vec<u8> = (0..last).flat_map(|word| [word, word + 1]).collect();
+    let head = [1, 0, 1, last + 1, 2, 0, arrows.len() as u8];
+    let mut floors = vec![0; MOST_WORDS];
+    floors[0] = MOST_FLOOR;
+    let tallest = with_floors(&[&head[..], &arrows].concat(), &floors);
+    let chart = chart(&tallest).expect("a chart");
+    assert_eq!(chart.counts.rows, MOST_ROWS);
+    let ends = [chart.words[0], chart.words[MOST_WORDS - 1]];
+    assert_eq!(ends.map(|word| word.row), [127, 254]);
+    let places = ends.map(|word| Place {
+        column: word.column.into(),
+        row: word.row.into(),
+    });
+    assert!(stroke_straight(places).is_ok());
+}
+
+#[test]
+fn wrong_floors_are_refused_before_what_the_arrows_say() {
+    for floors in [&[][..], &[0; 3], &[0; 5], &[0, 0, MOST_FLOOR + 1, 0]] {
+        let record = with_floors(P5, floors);
+        assert_eq!(chart(&record), Err(Refusal::Floor), "{floors:?}");
+        assert_eq!(leads(&record, 0, 1), Err(Refusal::Floor));
+        // An arrow to a word that isn't there.
+        let stranger = with_floors(&[1, 0, 1, 4, 2, 0, 2, 0, 9], floors);
+        assert_eq!(chart(&stranger), Err(Refusal::Floor));
+    }
+    let size = with_floors(&[1, 0, 1, 0, 2, 0, 0], &[0, 200]);
+    assert_eq!(chart(&size), Err(Refusal::Size));
+    let early = [P5, &[4, 0, 4, 0, 0, 0, 0, 3, 0, 0]].concat();
+    assert_eq!(chart(&early), Err(Refusal::Layout));
+    let reason = "there is not one floor for each word, or one is above 127";
+    assert_eq!(Refusal::Floor.reason(), reason);
+}
+
 #[test]
 fn a_word_that_house_lines_repeat_is_refused() {
     for house_lines in [&[1, 3, 1, 3][..], &[2, 3, 3], &[2, 1, 0, 1, 3, 1, 3]] {
@@ -128,7 +198,7 @@ fn a_word_that_house_lines_repeat_is_refused() {
 fn refusals_have_their_numbers_and_words() {
     let words = [
         "layout", "size", "stranger", "double", "ring", "cover", "broken", "short", "full",
-        "off page", "broad",
+        "off page", "broad", "floor",
     ];
     let all = [
         Refusal::Layout,
@@ -142,6 +212,7 @@ fn refusals_have_their_numbers_and_words() {
         Refusal::Full,
         Refusal::OffPage,
         Refusal::Broad,
+        Refusal::Floor,
     ];
     for ((refusal, word), number) in all.into_iter().zip(words).zip(1..) {
         assert_eq!((refusal.number(), refusal.word()), (number, word));
@@ -157,11 +228,19 @@ fn refused_records_and_short_lists() {
         Lists::new().check(&[1, 0, 1, 1, 2, 0, 2, 0, 0]),
         Err(Refusal::Ring)
     );
-    let (mut words, mut arrows, mut bundles) = ([7; 20], [7; 30], [7; 7]);
-    let short = chart_into(P5, &mut words, &mut arrows, &mut bundles);
-    assert_eq!(short, Err(Refusal::Short));
-    assert_eq!((words, arrows, bundles), ([7; 20], [7; 30], [7; 7]));
-    assert!(chart_into(P5, &mut words, &mut arrows, &mut [0; 8]).is_ok());
+    let lists = (
+        [7; 4 * WORD_NUMBERS],
+        [7; 6 * ARROW_NUMBERS],
+        [7; 2 * BUNDLE_NUMBERS],
+    );
+    let (mut words, mut arrows, mut bundles) = lists;
+    for [w, a, b] in [[1, 0, 0], [0, 1, 0], [0, 0, 1]] {
+        let (w, a, b) = (words.len() - w, arrows.len() - a, bundles.len() - b);
+        let short = chart_into(P5, &mut words[..w], &mut arrows[..a], &mut bundles[..b]);
+        assert_eq!(short, Err(Refusal::Short));
+        assert_eq!((words, arrows, bundles), lists);
+    }
+    assert!(chart_into(P5, &mut words, &mut arrows, &mut bundles).is_ok());
 }
 
 /// So many words and no arrows.
@@ -239,6 +318,8 @@ fn questions_and_strokes() {
         stroke_bent([at(0, 0), at(640, 0), at(0, 0)]),
         Err(Refusal::OffPage)
     );
-    let side = stroke_side([at(2, 0), at(1, 0), at(1, 127), at(639, 127)]);
-    assert_eq!(side.map(|points| points[3]), Ok(point(6709.5, 3587.75)));
+    let side = stroke_side([at(2, 0), at(1, 0), at(1, 254), at(639, 254)]);
+    assert_eq!(side.map(|points| points[3]), Ok(point(6709.5, 7175.5)));
+    let beyond = stroke_side([at(2, 0), at(1, 0), at(1, 255), at(639, 254)]);
+    assert_eq!(beyond, Err(Refusal::OffPage));
 }

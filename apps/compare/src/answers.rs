@@ -209,8 +209,9 @@ fn word_numbers(entry: &VertexEntry) -> [usize; WORD_NUMBERS] {
         column,
         row,
         descendants,
+        floor,
     } = *entry;
-    [channel, position, column, row, descendants]
+    [channel, position, column, row, descendants, floor]
 }
 
 fn arrow_numbers(entry: &EdgeEntry) -> [usize; ARROW_NUMBERS] {

@@ -21,11 +21,14 @@ const ROOMS: [Room; 6] = [
     Room([-100_000; 3]),
 ];
 
-/// Records of 30 to 33 lines, and of every shape and any number.
+/// Records of 30 to 33 lines, and of every shape and any number; half of the former have floors.
 pub fn broad(tester: &mut Tester, generator: &mut Generator, count: usize) -> Outcome {
     let mut met = Met::new();
     for number in 0..count {
-        let record = near_limit(generator);
+        let mut record = near_limit(generator);
+        if generator.percent(50) {
+            random::give_floors(&mut record, generator);
+        }
         let lines = compare(tester, &record)?;
         tell(&mut met, &record, lines);
         let size = generator.between(MAX_CHANNELS, MAX_VERTICES);

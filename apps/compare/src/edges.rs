@@ -1,14 +1,15 @@
 //! The limits of what is accepted (docs/SPECIFICATION.md, 16.2), and near them.
 
 use crate::answers::Room;
+use crate::questions::leads_of;
 use crate::tester::{Outcome, Tester};
-use reference::record::{Edge, Record};
+use reference::record::{Edge, Record, MAX_FLOOR, MAX_VERTICES};
 
 /// As many words and arrows as a record may have, with as many lines as a chart may, and with one more.
 const WIDE: &[u8] = include_bytes!("../../../samples/wide.record");
 const BROAD: &[u8] = include_bytes!("../../../samples/broad.record");
 
-/// The limits, each with its number.
+/// The limits, each with its number, and questions of the same records.
 pub fn edges(tester: &mut Tester) -> Outcome {
     for (name, bytes, expected) in cases() {
         let before = tester.seen[expected];
@@ -16,6 +17,7 @@ pub fn edges(tester: &mut Tester) -> Outcome {
         if tester.seen[expected] != before + 1 {
             return Err(format!("{name}: all agree, but it must be {expected}"));
         }
+        leads_of(tester, &bytes, MAX_VERTICES)?;
     }
     Ok(())
 }
@@ -40,6 +42,8 @@ fn cases() -> Vec<Case> {
         ("an arrow to itself", ring(1), 5),
     ];
     cases.extend(layouts());
+    cases.extend(floors());
+    cases.extend(tall());
     cases.extend(lines());
     cases.extend(many_lines());
     cases
@@ -99,6 +103,87 @@ fn layouts() -> Vec<Case> {
     ]
 }
 
+/// Floors of few words, right and wrong, and in and out of their place.
+fn floors() -> Vec<Case> {
+    let one = |rest: &[u8]| fields(1, &[], rest);
+    vec![
+        ("a floor of 127", one(&[4, 0, 1, 127]), 0),
+        ("a floor of 128", one(&[4, 0, 1, 128]), 12),
+        ("floors of length 0", one(&[4, 0, 0]), 12),
+        ("a floor too many", one(&[4, 0, 2, 0, 0]), 12),
+        ("a floor too few", fields(2, &[], &[4, 0, 1, 0]), 12),
+        ("floors behind a line", one(&[3, 0, 2, 1, 0, 4, 0, 1, 9]), 0),
+        ("behind an empty field", one(&[3, 0, 0, 4, 0, 1, 9]), 0),
+        ("floors before a line", one(&[4, 0, 1, 9, 3, 0, 2, 1, 0]), 1),
+        (
+            "floors before an empty field",
+            one(&[4, 0, 1, 9, 3, 0, 0]),
+            1,
+        ),
+        ("floors twice", one(&[4, 0, 1, 9, 4, 0, 1, 9]), 1),
+        ("a byte behind floors", one(&[4, 0, 1, 9, 0]), 1),
+        ("floors past the end", one(&[4, 0, 2, 9]), 1),
+        ("tag 5", one(&[5, 0, 1, 0]), 1),
+        ("a bad line and bad floors", one(&[3, 0, 1, 2, 4, 0, 0]), 1),
+        ("no words and a floor", fields(0, &[], &[4, 0, 1, 0]), 2),
+        ("no words and no floor", fields(0, &[], &[4, 0, 0]), 2),
+        (
+            "a stranger and bad floors",
+            fields(1, &[0, 1], &[4, 0, 0]),
+            12,
+        ),
+        ("a ring and bad floors", fields(1, &[0, 0], &[4, 0, 0]), 12),
+        (
+            "a stranger and good floors",
+            fields(1, &[0, 1], &[4, 0, 1, 9]),
+            3,
+        ),
+        ("65,535 bytes by floors", many_floors(65_525), 12),
+        ("65,536 bytes by floors", many_floors(65_526), 1),
+    ]
+}
+
+/// One word and so many floors.
+fn many_floors(count: usize) -> Vec<u8> {
+    rising(1, 0).with_floors(vec![0; count]).to_bytes()
+}
+
+/// Charts with as many rows as there are, and such floors with a fault.
+fn tall() -> Vec<Case> {
+    let chain = Record::new(MAX_VERTICES, links(MAX_VERTICES));
+    let floored = |record: &Record, first: usize| {
+        let mut floors = vec![0; MAX_VERTICES];
+        floors[0] = first;
+        record.with_floors(floors).to_bytes()
+    };
+    let wide = Record::parse(WIDE).expect("a sample");
+    let house_line = chain.with_given(vec![(0..MAX_VERTICES).collect()]);
+    let short = chain.with_floors(vec![MAX_FLOOR; MAX_VERTICES - 1]);
+    let level = chain.with_floors(vec![MAX_FLOOR; MAX_VERTICES]);
+    vec![
+        ("255 rows", floored(&chain, MAX_FLOOR), 0),
+        ("254 rows", floored(&chain, MAX_FLOOR - 1), 0),
+        (
+            "255 rows of a house line",
+            floored(&house_line, MAX_FLOOR),
+            0,
+        ),
+        ("255 rows by equal floors", level.to_bytes(), 0),
+        (
+            "256 rows, if floors went so high",
+            floored(&chain, MAX_FLOOR + 1),
+            12,
+        ),
+        ("127 floors of 128 words", short.to_bytes(), 12),
+        ("4,096 arrows from floor 127", floored(&wide, MAX_FLOOR), 0),
+    ]
+}
+
+/// Arrows from each word to the next.
+fn links(words: usize) -> Vec<Edge> {
+    (1..words).map(|v| Edge::new(v - 1, v)).collect()
+}
+
 /// So many words, a few bytes of arrows, and what follows.
 fn fields(words: u8, arrows: &[u8], rest: &[u8]) -> Vec<u8> {
     let head = [1, 0, 1, words, 2, 0, arrows.len() as u8];
@@ -108,23 +193,13 @@ fn fields(words: u8, arrows: &[u8], rest: &[u8]) -> Vec<u8> {
 /// The first so many arrows from lower to higher words.
 fn rising(vertex_count: usize, count: usize) -> Record {
     let pairs = (0..vertex_count).flat_map(|v| (0..v).map(move |u| Edge::new(u, v)));
-    Record {
-        vertex_count,
-        edges: pairs.take(count).collect(),
-        channels: None,
-    }
+    Record::new(vertex_count, pairs.take(count).collect())
 }
 
 fn ring(length: usize) -> Vec<u8> {
-    let edges = (0..length)
-        .map(|u| Edge::new(u, (u + 1) % length))
-        .collect();
-    let record = Record {
-        vertex_count: length,
-        edges,
-        channels: None,
-    };
-    record.to_bytes()
+    let mut edges = links(length);
+    edges.push(Edge::new(length - 1, 0));
+    Record::new(length, edges).to_bytes()
 }
 
 /// One word, in house lines of word 0 that fill a field of so many bytes.
@@ -136,9 +211,5 @@ fn house_lines(length: usize) -> Record {
         channels.push(vec![0; words]);
         left -= words + 1;
     }
-    Record {
-        vertex_count: 1,
-        edges: Vec::new(),
-        channels: Some(channels),
-    }
+    rising(1, 0).with_given(channels)
 }

@@ -4,6 +4,7 @@
 mod answers;
 mod broad;
 mod edges;
+mod floors;
 mod least;
 mod pairs;
 mod questions;
@@ -18,11 +19,12 @@ use tester::{Outcome, Tester};
 
 const HELP: &str = "usage: compare [--quick] [--seed NUMBER]
 
-Compares the proved library with the second implementation: all small graphs with all house lines
-and all pairs of their words, the limits, damaged and random records, lists of every length, sessions,
-strokes; and tries by brute force whether a small graph has a smaller lawful chart that has the house
-lines whole, and whether every division into lines of a broad one has too many. Every chart is also
-drawn by the peer (tests/peer), which must agree. --quick does less of what chance makes.
+Compares the proved library with the second implementation: all small graphs with all house lines,
+with floors of every kind and all pairs of their words, the limits, damaged and random records, lists of
+every length, sessions, strokes; and tries by brute force whether a small graph has a smaller lawful
+chart that has the house lines whole, or one with fewer rows that keeps the floors, and whether every
+division into lines of a broad one has too many. Every chart is also drawn by the peer (tests/peer),
+which must agree. --quick does less of what chance makes.
 
 Exit status: 0 all agree; 1 a difference, printed with the smallest record found; 2 wrong use.
 ";
@@ -109,6 +111,7 @@ fn all_small(stages: &mut Stages) -> Outcome {
     stages.run("all house lines of small graphs", |t, _| {
         records::all_house_lines(t)
     })?;
+    stages.run("floors of small graphs", |t, _| floors::floors(t))?;
     stages.run("all pairs of words of small graphs", |t, _| pairs::pairs(t))?;
     stages.run("no smaller lawful chart", |t, _| least::least(t))
 }
@@ -141,7 +144,8 @@ fn by_chance(stages: &mut Stages, sized: impl Fn(usize, usize) -> usize) -> Outc
 fn summary(tester: &Tester) -> Outcome {
     println!("answers by number, 0 a chart: {:?}", tester.seen);
     // 9 and 10 are no answers of a chart.
-    if let Some(number) = (0..=8).chain([11]).find(|&number| tester.seen[number] == 0) {
+    let mut numbers = (0..=8).chain([11, 12]);
+    if let Some(number) = numbers.find(|&number| tester.seen[number] == 0) {
         return Err(format!("no record was answered with {number}"));
     }
     println!("words led to each other by number: {:?}", tester.led);

@@ -9,10 +9,11 @@ use reference::record::{Edge, Record, MAX_VERTICES};
 use reference::vectors::{self, Vector};
 use std::collections::BTreeSet;
 
-const VECTORS: [&str; 3] = [
+const VECTORS: [&str; 4] = [
     include_str!("../../../tests/reference/vectors/base.txt"),
     include_str!("../../../tests/reference/vectors/a.txt"),
     include_str!("../../../tests/reference/vectors/b.txt"),
+    include_str!("../../../tests/reference/vectors/e.txt"),
 ];
 
 /// Every set of arrows over up to four words, rings too.
@@ -29,13 +30,8 @@ pub fn all_graphs(tester: &mut Tester) -> Outcome {
 pub fn all_arrow_sets(size: usize) -> impl Iterator<Item = Record> {
     choices(size * size, 2).map(move |chosen| {
         let arrows = (0..size * size).filter(|&pair| chosen[pair] == 1);
-        Record {
-            vertex_count: size,
-            edges: arrows
-                .map(|pair| Edge::new(pair / size, pair % size))
-                .collect(),
-            channels: None,
-        }
+        let edges = arrows.map(|pair| Edge::new(pair / size, pair % size));
+        Record::new(size, edges.collect())
     })
 }
 
@@ -156,19 +152,32 @@ fn room(generator: &mut Generator) -> Room {
     }))
 }
 
-/// The largest records of every shape, without house lines and with those of all words and of some.
+/// The largest records of every shape, without house lines and with those of all words and of some, each
+/// without floors and with them.
 pub fn largest(tester: &mut Tester, generator: &mut Generator, often: usize) -> Outcome {
     for _ in 0..often {
         for shape in SHAPES {
             let mut record = graph(generator, shape, MAX_VERTICES);
-            tester.record(&record.to_bytes(), Room([1, 1, 1]))?;
+            with_and_without_floors(tester, generator, &record, Room([1, 1, 1]))?;
             for give in [random::give_channels, random::give_some_channels] {
                 give(&mut record, generator);
-                tester.record(&record.to_bytes(), Room::EXACT)?;
+                with_and_without_floors(tester, generator, &record, Room::EXACT)?;
             }
         }
     }
     Ok(())
+}
+
+fn with_and_without_floors(
+    tester: &mut Tester,
+    generator: &mut Generator,
+    record: &Record,
+    room: Room,
+) -> Outcome {
+    tester.record(&record.to_bytes(), room)?;
+    let mut lifted = record.clone();
+    random::give_floors(&mut lifted, generator);
+    tester.record(&lifted.to_bytes(), room)
 }
 
 /// Lists of every length from nothing to more than needed, one by one and together.
@@ -180,6 +189,9 @@ pub fn lengths(tester: &mut Tester, generator: &mut Generator, count: usize) -> 
         let mut record = graph(generator, shape, 2 + size % 9);
         if generator.percent(30) {
             random::give_some_channels(&mut record, generator);
+        }
+        if generator.percent(30) {
+            random::give_floors(&mut record, generator);
         }
         records.push(record.to_bytes());
     }

@@ -11,7 +11,7 @@ pub struct Tester {
     /// How many records were compared.
     pub compared: usize,
     /// How often each answer came, 0 for a chart.
-    pub seen: [usize; 12],
+    pub seen: [usize; 13],
     /// How often words led to each other in each of the four ways.
     pub led: [usize; 4],
 }
@@ -25,7 +25,7 @@ impl Tester {
         Tester {
             second: Second::new(),
             compared: 0,
-            seen: [0; 12],
+            seen: [0; 13],
             led: [0; 4],
         }
     }

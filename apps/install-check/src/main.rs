@@ -15,12 +15,12 @@ use std::process::ExitCode;
 
 const HELP: &str = "usage: install-check [--list FILE] PATH...
 
-Checks record files whole: layout, sizes, arrows and house lines, and that the chart can be shown.
+Checks records whole: layout, sizes, floors, arrows, house lines, and that the chart can be shown.
 PATH is a record file, or a folder, of which every file is checked, and those of its folders too.
 --list FILE names a text file with one PATH a line. Many files are checked on every core.
 
 For each refused record it prints its name, the number and the word of the refusal, then a summary:
-  1 layout, 2 size, 3 stranger, 4 double, 5 ring, 6 cover, 7 broken, 11 broad
+  1 layout, 2 size, 3 stranger, 4 double, 5 ring, 6 cover, 7 broken, 11 broad, 12 floor
 
 Exit status: 0 all are sound; 1 some were refused; 2 a file can't be read, or wrong use.
 ";

@@ -84,6 +84,27 @@ fn house_lines_may_lack_words_and_may_not_repeat_them() {
 }
 
 #[test]
+fn floors_are_one_a_word_and_at_most_127() {
+    let folder = folder("floors");
+    let with =
+        |record: &[u8], floors: &[u8]| [record, &[4, 0, floors.len() as u8], floors].concat();
+    put(&folder, "after-house-lines", &with(SOME, &[3, 0]));
+    put(&folder, "highest", &with(SOUND, &[0, 127]));
+    let wrong = [
+        put(&folder, "too-few", &with(SOUND, &[0])),
+        put(&folder, "too-high", &with(SOUND, &[0, 128])),
+        // The field is there and has no floor; that goes before what is wrong with the arrows.
+        put(&folder, "without-one", &with(RING, &[])),
+    ];
+    let output = run(&[&folder]);
+    assert_eq!(status(&output), Some(1));
+    let reason = "12 floor (there is not one floor for each word, or one is above 127)";
+    let lines = wrong.map(|path| format!("{}: refused {reason}\n", path.display()));
+    let summary = "5 checked: 2 sound, 3 refused; 0 can't be read\n";
+    assert_eq!(text(&output.stdout), lines.concat() + summary);
+}
+
+#[test]
 fn a_chart_that_cannot_be_shown_is_broad() {
     let folder = folder("broad");
     let apart = |words: u8| [1, 0, 1, words, 2, 0, 0];

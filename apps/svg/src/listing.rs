@@ -2,6 +2,7 @@
 
 use reference::columns::track_column;
 use reference::geometry::Place;
+use std::collections::BTreeSet;
 
 /// A word's line and place; its number is its index.
 pub struct Word {
@@ -9,6 +10,8 @@ pub struct Word {
     pub line: usize,
     /// Where it stands.
     pub place: Place,
+    /// Its lowest row; of all words of a listing, or of none.
+    pub floor: Option<usize>,
 }
 
 /// The four kinds of arrows.
@@ -81,8 +84,9 @@ impl Listing {
         Some(())
     }
 
-    /// The listing, if every arrow names words and a bundle that are there.
+    /// The listing, if its floors make sense and every arrow names words and a bundle that are there.
     fn checked(self) -> Result<Listing, String> {
+        self.check_floors()?;
         let known = |arrow: &Arrow| {
             let words = arrow.from.max(arrow.to) < self.words.len();
             words && self.route(arrow).is_some()
@@ -91,6 +95,29 @@ impl Listing {
             Some(number) => Err(format!("arrow {number} names what the listing lacks")),
             None => Ok(self),
         }
+    }
+
+    /// Every word has a floor or none has, and no word stands below its own.
+    fn check_floors(&self) -> Result<(), String> {
+        let given = self.words.first().is_some_and(|word| word.floor.is_some());
+        for (number, word) in self.words.iter().enumerate() {
+            if word.floor.is_some() != given {
+                let has = if given { "no" } else { "a" };
+                return Err(format!(
+                    "word {number} has {has} floor, unlike word 0: every w line ends with a floor, or none does"
+                ));
+            }
+            if word.floor > Some(word.place.row) {
+                return Err(format!("word {number} stands below its floor"));
+            }
+        }
+        Ok(())
+    }
+
+    /// The different floors above row 0, ascending.
+    pub fn floors(&self) -> BTreeSet<usize> {
+        let floors = self.words.iter().filter_map(|word| word.floor);
+        floors.filter(|&floor| floor > 0).collect()
     }
 
     /// The places at which an arrow begins, turns and ends.
@@ -130,9 +157,15 @@ fn parse_header(line: &str) -> Result<Listing, String> {
 }
 
 fn word(next: usize, rest: &[&str]) -> Option<Word> {
-    let [number, line, _, column, row] = numbers(rest)?;
+    let (five, floor) = rest.split_at_checked(5)?;
+    let [number, line, _, column, row] = numbers(five)?;
+    let floor = match floor {
+        [] => None,
+        [floor] => Some(floor.parse().ok()?),
+        _ => return None,
+    };
     let place = Place::new(column, row);
-    (number == next).then_some(Word { line, place })
+    (number == next).then_some(Word { line, place, floor })
 }
 
 fn arrow(next: usize, rest: &[&str]) -> Option<Arrow> {

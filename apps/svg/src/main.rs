@@ -16,11 +16,12 @@ const HELP: &str = "usage: svg < LISTING > PICTURE.svg
 
 Draws the listing that `chart` prints: words as numbered points, spine arrows black, side arrows
 blue, straight ones green, bent ones brown, implied ones faint. The sizes are the page's: a column
-is 42 and a row 113 quarter points.
+is 42 and a row 113 quarter points. Where words have floors, a thin line runs below the rows of each
+floor above 0, with its number at the left.
 
 With --html the picture stands in a page of one file, for a browser: pick two words, and the page
 says how the first leads to the second (not at all, by an arrow only, by longer routes only, by
-both) and lights the arrows of all routes between them.
+both) and lights the arrows of all routes between them. It tells the floor of a word that has one.
 
 Exit status: 0 drawn, 1 no chart in the listing, 2 wrong use.
 ";

@@ -13,13 +13,22 @@ pub fn html(listing: &Listing) -> Result<String, String> {
     Ok(format!(
         include_str!("page/page.html"),
         title = title(listing),
-        style = include_str!("page/style.css"),
+        style = style(listing),
         picture = picture::svg(listing, &Page(listing))?,
         arrows = arrows(listing),
         routes = include_str!("page/routes.js"),
         picks = include_str!("page/picks.js"),
         keys = include_str!("page/keys.js"),
     ))
+}
+
+/// The style sheet, with that of floors where words have them.
+fn style(listing: &Listing) -> String {
+    let mut style = include_str!("page/style.css").to_string();
+    if listing.words.iter().any(|word| word.floor.is_some()) {
+        style.push_str(include_str!("page/floors.css"));
+    }
+    style
 }
 
 fn title(listing: &Listing) -> String {
@@ -56,6 +65,10 @@ impl Form for Page<'_> {
         )
     }
 
+    fn floor(&self, floor: usize) -> String {
+        format!(" role=\"img\" aria-label=\"floor {floor}\"")
+    }
+
     fn arrow(&self, number: usize) -> String {
         let arrow = &self.0.arrows[number];
         let (from, to) = (arrow.from, arrow.to);
@@ -68,9 +81,12 @@ impl Form for Page<'_> {
         let word = &self.0.words[number];
         let (line, column, row) = (word.line, word.place.column, word.place.row);
         let (left, top, side) = (x - TARGET, y - TARGET, 2.0 * TARGET);
+        let floor = |form: fn(usize) -> String| word.floor.map_or_else(String::new, form);
+        let told = floor(|floor| format!(", floor {floor}"));
+        let data = floor(|floor| format!(" data-floor=\"{floor}\""));
         format!(
             "<g class=\"word\" role=\"button\" tabindex=\"0\" aria-pressed=\"false\" \
-             aria-label=\"word {number}, line {line}\" data-column=\"{column}\" data-row=\"{row}\">\
+             aria-label=\"word {number}, line {line}{told}\" data-column=\"{column}\" data-row=\"{row}\"{data}>\
              <rect class=\"target\" x=\"{left}\" y=\"{top}\" width=\"{side}\" height=\"{side}\"/>\
              <circle class=\"ring\" cx=\"{x}\" cy=\"{y}\" r=\"{RING}\"/>{point}</g>"
         )

@@ -9,6 +9,8 @@ use std::fmt::Write;
 const MARGIN: f32 = 16.0;
 /// The radius of a word's point.
 const RADIUS: f32 = 4.6;
+/// Points from a row down to the line below it.
+const HALF_ROW: f32 = ROW_PITCH as f32 / 8.0;
 
 /// How strokes look: implied ones faint, each kind in its own way.
 const STYLE: &str = "
@@ -23,10 +25,17 @@ const STYLE: &str = "
   text { font: 5px sans-serif; text-anchor: middle; fill: #222 }
 ";
 
+/// How floors look, in a picture that has some.
+const FLOOR_STYLE: &str = "  .floor { stroke: #b9aa86; stroke-width: 0.5 }
+  .floor text { stroke: none; text-anchor: start; fill: #7a6738 }
+";
+
 /// What stands around the parts of a picture.
 pub trait Form {
     /// The opening tag of a picture of these points across and up.
     fn opening(&self, width: f32, height: f32) -> String;
+    /// Further attributes of a floor's line.
+    fn floor(&self, floor: usize) -> String;
     /// Further attributes of an arrow.
     fn arrow(&self, number: usize) -> String;
     /// A word's point at `(x, y)`, with what goes around it.
@@ -44,6 +53,10 @@ impl Form for File {
         )
     }
 
+    fn floor(&self, _: usize) -> String {
+        String::new()
+    }
+
     fn arrow(&self, _: usize) -> String {
         String::new()
     }
@@ -56,6 +69,9 @@ impl Form for File {
 /// The listing as SVG; the error names what lies off the page.
 pub fn svg(listing: &Listing, form: &dyn Form) -> Result<String, String> {
     let mut canvas = Canvas::new(listing, form)?;
+    for floor in listing.floors() {
+        canvas.floor(floor)?;
+    }
     // Faint strokes first, so that no firm one is covered.
     let (implied, firm): (Vec<_>, Vec<_>) = (0..)
         .zip(&listing.arrows)
@@ -80,17 +96,35 @@ impl<'a> Canvas<'a> {
         let (columns, rows) = (listing.width.max(1) - 1, listing.rows.max(1) - 1);
         let corner = point(Place::new(columns, rows))?;
         let (width, height) = (corner.across() + 2.0 * MARGIN, corner.up() + 2.0 * MARGIN);
+        let floor_style = if listing.floors().is_empty() {
+            ""
+        } else {
+            FLOOR_STYLE
+        };
         let mut text = form.opening(width, height);
         let _ = write!(
             text,
             "\n<!-- column pitch {COLUMN_PITCH}, row pitch {ROW_PITCH} quarter points -->\n\
-             <style>{STYLE}</style>\n\
+             <style>{STYLE}{floor_style}</style>\n\
              <defs><marker id=\"head\" viewBox=\"0 0 6 6\" refX=\"6\" refY=\"3\" markerWidth=\"4\" \
              markerHeight=\"4\" markerUnits=\"userSpaceOnUse\" orient=\"auto\">\
              <path d=\"M0 0 L6 3 L0 6 z\" fill=\"#444\"/></marker></defs>\n\
              <rect width=\"100%\" height=\"100%\"/>\n"
         );
         Ok(Canvas { form, height, text })
+    }
+
+    /// A thin line below the rows from the floor up, and the floor's number in the left margin.
+    fn floor(&mut self, floor: usize) -> Result<(), String> {
+        let (_, row) = self.at(point(Place::new(0, floor))?);
+        let (y, base) = (row + HALF_ROW, row + HALF_ROW - 1.5);
+        let more = self.form.floor(floor);
+        let _ = writeln!(
+            self.text,
+            "<g class=\"floor\"{more}><title>floor {floor}</title>\
+             <line x1=\"0\" y1=\"{y}\" x2=\"100%\" y2=\"{y}\"/><text x=\"2\" y=\"{base}\">{floor}</text></g>"
+        );
+        Ok(())
     }
 
     fn arrow(&mut self, number: usize, arrow: &Arrow, listing: &Listing) -> Result<(), String> {

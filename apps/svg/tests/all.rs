@@ -6,7 +6,16 @@ use std::io::Write;
 use std::process::{Command, Output, Stdio};
 
 /// Samples that have a page.
-const SAMPLES: [&str; 6] = ["p1", "p5", "p6", "editor", "house", "large"];
+const SAMPLES: [&str; 8] = [
+    "p1",
+    "p5",
+    "p6",
+    "editor",
+    "house",
+    "centuries",
+    "tall",
+    "large",
+];
 
 fn vector(name: &str) -> Vector {
     let text = include_str!("../../../tests/reference/vectors/base.txt");
@@ -103,9 +112,116 @@ fn bends_stand_where_the_listing_says() {
     );
 }
 
+/// The listing with these floors instead of its own; with none, as of a record without the field.
+fn with_floors(listing: &str, floors: Option<&[usize]>) -> String {
+    let mut number = 0;
+    let lines = listing.lines().map(|line| {
+        let parts: Vec<&str> = line.split(' ').collect();
+        if parts[0] != "w" {
+            return format!("{line}\n");
+        }
+        number += 1;
+        let floor = floors.map_or(String::new(), |floors| format!(" {}", floors[number - 1]));
+        format!("{}{floor}\n", parts[..6].join(" "))
+    });
+    lines.collect()
+}
+
+/// The numbers that stand between two texts.
+fn measures(text: &str, begin: &str, end: &str) -> Vec<f32> {
+    let numbers = between(text, begin, end).into_iter();
+    numbers
+        .map(|number| number.parse().expect("a number"))
+        .collect()
+}
+
+#[test]
+fn a_line_runs_below_the_rows_of_each_floor() {
+    let listing = sample_listing("centuries");
+    let picture = picture(&listing);
+    let floors = between(&picture, "<g class=\"floor\">", "</g>");
+    assert_eq!(floors.len(), 2);
+    let words = measures(&picture, " cy=\"", "\"");
+    let rows = entries(&listing, "w");
+    assert_eq!(words.len(), rows.len());
+    for (floor, drawn) in [3, 6].into_iter().zip(floors) {
+        assert!(drawn.ends_with(&format!(">{floor}</text>")), "{drawn}");
+        let [line] = measures(drawn, " y1=\"", "\"")[..] else {
+            panic!("one line: {drawn}")
+        };
+        for (row, word) in rows.iter().zip(&words) {
+            let row: usize = row[5].parse().expect("a row");
+            // Rows go up on the page and down in the picture; no line meets a word's point.
+            assert_eq!(row >= floor, *word + 4.6 < line, "{floor}: {row}");
+            assert_eq!(row < floor, line < *word - 4.6, "{floor}: {row}");
+        }
+    }
+}
+
+#[test]
+fn only_floors_above_row_0_are_drawn() {
+    let listing = sample_listing("centuries");
+    let without = picture(&with_floors(&listing, None));
+    assert!(!without.contains("floor"));
+    assert_eq!(picture(&with_floors(&listing, Some(&[0; 11]))), without);
+    let first = picture(&with_floors(
+        &listing,
+        Some(&[0, 1, 0, 0, 0, 0, 0, 0, 0, 0, 0]),
+    ));
+    assert_eq!(between(&first, "<title>floor ", "<"), ["1"]);
+    // Beneath all else, and nothing else differs.
+    let lines = first.lines().filter(|line| !line.contains("floor"));
+    assert_eq!(
+        lines.collect::<Vec<_>>(),
+        without.lines().collect::<Vec<_>>()
+    );
+    assert!(first.find("<g class=\"floor\"") < first.find("<path class=\"arrow"));
+}
+
+#[test]
+fn every_word_has_a_floor_or_none_has_and_none_is_below_its_own() {
+    let listing = |floors: [&str; 3]| {
+        let [first, second, third] = floors;
+        format!(
+            "chart 3 0 rows 6 lines 3 firm 0 bundles 0 width 9\n\
+             w 0 0 0 1 0{first}\nw 1 1 0 4 0{second}\nw 2 2 0 7 5{third}\n"
+        )
+    };
+    let all_or_none = "unlike word 0: every w line ends with a floor, or none does";
+    let no_line = "line 3 is no line of a listing: w 1 1 0 4 0";
+    for (floors, error) in [
+        (
+            [" 0", " 0", ""],
+            format!("word 2 has no floor, {all_or_none}"),
+        ),
+        (["", " 0", ""], format!("word 1 has a floor, {all_or_none}")),
+        ([" 0", " 0", " 6"], "word 2 stands below its floor".into()),
+        ([" 0", " x", " 5"], format!("{no_line} x")),
+        ([" 0", " 0 0", " 5"], format!("{no_line} 0 0")),
+    ] {
+        let output = draw(&listing(floors));
+        assert_eq!(output.status.code(), Some(1), "{floors:?}");
+        let said = String::from_utf8_lossy(&output.stderr);
+        assert_eq!(said, format!("svg: {error}\n"));
+    }
+    assert!(draw(&listing([" 0", " 0", " 5"])).status.success());
+}
+
+#[test]
+fn rows_reach_254() {
+    let listing = sample_listing("tall");
+    let tall = picture(&listing);
+    // 254 rows of 28.25 points each lie between the margins of 16, and the last word is at the top.
+    assert!(tall.contains(" height=\"7207.5pt\""));
+    assert!(tall.ends_with("cy=\"16\" r=\"4.6\"/><text x=\"26.5\" y=\"17.8\">127</text>\n</svg>\n"));
+    let output = draw(&listing.replace("rows 255", "rows 256"));
+    assert_eq!(output.status.code(), Some(1));
+    assert_eq!(output.stderr, b"svg: column 2, row 255 is off the page\n");
+}
+
 #[test]
 fn the_pictures_in_docs_are_what_it_draws() {
-    for name in ["P1", "P5", "P6", "editor", "large"] {
+    for name in ["P1", "P5", "P6", "editor", "centuries", "large"] {
         let root = concat!(env!("CARGO_MANIFEST_DIR"), "/../..");
         let sample = name.to_lowercase();
         let record = std::fs::read(format!("{root}/samples/{sample}.record"));
@@ -145,7 +261,11 @@ fn every_word_is_on_the_page() {
         let page = page(&listing);
         let expected = entries(&listing, "w")
             .iter()
-            .map(|word| format!("word {}, line {}", word[1], word[2]))
+            .map(|word| {
+                let floor = word.get(6).map(|floor| format!(", floor {floor}"));
+                let floor = floor.unwrap_or_default();
+                format!("word {}, line {}{floor}", word[1], word[2])
+            })
             .collect::<Vec<_>>();
         let words = between(&page, "<g class=\"word\"", "</g>");
         let labels = words
@@ -154,6 +274,22 @@ fn every_word_is_on_the_page() {
         assert_eq!(labels.collect::<Vec<_>>(), expected, "{sample}");
         assert!(words.iter().all(|word| word.contains(" tabindex=\"0\"")));
     }
+}
+
+#[test]
+fn the_page_tells_floors_where_words_have_them() {
+    let listing = sample_listing("centuries");
+    let page_with = |floors| page(&with_floors(&listing, floors));
+    let words = entries(&listing, "w");
+    let floors: Vec<&str> = words.iter().map(|word| word[6]).collect();
+    let with = page(&listing);
+    assert_eq!(between(&with, " data-floor=\"", "\""), floors);
+    assert_eq!(between(&with, "aria-label=\"floor ", "\""), ["3", "6"]);
+    // A field of zeros is told too, without lines; without the field only the script knows of floors.
+    let zeros = page_with(Some(&[0; 11]));
+    assert_eq!(between(&zeros, " data-floor=\"", "\""), ["0"; 11]);
+    assert!(!zeros.contains("class=\"floor\""));
+    assert!(!before(&page_with(None), "<script").contains("floor"));
 }
 
 #[test]
@@ -247,6 +383,7 @@ fn of_the_listing_only_numbers_get_into_the_page() {
         "w <b> 0 0 1 0",
         "w 0 <b> 0 1 0",
         "w 0 0 <b> 1 0",
+        "w 0 0 0 1 0 <b>",
         "a 0 0 1 <b> f",
     ] {
         let listing = format!("chart 1 0 rows 1 lines 1 firm 0 bundles 0 width 3\n{line}\n");

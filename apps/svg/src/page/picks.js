@@ -31,18 +31,24 @@ function show() {
   line.replaceChildren(...said(first, second, found.answer, lit));
 }
 
+// A word's number, with its floor where words have floors.
+function named(number) {
+  const { floor } = words[number].dataset;
+  return floor === undefined ? `${number}` : `${number} (floor ${floor})`;
+}
+
 // The parts of the answer's line.
 function said(first, second, answer, lit) {
   if (first === undefined) {
     return ["Pick a word, then a second one, to see how the first leads to the second."];
   }
   if (second === undefined) {
-    return [`Word ${first} is picked. Pick a second word.`];
+    return [`Word ${named(first)} is picked. Pick a second word.`];
   }
   const strong = document.createElement("strong");
   strong.textContent = answer;
   const count = lit === 0 ? "no arrow" : lit === 1 ? "1 arrow" : `${lit} arrows`;
-  return [`Word ${first} leads to word ${second}: `, strong, ` (${count} lit)`];
+  return [`Word ${named(first)} leads to word ${named(second)}: `, strong, ` (${count} lit)`];
 }
 
 chart.addEventListener("click", (event) => {
