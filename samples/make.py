@@ -9,7 +9,7 @@ from pathlib import Path
 HERE = Path(__file__).resolve().parent
 sys.dont_write_bytecode = True
 sys.path.insert(0, str(HERE.parent / 'tests' / 'compare'))
-from records import build, graph, layered, listing, vectors
+from records import build, graph, layered, line, listing, tallest, vectors
 
 # of the worked examples (docs/SPECIFICATION.md, 16.1), with listings read off the rules
 PAPER = ['P1', 'P5', 'P6', 'P7']
@@ -47,6 +47,19 @@ def deep():
     return graph(128, [(u, u + rise) for rise in range(1, 128) for u in range(128 - rise)][:4096])
 
 
+def centuries():
+    """Words of the 900s, 1200s and 1500s, three rows for each: some floors lift their word and those above it, some do nothing."""
+    house_line = [0, 1, 4, 5, 7, 8]
+    along = line(house_line) + [(0, 5), (1, 5)]
+    others = [(2, 6), (6, 9), (3, 10), (1, 6), (4, 9), (3, 7)]
+    return graph(11, along + others, [house_line], 4 * [0] + 3 * [3] + 4 * [6])
+
+
+def tall():
+    """One line of 128 words from the highest floor up: as many rows as a chart may have."""
+    return tallest()
+
+
 def ring():
     return graph(3, [(0, 1), (1, 2), (2, 0)])
 
@@ -58,7 +71,7 @@ def main():
         if name in PAPER:
             (folder / f'{name.lower()}.record').write_bytes(record)
             (folder / f'{name.lower()}.listing').write_bytes(lines)
-    for rule in [house, editor, wide, broad, deep, ring]:
+    for rule in [house, editor, centuries, wide, broad, deep, tall, ring]:
         record = rule()
         (folder / f'{rule.__name__}.record').write_bytes(record)
         (folder / f'{rule.__name__}.listing').write_bytes(listing(record))

@@ -17,23 +17,23 @@ static uint16_t bundles[CEVILONETH_BUNDLES];
 
 static const char *const kinds[] = {"spine", "side", "straight", "bent"};
 
-static const char *const reasons[] = {"", "layout", "size", "stranger", "double", "ring",
-                                      "cover", "broken", "short", "full", "off page", "broad"};
+static const char *const reasons[] = {"",       "layout", "size", "stranger", "double", "ring", "cover",
+                                      "broken", "short",  "full", "off page", "broad",  "floor"};
 
 static void print_chart(const ceviloneth_counts *chart) {
     size_t i;
     printf("%zu words, %zu arrows, %u firm, %u rows, %u lines, %zu bundles, %u columns\n", chart->words,
            chart->arrows, chart->firm, chart->rows, chart->lines, chart->bundles, chart->width);
     for (i = 0; i < chart->words; i++) {
-        const uint16_t *w = words + 5 * i;
-        printf("word %zu: line %u, position %u, column %u, row %u, leads to %u\n", i, w[0], w[1], w[2], w[3], w[4]);
+        const uint16_t *w = words + CEVILONETH_WORD_NUMBERS * i;
+        printf("word %zu: line %u, position %u, column %u, row %u, leads to %u, floor %u\n", i, w[0], w[1], w[2], w[3], w[4], w[5]);
     }
     for (i = 0; i < chart->arrows && i < 8; i++) {
-        const uint16_t *a = arrows + 5 * i;
+        const uint16_t *a = arrows + CEVILONETH_ARROW_NUMBERS * i;
         printf("arrow %u: %s, %s\n", a[0], kinds[a[1]], a[4] ? "implied" : "firm");
     }
     for (i = 0; i < chart->bundles; i++) {
-        const uint16_t *b = bundles + 4 * i;
+        const uint16_t *b = bundles + CEVILONETH_BUNDLE_NUMBERS * i;
         printf("bundle %zu: line %u, rows %u to %u, side column %u\n", i, b[0], b[1], b[2], b[3]);
     }
 }

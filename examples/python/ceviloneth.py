@@ -18,11 +18,14 @@ from pathlib import Path
 
 # What include/ceviloneth.h says: its version, the numbers of lists that hold every chart, the numbers of an entry, the refusals,
 # and how one word leads to another, in the words of the program `session`.
-VERSION = 4
-ROOM = [640, 20480, 1024]
-NUMBERS = [5, 5, 4]
-WORDS = ['', 'layout', 'size', 'stranger', 'double', 'ring', 'cover', 'broken', 'short', 'full', 'off page', 'broad']
+VERSION = 5
+ROOM = [768, 20480, 1024]
+NUMBERS = [6, 5, 4]
+WORDS = ['', 'layout', 'size', 'stranger', 'double', 'ring', 'cover', 'broken', 'short', 'full', 'off page', 'broad', 'floor']
 LEADS = ['no', 'arrow', 'longer', 'both']
+
+# The tag of the field of floors.
+FLOORS = 4
 
 # One byte more than a record may have, so that a longer file is refused.
 MOST_BYTES = 65536
@@ -97,13 +100,23 @@ class Engine:
         return [[numbers[size * i:size * (i + 1)] for i in range(count)] for numbers, size, count in parts]
 
 
+def has_floors(record):
+    """Whether an accepted record has floors; each of its fields has a tag, a length of two bytes and as many bytes."""
+    start = 0
+    while start < len(record) and record[start] != FLOORS:
+        start += 3 + int.from_bytes(record[start + 1:start + 3], 'big')
+    return start < len(record)
+
+
 def listing(record, counts, entries):
-    """The lines of a chart. An accepted record has its arrows from byte 7 on, tail and head in turn."""
+    """The lines of a chart. An accepted record has its arrows from byte 7 on, tail and head in turn. A word's floor stands last, where the
+    record has floors."""
     words, arrows, bundles = entries
+    floored = has_floors(record)
     yield (f'chart {counts.words} {counts.arrows} rows {counts.rows} lines {counts.lines} firm {counts.firm} '
            f'bundles {counts.bundles} width {counts.width}')
-    for number, (line, position, column, row, _descendants) in enumerate(words):
-        yield f'w {number} {line} {position} {column} {row}'
+    for number, (line, position, column, row, _descendants, floor) in enumerate(words):
+        yield f'w {number} {line} {position} {column} {row}' + (f' {floor}' if floored else '')
     for number, kind, value, bend_row, implied in arrows:
         tail, head = record[7 + 2 * number:9 + 2 * number]
         course = ['S', f'B {value}', 'D', f'K {value} {bend_row}'][kind]

@@ -8,7 +8,7 @@ ROOT = Path(__file__).resolve().parents[2]
 REFERENCE = ROOT / 'tests' / 'reference'
 
 # how many records are given
-VECTORS = 67 + 34 + 9
+VECTORS = 67 + 34 + 9 + 37
 
 # a name, a record in hexadecimal, its listing
 BLOCK = re.compile(r'^# (.*)\n([0-9A-Fa-f]*)\n((?:chart|refused) .*\n(?:[wab] .*\n)*)', re.M)
@@ -37,12 +37,12 @@ def edges(pairs):
     return field(2, [end for pair in pairs for end in pair])
 
 
-def graph(words, pairs, lines=None):
-    """The record of a graph, with house lines where they are given."""
+def graph(words, pairs, lines=None, floors=None):
+    """The record of a graph, with house lines and floors where they are given."""
     record = field(1, [words]) + edges(pairs)
-    if lines is None:
-        return record
-    return record + field(3, [byte for line in lines for byte in [len(line), *line]])
+    if lines is not None:
+        record += field(3, [byte for line in lines for byte in [len(line), *line]])
+    return record if floors is None else record + field(4, floors)
 
 
 def dense(count):
@@ -60,6 +60,11 @@ def layered(breadth):
     rows = [range(first, min(first + breadth, 128)) for first in range(0, 128, breadth)]
     pairs = [(u, v) for rise in (1, 2) for low, high in zip(rows, rows[rise:]) for u in low for v in high]
     return graph(128, pairs[:4096])
+
+
+def tallest(*pairs, lines=None, floor=127):
+    """128 words in one line, from a floor on: 127 is the highest, and then there are as many rows as a chart may have."""
+    return graph(128, [*line(range(128)), *pairs], lines, [floor] + 127 * [0])
 
 
 def bipartite(half):
@@ -112,6 +117,33 @@ EDGES = [
     ('65,536 bytes in fields', field(1, [1]) + field(2, bytes(65526)) + field(3, []), 'refused 1'),
     ('a sound record and zeros up to 100,000 bytes', graph(1, []).ljust(100000, b'\0'), 'refused 1'),
     ('nothing', b'', 'refused 1'),
+    ('a floor of 127', graph(1, [], floors=[127]), 'accepted'),
+    ('a floor of 128', graph(1, [], floors=[128]), 'refused 12'),
+    ('floors of length 0', graph(1, [], floors=[]), 'refused 12'),
+    ('a floor too few', graph(2, [], floors=[0]), 'refused 12'),
+    ('a floor too many', graph(2, [], floors=[0, 0, 0]), 'refused 12'),
+    ('127 floors of 128 words', graph(128, [], floors=127 * [0]), 'refused 12'),
+    ('128 floors of 127', graph(128, [], floors=128 * [127]), 'accepted'),
+    ('a last floor of 128 words too high', graph(128, dense(4096), floors=127 * [0] + [128]), 'refused 12'),
+    ('floors behind house lines', graph(2, [(0, 1)], [[0, 1]], [3, 9]), 'accepted'),
+    ('floors behind an empty field of house lines', graph(2, [(0, 1)], [], [3, 9]), 'accepted'),
+    ('floors before house lines', graph(2, [(0, 1)], floors=[3, 9]) + field(3, [1, 0]), 'refused 1'),
+    ('floors before an empty field of house lines', graph(2, [(0, 1)], floors=[3, 9]) + field(3, []), 'refused 1'),
+    ('floors before arrows', field(1, [1]) + field(4, [0]) + field(2, []), 'refused 1'),
+    ('floors twice', graph(1, [], floors=[0]) + field(4, [0]), 'refused 1'),
+    ('a byte behind floors', graph(1, [], floors=[0]) + b'\0', 'refused 1'),
+    ('tag 5 behind floors', graph(1, [], floors=[0]) + field(5, [0]), 'refused 1'),
+    ('no words and a floor too many', graph(0, [], floors=[0]), 'refused 2'),
+    ('4,097 arrows and a floor too high', graph(128, dense(4097), floors=128 * [128]), 'refused 2'),
+    ('a stranger and a floor too high', graph(2, [(0, 2)], floors=[0, 128]), 'refused 12'),
+    ('a stranger beside good floors', graph(2, [(0, 2)], floors=[0, 127]), 'refused 3'),
+    ('a repeat and no floor', graph(2, [(0, 1)], [[0, 0]], []), 'refused 12'),
+    ('a repeat beside good floors', graph(2, [(0, 1)], [[0, 0]], [0, 0]), 'refused 6'),
+    ('32 words alone with floors', graph(32, [], floors=range(32)), 'accepted'),
+    ('65,535 bytes of floors', field(1, [1]) + field(2, []) + field(4, bytes(65525)), 'refused 12'),
+    ('65,536 bytes of floors', field(1, [1]) + field(2, []) + field(4, bytes(65526)), 'refused 1'),
+    ('255 rows', tallest(), 'accepted'),
+    ('256 rows, if floors went so high', tallest(floor=128), 'refused 12'),
 ]
 
 
@@ -141,6 +173,10 @@ WORST = [
     ('4,096 arrows and a house line', graph(128, line(range(128)) + [(u, v) for v in range(128) for u in range(v - 1)][:3969], [range(128)])),
     ('128 house lines', graph(128, [], alone(128))),
     ('30 house lines and a planned one', graph(128, line(range(128)), alone(30))),
+    ('255 rows', tallest()),
+    ('255 rows with arrows two on', tallest(*[(u, u + 2) for u in range(126)])),
+    ('255 rows with arrows two on, a house line', tallest(*[(u, u + 2) for u in range(126)], lines=[range(128)])),
+    ('4,096 arrows and 31 lines with floors', layered(31) + field(4, [7 * word % 128 for word in range(128)])),
 ]
 
 
@@ -162,11 +198,11 @@ def blocks(text):
 
 def vectors():
     """The given records, with their listings."""
-    for name in ['base', 'a', 'b']:
+    for name in ['base', 'a', 'b', 'e']:
         yield from blocks((REFERENCE / f'vectors/{name}.txt').read_text())
 
 
 def random_records(seed, count):
-    """Random, house-lined and damaged records, with the second implementation's listings."""
+    """Random records, with house lines and floors among them, and damaged ones, with the second implementation's listings."""
     command = [REFERENCE / 'target/release/records', str(seed), str(count)]
     return blocks(subprocess.run(command, capture_output=True, text=True, check=True).stdout)

@@ -1,5 +1,5 @@
-/* The edge test: header and archive are of one version, each list of each call may be (NULL, 0), and questions are answered by the
- * header's names.
+/* The edge test: header and archive are of one version, each list of each call may be (NULL, 0), and entries, questions and the page's
+ * rows are by the header's names.
  *
  *     rt staticlib ceviloneth
  *     cc -std=c99 -O1 -Wall -Iinclude -o target/edge tests/edge/edge.c target/staticlib/libceviloneth.a
@@ -23,7 +23,8 @@ static void expect(const char *what, unsigned said, unsigned expected) {
 
 /* One word, also with an empty field of house lines; two words and an arrow, also with a house line of the second, and with two of it;
  * three words in a line with an arrow over it, which makes a bundle; four in a line with an arrow from the first to the last; as many
- * words without arrows as a chart may have lines, and one more; no record at all. */
+ * words without arrows as a chart may have lines, and one more; two words and an arrow with floors, also behind a house line and before
+ * one, with a floor too high and with none; no record at all. */
 static const uint8_t one[] = {1, 0, 1, 1, 2, 0, 0};
 static const uint8_t empty[] = {1, 0, 1, 1, 2, 0, 0, 3, 0, 0};
 static const uint8_t two[] = {1, 0, 1, 2, 2, 0, 2, 0, 1};
@@ -33,6 +34,11 @@ static const uint8_t three[] = {1, 0, 1, 3, 2, 0, 6, 0, 1, 1, 2, 0, 2};
 static const uint8_t four[] = {1, 0, 1, 4, 2, 0, 8, 0, 1, 1, 2, 2, 3, 0, 3};
 static const uint8_t most[] = {1, 0, 1, CEVILONETH_LINES, 2, 0, 0};
 static const uint8_t broad[] = {1, 0, 1, CEVILONETH_LINES + 1, 2, 0, 0};
+static const uint8_t floors[] = {1, 0, 1, 2, 2, 0, 2, 0, 1, 4, 0, 2, CEVILONETH_MOST_FLOOR, 9};
+static const uint8_t behind[] = {1, 0, 1, 2, 2, 0, 2, 0, 1, 3, 0, 2, 1, 1, 4, 0, 2, 0, 9};
+static const uint8_t before[] = {1, 0, 1, 2, 2, 0, 2, 0, 1, 4, 0, 2, 0, 9, 3, 0, 2, 1, 1};
+static const uint8_t high[] = {1, 0, 1, 2, 2, 0, 2, 0, 1, 4, 0, 2, 0, CEVILONETH_MOST_FLOOR + 1};
+static const uint8_t no_floor[] = {1, 0, 1, 2, 2, 0, 2, 0, 1, 4, 0, 0};
 static const uint8_t broken[] = {9};
 
 static uint16_t words[CEVILONETH_WORDS], arrows[CEVILONETH_ARROWS], bundles[CEVILONETH_BUNDLES];
@@ -62,7 +68,36 @@ static void try_charts(void) {
         chart("a bundle", three, sizeof three, lent, lent[0] && lent[1] && lent[2] ? 0 : 8);
         chart("as many lines as a chart may have", most, sizeof most, lent, lent[0] ? 0 : 8);
         chart("a line more", broad, sizeof broad, lent, 11);
+        chart("floors", floors, sizeof floors, lent, lent[0] && lent[1] ? 0 : 8);
+        chart("floors behind a house line", behind, sizeof behind, lent, lent[0] && lent[1] ? 0 : 8);
+        chart("floors before a house line", before, sizeof before, lent, 1);
+        chart("a floor too high", high, sizeof high, lent, 12);
+        chart("no floor in the field", no_floor, sizeof no_floor, lent, 12);
     }
+}
+
+/* The row and the floor of each word of a chart. */
+static void expect_rows(const uint8_t *record, size_t size, const uint16_t rows[2], const uint16_t lowest[2]) {
+    static const int lent[3] = {1, 1, 1};
+    chart("two words", record, size, lent, 0);
+    for (int i = 0; i < 2; i++) {
+        expect("a word's row", words[CEVILONETH_WORD_NUMBERS * i + 3], rows[i]);
+        expect("a word's floor", words[CEVILONETH_WORD_NUMBERS * i + 5], lowest[i]);
+    }
+}
+
+/* The last number of a word is its floor, 0 without the field, and the row is at or above it. */
+static void try_floors(void) {
+    expect_rows(two, sizeof two, (const uint16_t[]){0, 1}, (const uint16_t[]){0, 0});
+    expect_rows(floors, sizeof floors, (const uint16_t[]){127, 128}, (const uint16_t[]){127, 9});
+    expect_rows(behind, sizeof behind, (const uint16_t[]){0, 9}, (const uint16_t[]){0, 9});
+}
+
+/* The highest row of a chart is on the page, and the next one is not. */
+static void try_strokes(void) {
+    expect("a stroke to the highest row", ceviloneth_stroke_straight(0, 0, 639, CEVILONETH_ROWS - 1).refusal, 0);
+    expect("a stroke beyond it", ceviloneth_stroke_straight(0, 0, 639, CEVILONETH_ROWS).refusal, 10);
+    expect("a stroke beyond the last column", ceviloneth_stroke_straight(0, 0, 640, CEVILONETH_ROWS - 1).refusal, 10);
 }
 
 /* How words 0 to 3 of the record `four` lead to each other, and a word that is not there. */
@@ -97,6 +132,12 @@ static void try_questions(void) {
     ceviloneth_answer a = ceviloneth_leads(NULL, 0, 0, 0);
     expect("a question about no record", a.refusal, 1);
     expect("its answer", a.leads, 0);
+    a = ceviloneth_leads(high, sizeof high, 0, 1);
+    expect("a question about wrong floors", a.refusal, 12);
+    expect("its answer", a.leads, 0);
+    a = ceviloneth_leads(floors, sizeof floors, 0, 1);
+    expect("a question about floors", a.refusal, 0);
+    expect("its answer", a.leads, CEVILONETH_ARROW);
     a = ceviloneth_leads(broad, sizeof broad, 0, CEVILONETH_LINES);
     expect("a question about a broad record", a.refusal, 0);
     expect("its answer", a.leads, 0);
@@ -113,6 +154,8 @@ static void try_sessions(void) {
 int main(void) {
     expect("the archive's version", ceviloneth_version(), CEVILONETH_VERSION);
     try_charts();
+    try_floors();
+    try_strokes();
     try_questions();
     try_answers();
     try_sessions();

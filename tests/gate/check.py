@@ -4,7 +4,8 @@
     check.py listed [ROOT]      every folder under crates/ is in crates.txt
     check.py promises [ROOT]    every public call keeps the rules of a promise
     check.py named [ROOT]       docs/PROMISES.md names files, must-fail edits and names that are there, and every edit
-    check.py sizes [ROOT]       the lengths of lists that the header names are those of the theorem that 8 is not answered, its most lines the limit
+    check.py sizes [ROOT]       the lengths of lists that the header names are those of the theorem that 8 is not answered, the numbers of an
+                                entry and the limits those of the definitions
     check.py lines [ROOT]       no line of a definition or a proof (.antt) has more than 140 characters
     check.py logs [ROOT]        after rt ci: every must-fail edit was refused by the fact that its comment names
 
@@ -201,17 +202,34 @@ def check_logs(root):
     return seen > 0 and not wrong
 
 
+# names of the header's numbers, and those of the definitions that they must be
+ENTRIES = {'word_numbers': 'wordNumbers', 'arrow_numbers': 'arrowNumbers', 'bundle_numbers': 'bundleNumbers'}
+LIMITS = {'lines': 'mostChannels', 'rows': 'pageRows', 'most_floor': 'mostFloor'}
+
+
+def defined(text, name):
+    """The numbers that a name is defined by: digits, another name, or a sum of such."""
+    found = re.findall(rf'^{name} = ([\w +]+)$', text, re.M)
+    return [str(sum(part_of(text, part.strip()) for part in terms.split('+'))) for terms in found]
+
+
+def part_of(text, part):
+    """The number of one part of a sum."""
+    return int(part if part.isdecimal() else next(iter(defined(text, part)), 0))
+
+
 def check_sizes(root):
     header = (root / 'include' / 'ceviloneth.h').read_text()
     stated = (root / 'crates' / 'demands' / 'specs' / 'Demands.antt').read_text()
-    limits = (root / 'crates' / 'specification' / 'specs' / 'Limits.antt').read_text()
     proved = {name: re.findall(rf'pub {name} : (\d+) ≤ length', stated) for name in ('words', 'arrows', 'bundles')}
-    proved['lines'] = re.findall(r'^mostChannels = (\d+)$', limits, re.M)
+    for file, names in [('Numbers', ENTRIES), ('Limits', LIMITS)]:
+        text = (root / 'crates' / 'specification' / 'specs' / f'{file}.antt').read_text()
+        proved |= {name: defined(text, definition) for name, definition in names.items()}
     wrong = []
     for name, numbers in proved.items():
-        defined = re.findall(rf'#define CEVILONETH_{name.upper()} (\d+)', header)
-        if len(defined) != 1 or defined != numbers:
-            wrong.append(f'{name}: the header has {defined}, the theorem {numbers}')
+        said = re.findall(rf'#define CEVILONETH_{name.upper()} (\d+)', header)
+        if len(said) != 1 or said != numbers:
+            wrong.append(f'{name}: the header has {said}, the theorem {numbers}')
     print('\n'.join(wrong + [f'{len(proved)} sizes, {len(wrong)} faults']))
     return not wrong
 

@@ -7,8 +7,19 @@ from pathlib import Path
 
 CHECK = Path(__file__).with_name('check.py')
 
-SIZES = '#define CEVILONETH_WORDS 640\n#define CEVILONETH_ARROWS 20480\n#define CEVILONETH_BUNDLES 1024\n#define CEVILONETH_LINES 31\n'
-STATED = 'pub words : 640 ≤ length ws\npub arrows : 20480 ≤ length es\npub bundles : 1024 ≤ length bs\n'
+SIZES = '''#define CEVILONETH_WORD_NUMBERS 6
+#define CEVILONETH_ARROW_NUMBERS 5
+#define CEVILONETH_BUNDLE_NUMBERS 4
+#define CEVILONETH_WORDS 768
+#define CEVILONETH_ARROWS 20480
+#define CEVILONETH_BUNDLES 1024
+#define CEVILONETH_LINES 31
+#define CEVILONETH_ROWS 255
+#define CEVILONETH_MOST_FLOOR 127
+'''
+STATED = 'pub words : 768 ≤ length ws\npub arrows : 20480 ≤ length es\npub bundles : 1024 ≤ length bs\n'
+NUMBERS = 'wordNumbers = 6\narrowNumbers = 5\nbundleNumbers = 4\n'
+LIMITS = 'mostVertices = 128\nmostChannels = 31\nmostFloor = 127\nlongestPath = mostVertices\npageRows = mostFloor + longestPath\n'
 
 KEEPS = 'pub fn f(a: &mut [u8]) -> u8\n    ensures { λ r. ⌜ (r ≡ 0) × (now (a .exit) ≡ now (a .entry)) ⌝ }\n{ 0 }\n'
 
@@ -59,7 +70,10 @@ CASES = [
     ("the header's sizes", 'sizes', 'one:\n', SIZES, None),
     ('a size of another number', 'sizes', 'one:\n', SIZES.replace('20480', '20475'), "arrows: the header has ['20475'], the theorem ['20480']"),
     ('a limit of another number', 'sizes', 'one:\n', SIZES.replace('31', '32'), "lines: the header has ['32'], the theorem ['31']"),
-    ('a size that is not there', 'sizes', 'one:\n', SIZES.replace('#define CEVILONETH_WORDS 640\n', ''), 'words: the header has []'),
+    ('a size that is not there', 'sizes', 'one:\n', SIZES.replace('#define CEVILONETH_WORDS 768\n', ''), 'words: the header has []'),
+    ('an entry of another length', 'sizes', 'one:\n', SIZES.replace('NUMBERS 6', 'NUMBERS 5'), "word_numbers: the header has ['5'], the theorem ['6']"),
+    ('a limit that is a sum', 'sizes', 'one:\n', SIZES.replace('255', '254'), "rows: the header has ['254'], the theorem ['255']"),
+    ('a floor of another number', 'sizes', 'one:\n', SIZES.replace('127', '128'), "most_floor: the header has ['128'], the theorem ['127']"),
     ('lines that fit', 'lines', 'one:\n', 'ab\n' + 'λ' * 140 + '\n', None),
     ('a long line', 'lines', 'one:\n', 'ab\n' + 'λ' * 141 + '\n', 'crates/one/specs/Lines.antt:2: 141 characters'),
     ('a refusal by the fact that is named', 'logs', EDIT, 'proofs/Laws.antt:5:9: error: `law`: types differ', None),
@@ -102,7 +116,8 @@ def run(check, crates, source):
             Path(folder, 'crates/demands/specs').mkdir(parents=True)
             Path(folder, 'crates/demands/specs/Demands.antt').write_text(STATED)
             Path(folder, 'crates/specification/specs').mkdir(parents=True)
-            Path(folder, 'crates/specification/specs/Limits.antt').write_text('mostChannels = 31\n')
+            Path(folder, 'crates/specification/specs/Numbers.antt').write_text(NUMBERS)
+            Path(folder, 'crates/specification/specs/Limits.antt').write_text(LIMITS)
         if check == 'lines':
             Path(folder, 'crates/one/specs/Lines.antt').write_text(source)
         if check == 'logs':

@@ -89,12 +89,25 @@ static void unchanged(struct region r, const uint8_t *place, size_t written) {
 /* ---- charts */
 
 static struct region record_pages, lists[3];
-static unsigned long answers[12]; /* how often each was given, 0 being a chart */
+static unsigned long answers[13]; /* how often each was given, 0 being a chart */
 static const size_t most[3] = {CEVILONETH_WORDS, CEVILONETH_ARROWS, CEVILONETH_BUNDLES};
-static const size_t numbers[3] = {5, 5, 4};
+static const size_t numbers[3] = {CEVILONETH_WORD_NUMBERS, CEVILONETH_ARROW_NUMBERS, CEVILONETH_BUNDLE_NUMBERS};
+
+/* Whether a record can be refused so, or not at all. */
+static int is_of_record(unsigned refusal) { return refusal <= 7 || refusal == 12; }
 
 /* Whether a chart call can answer so: a chart, a refusal of the record, one of the lists, or broad. */
-static int is_answer(unsigned refusal) { return refusal <= 8 || refusal == 11; }
+static int is_answer(unsigned refusal) { return is_of_record(refusal) || refusal == 8 || refusal == 11; }
+
+/* Every word of a chart stands at its floor or above, and below the number of rows. */
+static void floors_kept(const uint16_t *words, ceviloneth_counts c) {
+    for (size_t i = 0; i < c.words; i++) {
+        const uint16_t *w = words + CEVILONETH_WORD_NUMBERS * i;
+        if (w[5] > CEVILONETH_MOST_FLOOR || w[3] < w[5] || w[3] >= c.rows) {
+            fail("a word below its floor, or above the last row");
+        }
+    }
+}
 
 /* One call with lists of these lengths; all that isn't needed must stay. */
 static ceviloneth_counts draw(const uint8_t *record, size_t size, const size_t length[3], int upper) {
@@ -118,6 +131,7 @@ static ceviloneth_counts draw(const uint8_t *record, size_t size, const size_t l
             fail("a refusal with counts, or one that isn't a chart's");
         }
     }
+    floors_kept(list[0], c);
     for (int i = c.lines; i < 128; i++) {
         if (c.lines > CEVILONETH_LINES || c.side_columns[i] != 0) {
             fail("too many lines, or a side column past the last");
@@ -170,7 +184,7 @@ static unsigned try_record(const uint8_t *bytes, size_t size) {
             expect(draw(record, size, none, upper), c.refusal);
             continue;
         }
-        size_t needed[3] = {5 * c.words, 5 * c.arrows, 4 * c.bundles};
+        size_t needed[3] = {numbers[0] * c.words, numbers[1] * c.arrows, numbers[2] * c.bundles};
         draw_fitting(record, size, needed, upper);
     }
     return c.refusal;
@@ -208,7 +222,19 @@ static size_t put_house_lines(size_t end, size_t words, size_t chance) {
     return end;
 }
 
-/* A record of so many words, each pair an arrow with a chance in 256; some have house lines, of all words, of some or of none. */
+/* Floors for the words: low ones, any or the highest. Few are too high, and few fields have another length. */
+static size_t put_floors(size_t end, size_t words) {
+    size_t count = below(40) ? words : below(words + 3), kind = below(3);
+    end = put_length(end, 4, count);
+    for (size_t i = 0; i < count; i++) {
+        size_t floor = kind == 0 ? below(4) : kind == 1 ? below(CEVILONETH_MOST_FLOOR + 1) : CEVILONETH_MOST_FLOOR;
+        record[end++] = (uint8_t)(below(2000) ? floor : CEVILONETH_MOST_FLOOR + 1 + below(128));
+    }
+    return end;
+}
+
+/* A record of so many words, each pair an arrow with a chance in 256; some have house lines, of all words, of some or of none, and some
+ * have floors. */
 static size_t make(size_t words, size_t chance) {
     size_t end = put_length(0, 1, 1), m = 0;
     record[end++] = (uint8_t)words;
@@ -227,7 +253,7 @@ static size_t make(size_t words, size_t chance) {
     if (below(3) == 0) {
         end = put_house_lines(end, words, below(3) ? below(257) : 256 * below(2));
     }
-    return end;
+    return below(3) ? end : put_floors(end, words);
 }
 
 /* Changes bytes, cuts or adds some. */
@@ -255,6 +281,25 @@ static void try_broad(void) {
     }
     for (int i = 0; i < 400; i++) {
         try_record(record, make(CEVILONETH_LINES - 3 + below(12), below(6)));
+    }
+}
+
+/* A line of all words, the first at each floor: as many rows as there are, or one too high. */
+static void try_tall(void) {
+    for (size_t floor = CEVILONETH_MOST_FLOOR - 2; floor <= CEVILONETH_MOST_FLOOR + 1; floor++) {
+        size_t end = put_length(0, 1, 1);
+        record[end++] = 128;
+        end = put_length(end, 2, 254);
+        for (size_t word = 0; word < 127; word++) {
+            record[end++] = (uint8_t)word;
+            record[end++] = (uint8_t)(word + 1);
+        }
+        end = put_length(end, 4, 128);
+        memset(record + end, 0, 128);
+        record[end] = (uint8_t)floor;
+        if (try_record(record, end + 128) != (floor > CEVILONETH_MOST_FLOOR ? 12 : 0)) {
+            fail("a floor too high, or refused too early");
+        }
     }
 }
 
@@ -384,7 +429,7 @@ static void try_questions(void) {
         ceviloneth_answer told = ceviloneth_leads(place, size, word(), word());
         calls++;
         hear(told);
-        if (told.refusal > 7) {
+        if (!is_of_record(told.refusal)) {
             fail("a refusal that isn't a question's");
         }
     }
@@ -395,7 +440,7 @@ static uint32_t number(uint32_t bound) { return below(9) ? (uint32_t)below(bound
 static int off(const uint32_t n[8], int places) {
     int any = 0;
     for (int i = 0; i < places; i++) {
-        any |= n[2 * i] >= 640 || n[2 * i + 1] >= 128;
+        any |= n[2 * i] >= 640 || n[2 * i + 1] >= CEVILONETH_ROWS;
     }
     return any;
 }
@@ -405,7 +450,7 @@ static void try_strokes(void) {
     for (int i = 0; i < 30000; i++) {
         uint32_t n[8];
         for (int at = 0; at < 8; at++) {
-            n[at] = number(at % 2 ? 128 : 640);
+            n[at] = number(at % 2 ? CEVILONETH_ROWS : 640);
         }
         ceviloneth_stroke s[3] = {
             ceviloneth_stroke_straight(n[0], n[1], n[2], n[3]),
@@ -437,6 +482,7 @@ int main(void) {
     }
     try_records();
     try_broad();
+    try_tall();
     all_answers_given();
     try_sessions();
     all_ways_led();

@@ -7,14 +7,16 @@ SESSION = {'no': 'not at all', 'arrow': 'by an arrow only', 'longer': 'by longer
 
 
 class Chart:
-    """A listing's words, as line, column and row, and its arrows, as pairs."""
+    """A listing's words, as line, column and row, their floors, if it has any, and its arrows, as pairs."""
 
     def __init__(self, listing):
         parts = [line.split(' ') for line in listing.splitlines()]
         words = [list(map(int, part[1:])) for part in parts if part[0] == 'w']
-        self.words = [(line, column, row) for _, line, _, column, row in words]
+        self.words = [(line, column, row) for _, line, _, column, row, *_ in words]
+        self.floors = [word[5] for word in words if len(word) == 6]
         self.arrows = [(int(part[2]), int(part[3])) for part in parts if part[0] == 'a']
-        if not words or parts[0][:3] != ['chart', str(len(self.words)), str(len(self.arrows))]:
+        counted = parts[0][:3] == ['chart', str(len(self.words)), str(len(self.arrows))]
+        if not words or not counted or len(self.floors) not in (0, len(words)):
             raise ValueError(f'no whole chart: {listing[:60]}')
         self.pairs = [(first, second) for first in range(len(self.words)) for second in range(len(self.words))]
         self.out = [[number for number, arrow in enumerate(self.arrows) if arrow[0] == word] for word in range(len(self.words))]
@@ -41,17 +43,23 @@ class Chart:
         return sorted(self.routes(first, second)[2])
 
     def said(self, *picks):
-        """The line that the page shows for no pick, one or two."""
+        """The line that the page shows for no pick, one or two. A word's floor is told where there are floors."""
         if len(picks) == 0:
             return 'Pick a word, then a second one, to see how the first leads to the second.'
+        names = [f'{word} (floor {self.floors[word]})' if self.floors else str(word) for word in picks]
         if len(picks) == 1:
-            return f'Word {picks[0]} is picked. Pick a second word.'
+            return f'Word {names[0]} is picked. Pick a second word.'
         lit = len(self.lit(*picks))
         count = {0: 'no arrow', 1: '1 arrow'}.get(lit, f'{lit} arrows')
-        return f'Word {picks[0]} leads to word {picks[1]}: {self.answer(*picks)} ({count} lit)'
+        return f'Word {names[0]} leads to word {names[1]}: {self.answer(*picks)} ({count} lit)'
 
     def label(self, word):
-        return f'word {word}, line {self.words[word][0]}'
+        floor = f', floor {self.floors[word]}' if self.floors else ''
+        return f'word {word}, line {self.words[word][0]}{floor}'
+
+    def levels(self):
+        """The floors that have a line below their rows."""
+        return sorted(set(self.floors) - {0})
 
     def next(self, word, key):
         """The word that an arrow key goes to: in the line, or in the nearest line that way, the nearest row."""

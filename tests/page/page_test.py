@@ -8,6 +8,7 @@ Exit status 1 where something differs, or where the browser does not run. With -
 there is a browser.
 """
 import os
+import re
 import signal
 import subprocess
 import sys
@@ -17,15 +18,17 @@ from pathlib import Path
 
 sys.dont_write_bytecode = True
 import browser
-from tried import BOXES, QUICK, ROOT, STATE, Tried, counts, expect, wrong
+from tried import BOXES, FLOORS, QUICK, ROOT, STATE, Tried, counts, expect, wrong
 
 SESSION = Path(os.environ.get('SESSION', ROOT / 'target' / 'bin' / 'session'))
 SESSION_THERE = 'SESSION' in os.environ or SESSION.exists()
-SMALL = ('p1', 'p5', 'p6', 'editor', 'house')
+SMALL = ('p1', 'p5', 'p6', 'editor', 'house', 'centuries')
 # seconds for all
 LIMIT = 240
 # what is big enough for a finger and for the eye, in CSS pixels
 FINGER, LETTER = 44, 11
+# how much letters stand out from the paper, at least: WCAG's ratio
+CONTRAST = 4.5
 
 
 def every_pair(page):
@@ -150,6 +153,25 @@ def fits(page):
     expect(f'{page.name}: the page is no broader than the window', boxes['wide'] <= boxes['window'], True)
 
 
+def floors(page):
+    """Below the rows of each floor above 0 a line over the whole chart, its number left of all words; taps on them pick nothing."""
+    drawn = page.tab.ask(FLOORS)
+    expect(f'{page.name}: floors', [one['floor'] for one in drawn], page.chart.levels())
+    # the chart is the last of these boxes
+    left, _, width, _ = page.boxes['still'][-1]
+    for one in drawn:
+        what, at = f'{page.name}: floor {one["floor"]}', one['line'][1]
+        above = [word for word, (_, y) in enumerate(page.boxes['middles']) if y < at]
+        expect(f'{what}: words above', above, [word for word, (_, _, row) in enumerate(page.chart.words) if row >= one['floor']])
+        expect(f'{what}: the line, from and to', list(map(round, (one['line'][0], one['line'][2]))), list(map(round, (left, width))))
+        x, y, across, up = one['number']
+        expect(f'{what}: the number is left of all words and above the line',
+               left <= x and x + across < min(box[0] for box in page.boxes['targets']) and y + up / 2 < at, True)
+        expect(f'{what}: letters are big enough', round(one['letters'], 1) >= LETTER, True)
+        page.tab.click((x + across / 2, y + up / 2), (left + 1, at))
+    page.shows('taps on floors')
+
+
 def touched(page, *picks):
     """A finger on the last of these picks. The tap is told to the page after the finger's events: whether it came to be seen."""
     page.tab.touch(page.place(picks[-1]))
@@ -178,18 +200,31 @@ def read_aloud(page):
     expect(f'{page.name}: buttons', buttons, toggles)
     expect(f'{page.name}: the button', [role for role, name, more in told if name == 'Clear' and more.get('focusable')], ['button'])
     expect(f'{page.name}: the line', [more.get('live') for role, _, more in told if role == 'status'], ['polite'])
-    arrows = sorted(name for _, name, _ in told if name and name.startswith('arrow from'))
-    expect(f'{page.name}: arrows', arrows, sorted(f'arrow from word {tail} to word {head}' for tail, head in page.chart.arrows))
+    lines = lambda begin: sorted(name for _, name, _ in told if name and name.startswith(begin))
+    expect(f'{page.name}: arrows', lines('arrow from'), sorted(f'arrow from word {tail} to word {head}' for tail, head in page.chart.arrows))
+    expect(f'{page.name}: floors', lines('floor '), sorted(f'floor {floor}' for floor in page.chart.levels()))
     page.tab.key('Escape')
 
 
+def light(colour):
+    """How light a colour is, from 0 to 1 (WCAG's relative luminance)."""
+    parts = [int(part) / 255 for part in re.findall(r'\d+', colour)[:3]]
+    red, green, blue = [part / 12.92 if part <= 0.04045 else ((part + 0.055) / 1.055) ** 2.4 for part in parts]
+    return 0.2126 * red + 0.7152 * green + 0.0722 * blue
+
+
 def dark(page):
-    """In the dark paper is darker than ink, and what is lit looks lit."""
-    shade = '((part) => getComputedStyle(document.body)[part].match(/[\\d.]+/g).slice(0, 3).reduce((a, b) => a + Number(b), 0))'
+    """In the dark paper is darker than ink; letters stand out, floors' numbers too, and what is lit looks lit."""
+    style = lambda one, part: light(page.tab.ask(f'getComputedStyle(document.querySelector("{one}")).{part}'))
+    numbers = [('.floor text', 'fill')] if page.chart.levels() else []
     for is_dark in (True, False):
         page.tab.dark(is_dark)
-        paper, ink = (page.tab.ask(f'{shade}("{part}")') for part in ('backgroundColor', 'color'))
-        expect(f'{page.name}: paper is darker than ink where it is dark', paper < ink, is_dark)
+        paper = style('body', 'backgroundColor')
+        for one, part in [('body', 'color'), *numbers]:
+            ink = style(one, part)
+            expect(f'{page.name}: paper is darker than {one} where it is dark', paper < ink, is_dark)
+            ratio = (max(paper, ink) + 0.05) / (min(paper, ink) + 0.05)
+            expect(f'{page.name}: {one} stands out, dark: {is_dark}', ratio >= CONTRAST, True)
         page.pick(1, 9)
         page.shows(f'dark: {is_dark}', 1, 9)
 
@@ -222,22 +257,29 @@ def try_all(tab, folder):
     for name in SMALL:
         page = opened(name)
         agrees(page, every_pair(page))
-    for name in ('editor', 'house'):
+    for name in ('editor', 'house', 'centuries'):
         for test in (tabbing, moving, key_picks, picks_and_clears):
             test(opened(name))
     for name in ('p1', 'p6'):
         key_pairs(opened(name))
-    read_aloud(opened('editor'))
-    dark(opened('editor'))
+    for name in ('editor', 'centuries'):
+        for test in (read_aloud, dark, floors):
+            test(opened(name))
     for name in SMALL:
         fits(opened(name, 360, 740, phone=True))
+    floors(opened('centuries', 360, 740, phone=True))
     for window in ((320, 640), (390, 844)):
-        fingers(opened('editor', *window, phone=True))
+        for name in ('editor', 'centuries'):
+            fingers(opened(name, *window, phone=True))
     page = opened('large')
     agrees(page, quickly(page, page.chart.pairs))
-    for name in ('wide', 'deep'):
+    for name in ('wide', 'deep', 'tall'):
         page = opened(name)
         quickly(page, page.chart.pairs[::331])
+    for window in (320, 372, 712):
+        page = opened('tall', window, 844, phone=True)
+        quickly(page, [(0, 127)])
+        page.stays(f'a long answer in a window of {window}')
     quiet(tab, pages)
 
 

@@ -38,6 +38,16 @@ BOXES = '''(() => {
     clear: box(document.getElementById('clear')), wide: document.documentElement.scrollWidth, window: innerWidth,
   };
 })()'''
+# the lines below floors: each with its number, how large that is, and the boxes of both
+FLOORS = '''(() => {
+  const box = (one) => { const at = one.getBoundingClientRect(); return [at.x, at.y, at.width, at.height] };
+  const scale = document.getElementById('chart').getScreenCTM().a;
+  return [...document.querySelectorAll('#chart .floor')].map((floor) => {
+    const [line, number] = ['line', 'text'].map((part) => floor.querySelector(part));
+    const letters = parseFloat(getComputedStyle(number).fontSize) * scale;
+    return { floor: Number(number.textContent), letters, line: box(line), number: box(number) };
+  });
+})()'''
 # picks by events made in the page, for charts with too many pairs to tap
 QUICK = '''((pairs) => {
   const words = [...document.querySelectorAll('#chart .word')];

@@ -1,6 +1,6 @@
 #!/usr/bin/env python3
-"""The example in Python: what it draws is each sample's listing, what it checks is what the program `chart` says, words lead to each other
-by the arrows, and errors are told.
+"""The example in Python: what it draws is each sample's listing, and that of the program `chart` for records with floors, what it checks is
+what that program says, words lead to each other by the arrows, and errors are told.
 
 Needs target/shared/libceviloneth.so (tools/shared-library.sh) and target/bin/chart. Exit status 1 where something differs.
 """
@@ -14,9 +14,14 @@ from pathlib import Path
 ROOT = Path(__file__).resolve().parents[2]
 EXAMPLE = ROOT / 'examples' / 'python' / 'ceviloneth.py'
 RECORDS = sorted((ROOT / 'samples').glob('*.record'))
-WORDS = {'refused 5': 'refused 5 ring', 'refused 1': 'refused 1 layout', 'refused 6': 'refused 6 cover', 'refused 11': 'refused 11 broad'}
+WORDS = {'refused 5': 'refused 5 ring', 'refused 1': 'refused 1 layout', 'refused 6': 'refused 6 cover', 'refused 11': 'refused 11 broad',
+         'refused 12': 'refused 12 floor'}
 # two words with no arrow, word 1 in two house lines
 REPEAT = bytes([1, 0, 1, 2, 2, 0, 0, 3, 0, 4, 1, 1, 1, 1])
+# two words and an arrow, also with a house line of word 1; and fields of floors behind them: zeros, others, one too high, too few, none
+TWO = bytes([1, 0, 1, 2, 2, 0, 2, 0, 1])
+FLOORED = [record + bytes([4, 0, len(floors), *floors]) for record in (TWO, TWO + bytes([3, 0, 2, 1, 1]), TWO + bytes([3, 0, 0]))
+           for floors in ([0, 0], [5, 0], [0, 127], [0, 128], [0], [])]
 
 wrong = []
 
@@ -42,10 +47,15 @@ def expect_error(what, said, text):
         wrong.append(f'{what}: {said}, and not 2 with {text}')
 
 
+def charted(path):
+    """What the program prints for a record."""
+    said = subprocess.run([ROOT / 'target' / 'bin' / 'chart'], stdin=path.open('rb'), capture_output=True, text=True, check=True)
+    return said.stdout
+
+
 def verdict(path):
     """Accepted where the program draws a chart, else its refusal."""
-    said = subprocess.run([ROOT / 'target' / 'bin' / 'chart'], stdin=path.open('rb'), capture_output=True, text=True, check=True)
-    line = said.stdout.split('\n')[0]
+    line = charted(path).split('\n')[0]
     return line if line.startswith('refused') else 'accepted'
 
 
@@ -60,6 +70,21 @@ def test_drawing():
     for path in RECORDS:
         lines = path.with_suffix('.listing').read_text()
         expect(f'draw {path.name}', run('draw', path), (int(lines.startswith('refused')), lines, ''))
+
+
+def test_floors(folder):
+    """Drawn and checked as by the program; of each kind of record some are drawn, and some refused with 12."""
+    for number, record in enumerate(FLOORED):
+        path = folder / f'{number:02}.record'
+        path.write_bytes(record)
+        lines = charted(path)
+        expect(f'draw {record.hex()}', run('draw', path), (int(lines.startswith('refused')), lines, ''))
+    paths = sorted(folder.glob('*.record'))
+    expect('check floors', run('check', folder), checked(paths))
+    said = [verdict(path) for path in paths]
+    expect('floors', said, 3 * (3 * ['accepted'] + 3 * ['refused 12']))
+    expect('a question beside wrong floors', run('leads', paths[3], '0', '1'), (1, 'refused 12\n', ''))
+    expect('a question beside floors', run('leads', paths[1], '0', '1'), (0, 'arrow\n', ''))
 
 
 def test_checking(folder):
@@ -112,10 +137,9 @@ def test_errors(folder):
 def main():
     test_drawing()
     test_leading()
-    with tempfile.TemporaryDirectory() as folder:
-        test_checking(Path(folder))
-    with tempfile.TemporaryDirectory() as folder:
-        test_errors(Path(folder))
+    for test in [test_checking, test_floors, test_errors]:
+        with tempfile.TemporaryDirectory() as folder:
+            test(Path(folder))
     print('\n'.join(wrong + [f'{len(RECORDS)} samples, {len(wrong)} faults']))
     return 1 if wrong or len(RECORDS) < 11 else 0
 

@@ -1,6 +1,6 @@
 /* The stack test: every call of the header is made on a thread whose whole stack has CEVILONETH_STACK_BYTES bytes, with pages below it that
- * can't be touched. Records are those whose searches for lines go deepest, the largest charts, broad ones and others that are refused, and
- * the files that are named.
+ * can't be touched. Records are those whose searches for lines go deepest, the largest charts and the tallest, broad ones and others that
+ * are refused, and the files that are named.
  * Every answer must be the one that is given on the main thread's large stack.
  *
  *     rt staticlib ceviloneth
@@ -19,7 +19,7 @@
 #include <sys/mman.h>
 #include <unistd.h>
 
-enum { WORDS = 128, MOST = 4096, LINES = CEVILONETH_LINES, LONGEST = 65536, GUARD = 131072, PAINT = 0xA5 };
+enum { WORDS = 128, MOST = 4096, LINES = CEVILONETH_LINES, ROWS = CEVILONETH_ROWS, LONGEST = 65536, GUARD = 131072, PAINT = 0xA5 };
 
 static const char *doing = "starting", *of = "no record";
 
@@ -65,9 +65,9 @@ static void call_chart(size_t arrows_length) {
     hear(counts.rows + 256u * counts.lines);
     hear(counts.firm + 65536u * counts.width);
     hear_list(counts.side_columns, 128);
-    hear_list(words, 5 * counts.words);
-    hear_list(arrows, 5 * counts.arrows);
-    hear_list(bundles, 4 * counts.bundles);
+    hear_list(words, CEVILONETH_WORD_NUMBERS * counts.words);
+    hear_list(arrows, CEVILONETH_ARROW_NUMBERS * counts.arrows);
+    hear_list(bundles, CEVILONETH_BUNDLE_NUMBERS * counts.bundles);
 }
 
 /* A session of the record's words and arrows; what else its bytes are goes in too, and is refused or not. */
@@ -86,9 +86,9 @@ static void call_session(void) {
 
 static void call_strokes(uint32_t column) {
     doing = "a stroke";
-    hear_stroke(ceviloneth_stroke_straight(0, 0, column, 127));
-    hear_stroke(ceviloneth_stroke_bent(0, 0, 1, 126, column, 127));
-    hear_stroke(ceviloneth_stroke_side(3, 0, column, 0, column, 127, 3, 127));
+    hear_stroke(ceviloneth_stroke_straight(0, 0, column, ROWS - 1));
+    hear_stroke(ceviloneth_stroke_bent(0, 0, 1, ROWS - 2, column, ROWS - 1));
+    hear_stroke(ceviloneth_stroke_side(3, 0, column, 0, column, ROWS - 1, 3, ROWS - 1));
 }
 
 /* Every call, for the record as it stands. */
@@ -187,6 +187,14 @@ static void try_record(const char *name, int refusal) {
     tried++;
 }
 
+/* A record whose chart has as many rows as there are. */
+static void try_tallest(const char *name) {
+    try_record(name, 0);
+    if (counts.rows != ROWS) {
+        fail("another number of rows than the most");
+    }
+}
+
 static void put_field(unsigned tag, size_t length) {
     record[size++] = (uint8_t)tag;
     record[size++] = (uint8_t)(length >> 8);
@@ -227,6 +235,15 @@ static void put_house_lines(size_t from, size_t to, int one) {
             record[size++] = (uint8_t)(one ? to - from : 1);
         }
         record[size++] = (uint8_t)w;
+    }
+}
+
+/* Adds floors: so much for the first word, and for the others so much more from each to the next, none above the highest. */
+static void put_floors(size_t first, size_t more) {
+    put_field(4, WORDS);
+    for (size_t w = 0; w < WORDS; w++) {
+        size_t floor = w * more;
+        record[size++] = (uint8_t)(w == 0 ? first : floor < CEVILONETH_MOST_FLOOR ? floor : CEVILONETH_MOST_FLOOR);
     }
 }
 
@@ -366,6 +383,32 @@ static void try_sound(void) {
     try_random_lines();
 }
 
+/* The same searches and the largest charts with floors, and the charts with most rows. */
+static void try_floors(void) {
+    chain(1);
+    put_floors(CEVILONETH_MOST_FLOOR, 0);
+    try_tallest("a line from the highest floor");
+    chain(WORDS);
+    put_floors(CEVILONETH_MOST_FLOOR, 0);
+    try_tallest("one line and 4,096 arrows from the highest floor");
+    chain(WORDS);
+    put_house_lines(0, WORDS, 1);
+    put_floors(CEVILONETH_MOST_FLOOR, 0);
+    try_tallest("the same of a house line");
+    deepest_search(0);
+    put_floors(0, 3);
+    try_record("the deepest search with floors", 0);
+    deepest_search(2);
+    put_floors(CEVILONETH_MOST_FLOOR, 1);
+    try_record("the deepest search beside a house line with floors", 0);
+    layered(LINES);
+    put_floors(0, 1);
+    try_record("4,096 arrows and as many lines as a chart may have, with floors", 0);
+    bipartite(LINES, 1);
+    put_floors(0, 1);
+    try_record("a search through 31 words at every step, with floors", 0);
+}
+
 /* Charts of too many lines, with the same searches and more of them. */
 static void try_broad(void) {
     dense();
@@ -402,6 +445,17 @@ static void try_refused(void) {
     record[size - 2] = 1;
     record[size - 1] = 0;
     try_record("a broken house line of two words", 7);
+    chain(31);
+    put_floors(0, 0);
+    record[size - 1] = CEVILONETH_MOST_FLOOR + 1;
+    try_record("a last floor too high", 12);
+    chain(31);
+    put_field(4, 0);
+    try_record("no floor in the field", 12);
+    chain(31);
+    put_floors(0, 0);
+    put_house_lines(0, 2, 1);
+    try_record("floors before house lines", 1);
     size = LONGEST - 1;
     memset(record, 0, size);
     try_record("65,535 bytes of no layout", 1);
@@ -433,6 +487,7 @@ int main(int count, char **arguments) {
     sigaction(SIGILL, &action, NULL);
     make_stack();
     try_sound();
+    try_floors();
     try_broad();
     try_refused();
     for (int i = first; i < count; i++) {
