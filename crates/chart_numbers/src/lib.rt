@@ -223,8 +223,8 @@ fn raised<'g, 'f, 'h, 'u>(
     requires { ⌜ length (now used) ≡ 128 ⌝ }
     ensures { λ r. ⌜ Left (lent (length (now (words .entry)) / wordNumbers) (length (now (arrows .entry)) / arrowNumbers) (length (now (bundles .entry)) / bundleNumbers) (graphDrawn n (now (ends .entry)) given (now (field .entry)) floored (now (floors .entry)))) (now (words .entry)) (now (arrows .entry)) (now (bundles .entry)) (whole r (now (used .exit))) (now (words .exit)) (now (arrows .exit)) (now (bundles .exit)) ⌝ }
 {
-    let mut below = [0; 512];
     if n <= FEW {
+        let mut below = [0; 288];
         return few(
             n,
             ends,
@@ -239,6 +239,7 @@ fn raised<'g, 'f, 'h, 'u>(
             used,
         );
     }
+    let mut below = [0; 512];
     many(
         n,
         ends,
