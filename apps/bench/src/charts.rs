@@ -70,19 +70,30 @@ fn asked(class: Class) -> Option<f64> {
         Class::Dictionary => Some(0.7),
         Class::Dense => Some(0.3),
         Class::Chart => Some(1.0),
+        Class::Floored => Some(1.2),
         Class::Refused => None,
     }
 }
 
-/// Prints the ratios of which something is asked: of the dictionary, of the dense record, and the
-/// worst of all charts. Gives the rows that are over.
+/// The chart with the highest ratio to the peer, of those with floors or of those without.
+fn worst(rows: &[Row], floored: bool) -> Option<&Row> {
+    rows.iter()
+        .filter(|row| row.class != Class::Refused && floored == (row.class == Class::Floored))
+        .max_by(|one, other| one.ratio_to_peer().total_cmp(&other.ratio_to_peer()))
+}
+
+/// Prints the ratios of which something is asked: the worst of all charts without floors and with
+/// them, of the dictionary, and of the dense record. Gives the rows that are over.
 pub fn verdict(rows: &[Row]) -> Vec<String> {
     println!("\n## Ratios to the peer\n\n| Records | Ratio | Asked, at most |\n|---|---:|---:|");
-    let drawn = || rows.iter().filter(|row| row.class != Class::Refused);
-    let worst = drawn().max_by(|one, other| one.ratio_to_peer().total_cmp(&other.ratio_to_peer()));
-    if let Some(row) = worst {
-        let (name, ratio) = (&row.name, row.ratio_to_peer());
-        println!("| worst of all charts: {name} | {ratio:.2} | 1.0 |");
+    for (class, charts) in [
+        (Class::Chart, "charts"),
+        (Class::Floored, "charts with floors"),
+    ] {
+        if let (Some(row), Some(most)) = (worst(rows, class == Class::Floored), asked(class)) {
+            let (name, ratio) = (&row.name, row.ratio_to_peer());
+            println!("| worst of all {charts}: {name} | {ratio:.2} | {most:.1} |");
+        }
     }
     for row in rows {
         if let (Class::Dictionary | Class::Dense, Some(most)) = (row.class, asked(row.class)) {

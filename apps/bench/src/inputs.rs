@@ -27,6 +27,8 @@ pub enum Class {
     Dense,
     /// Any other record that is drawn.
     Chart,
+    /// A record with floors that is drawn.
+    Floored,
     /// A record that is refused, of which no ratio is asked.
     Refused,
 }
@@ -48,7 +50,10 @@ impl Input {
     fn chart(shape: &str, record: &Record) -> Input {
         Input {
             name: sized(shape, record),
-            class: Class::Chart,
+            class: match record.floors {
+                Some(_) => Class::Floored,
+                None => Class::Chart,
+            },
             records: vec![record.to_bytes()],
             room: ROOM,
         }
@@ -109,7 +114,7 @@ pub fn dictionary(entries: usize) -> [Input; 3] {
     }
     [
         ("dictionary", Class::Dictionary, drawn),
-        ("dictionary with floors", Class::Dictionary, floored),
+        ("dictionary with floors", Class::Floored, floored),
         ("refused: broad, dictionary", Class::Refused, broad),
     ]
     .map(|(name, class, records)| Input {

@@ -17,8 +17,8 @@ Times the proved library, the peer (tests/peer, written for speed) and the secon
 (tests/reference, written for clarity) on the same inputs, and prints a page of tables (Markdown).
 --plot FILE  also times growing charts and writes a picture (SVG) of it
 --others     also times Graphviz and networkx on the same graphs, where they are installed
---check      ends with 1 where a ratio to the peer is over what is asked: 1.0 on a chart, 0.7 on the
-             dictionary, with floors and without, 0.3 on the dense record
+--check      ends with 1 where a ratio to the peer is over what is asked: 1.0 on a chart, 1.2 on
+             one with floors, 0.7 on the dictionary, 0.3 on the dense record
 
 Exit status: 0 done; 1 a ratio is over; 2 wrong use, or a file can't be written.
 ";
