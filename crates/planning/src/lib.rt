@@ -2,7 +2,7 @@
 ghost use mathlib.Core.Path.{_≡_};
 ghost use mathlib.Core.List.{[], _∷_};
 ghost use Prim.Native.Nat.{suc, _+_, _*_, _≤_, _<_, min, _/_};
-ghost use lib.ListN.{length};
+ghost use lib.ListN.{length, replicate};
 ghost use Rattle.specification.specs.Sets.{member?, has?};
 ghost use Rattle.planning.specs.Arranged.{Arranged, Kept, Added};
 ghost use Rattle.planning.specs.Steps.{freeIn, Successors, followed, Ready, Apart, Cleared};
@@ -125,26 +125,24 @@ fn capped(n: usize) -> usize
     n
 }
 
-// The table of the first n vertices, without the rows and the columns of held ones.
-fn cleared<'a>(table: &'a [u64], held: &'a [u64], n: usize) -> [u64; 256]
-    requires { ⌜ n ≤ 128 ⌝ }
-    ensures { λ r. ⌜ Cleared (member? (now (held .entry)) 0) n (now (table .entry)) r ⌝ }
+// The table of the first n vertices, without the rows and the columns of held ones, into one that is empty.
+fn without<'a>(table: &'a [u64], held: &'a [u64], n: usize, left: &mut [u64])
+    requires { ⌜ (n ≤ 128) × (now left ≡ replicate 256 0) ⌝ }
+    ensures { λ _. ⌜ Cleared (member? (now (held .entry)) 0) n (now (table .entry)) (now (left .exit)) ⌝ }
 {
     let low = masks::mask_at(held, 0, 0);
     let high = masks::mask_at(held, 0, 1);
-    let mut r = [0u64; 256];
     let mut u: usize = 0;
     while u < n {
         let a = masks::mask_at(table, 2 * u, 0);
         let b = masks::mask_at(table, 2 * u, 1);
         let next = u + 1;
         if !masks::contains(held, 0, u) {
-            r[2 * u] = a & !low;
-            r[2 * u + 1] = b & !high;
+            left[2 * u] = a & !low;
+            left[2 * u + 1] = b & !high;
         }
         u = next;
     }
-    r
 }
 
 // Lays the channels of those of n vertices that are not held, by the table, or of 128 where n is over: numbered from `first` on, behind
@@ -165,7 +163,8 @@ pub fn beside<'a>(
     if MOST <= first {
         return empty(2);
     }
-    let left = cleared(table, held, most);
+    let mut left = [0u64; 256];
+    without(table, held, most, &mut left);
     let predecessor = search::matched(&left, n);
     chains(&predecessor, held, most, first, places)
 }

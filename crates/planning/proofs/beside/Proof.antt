@@ -19,14 +19,18 @@ returns-2 c =
     let m = if1 .before .capped .ensures in
     beside-refused _ _ _ _ _ _ 2 (λ e. omega arith) (λ _ l. omega arith) (λ l. absurd (omega arith)) (λ _ _. refl) (c .empty2 .ensures)
 
-cleared-requires : tie.Need-cleared-requires
-cleared-requires c κs = omega (arith, c .before .before .capped .ensures)
+-- the places that facts are read from
+abbrev if2-of : tie.After-without → tie.Else2
+if2-of c = c .before .before
+
+without-requires : tie.Need-without-requires
+without-requires c κs = (omega (arith, c .before .before .before .capped .ensures), refl)
 
 chains-requires : tie.Need-chains-requires
 chains-requires c κs =
-    let matched = c .before .before in let cleared = matched .before .before in let if2 = cleared .before in let if1 = if2 .before in
+    let matched = c .before .before in let without = matched .before .before .before in let if2 = if2-of without in let if1 = if2 .before in
     let m = if1 .before .capped .ensures in
-    let f = found-cleared _ _ _ _ _ _ (omega arith) m (cleared .cleared .ensures) (matched .matched .ensures) in (
+    let f = found-cleared _ _ _ _ _ _ (omega arith) m (without .without .ensures) (matched .matched .ensures) in (
       omega (arith, m),
       omega (arith, if2 .if2 .left),
       f .tabled .size,
@@ -36,11 +40,11 @@ chains-requires c κs =
 
 returns-3 : tie.Need-returns-3
 returns-3 c =
-    let chains = c .before .before in let matched = chains .before .before .before in let cleared = matched .before .before in
-    let if2 = cleared .before in let if1 = if2 .before in
+    let chains = c .before .before in let matched = chains .before .before .before in
+    let without = matched .before .before .before in let if2 = if2-of without in let if1 = if2 .before in
     let m = if1 .before .capped .ensures in
     beside-all _ _ _ _ _ _ _ _ _ m (omega (arith, if1 .if1 .left)) (omega (arith, if2 .if2 .left))
-    (found-cleared _ _ _ _ _ _ (omega arith) m (cleared .cleared .ensures) (matched .matched .ensures)) (chains .chains .ensures)
+    (found-cleared _ _ _ _ _ _ (omega arith) m (without .without .ensures) (matched .matched .ensures)) (chains .chains .ensures)
 
 pub beside-spec : {M : Type 1} → statement M
 beside-spec =
@@ -52,7 +56,8 @@ beside-spec =
     returns
     (λ c κs. search needs)
     returns-2
-    cleared-requires
+    (λ c. search needs)
+    without-requires
     (λ c. search needs)
     (λ c κs. search needs)
     (λ c. search needs)
