@@ -13,3 +13,4 @@ pub mod Clearing
 pub mod Quads
 pub mod Above
 pub mod Sizes
+pub mod Stores

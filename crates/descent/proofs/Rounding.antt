@@ -24,7 +24,7 @@ use Rattle.rows.proofs.Compaction.{Order}
 use Rattle.rows.proofs.Levels.{levels-below}
 use Rattle.descent.specs.Steps.Members.{Below, Long, Pictured, Written}
 use Rattle.descent.specs.Steps.Closed.{arc?, Inside, Laid}
-use Rattle.descent.specs.Promise.{KeptFrom}
+use Rattle.specification.specs.Lent.{KeptFrom}
 use Rattle.descent.proofs.Gathering.{long-below}
 use Rattle.descent.proofs.Descending.{Stored, stored-at, same-bits}
 use Rattle.descent.proofs.Arcs.{reached-decided}

@@ -11,7 +11,7 @@ use Rattle.specification.specs.Count.{choose, some}
 use Rattle.specification.specs.Sets.{at}
 use Rattle.specification.specs.Graph.{edgeCount, edge?, refusal, tailsOf, headsOf, duplicate?, reachable?}
 use Rattle.rows.specs.Levels.{levelWithin, level, levelsUsed}
-use Rattle.specification.specs.Lent.{Untouched}
+use Rattle.specification.specs.Lent.{Untouched, KeptFrom}
 use Rattle.masks.specs.Sets.{Blank}
 use Rattle.scanning.specs.Scanned.{endsRefusal, Scanned}
 use Rattle.counting.specs.Quads.{quad}
@@ -37,10 +37,6 @@ pub record Sized (n : ℕ) (e b t l p : List ℕ) : Type 0 where
   pub table : 2 * min n mostVertices ≤ length t
   pub longer : 2 * min n mostVertices ≤ length l
   pub places : 4 * min n mostVertices ≤ length p
-
--- from entry i on a list has what it had
-abbrev pub KeptFrom : ℕ → List ℕ → List ℕ → Type 0
-KeptFrom i was is = (j : ℕ) → i ≤ j → getD is j 0 ≡ getD was j 0
 
 -- what is made of a graph without cycles: e has its edges, t what reaches what, l the same by two edges or more, all three 0 past the masks
 -- of n vertices; set k of b has the vertices of rows below k, and p the row of each vertex and how many it reaches

@@ -2,27 +2,25 @@
 use Rattle.counting.proofs.Prelude.{_≡_, refl, sym, ap, _∙_, subst, _≢_, _⊎_, inl, inr, ⊎-elim, Bool, true, false, true≢false, List, ℕ}
 use Rattle.counting.proofs.Prelude.{_+_, _*_, _≤_, _<_, arith, length, getD, ne-eqb}
 use native.Mathlib.Decide.{ℕ-discrete}
-use Rattle.counting.specs.Quads.{quad}
 use Rattle.counting.proofs.Truth.{lt-or-le}
 use Rattle.counting.proofs.Above.{above-each, above-le}
 use Rattle.specification.specs.Count.{choose}
-use Rattle.specification.specs.Sets.{at, has?}
+use Rattle.specification.specs.Sets.{has?}
 use Rattle.specification.specs.Graph.{edge?, tailsOf, headsOf, refusal, reachable?}
 use Rattle.specification.specs.Checks.{unfloored?, floorAt}
-use Rattle.specification.specs.Rows.{row}
+use Rattle.specification.specs.Rows.{row, rowsUsed}
 use Rattle.specification.specs.Limits.{longestPath}
-use Rattle.specification.specs.Lent.{Untouched}
 use Rattle.rows.specs.Levels.{level}
 use Rattle.rows.proofs.Graphs.{acyclic-order}
-use Rattle.rows.proofs.Levels.{row-level, used-level, levels-below}
+use Rattle.rows.proofs.Levels.{row-level, used-level, used-low, levels-below}
 use Rattle.rows.proofs.Same.{levels-same, row-same, used-same}
 use Rattle.descent.specs.declared.Descent.{Descent}
-use Rattle.descent.specs.Promise.{edgesRefusal, noDescent, Sized, KeptFrom, Descended, Left, Descends}
+use Rattle.descent.specs.Promise.{edgesRefusal, noDescent, Sized, Descended, Left, Descends}
 use Rattle.descent.specs.Steps.Closed.{Inside, Prefixes}
 use Rattle.descent.proofs.Refusals.{edges-accepted, edges-answers}
 use Rattle.descent.proofs.Graphs.{graph-inside, same-edges}
 use Rattle.floors.specs.Steps.{Liftable, Settled}
-use Rattle.floors.specs.Promise.{afterSize, raisedRefusal, spread, Roomy, Raised, Past, Flat, Raises}
+use Rattle.floors.specs.Promise.{afterSize, raisedRefusal, spread, Roomy, Raises}
 
 -- ---- no room for the sets by row
 
@@ -94,7 +92,7 @@ module _ (n : ℕ) (ends e b t l p : List ℕ) (d : Descent) (e′ b′ t′ l�
         λ x. w .1 (x .0, omega (arith, x .1, plain-row floors v (x .0))),
       );
     };
-    sets-past = λ z. record { stays = λ _. g .rows-past z; empty = λ x. absurd (true≢false (sym x)) };
+    sets-past = g .rows-past;
     left = λ s ne. left-of (s .masks) ne;
     flat = λ s z ne. absurd (ne (g .answer (s .masks) ∙ z));
     kept = g .kept;
@@ -242,10 +240,13 @@ module _ (n : ℕ) (ends e b t l p : List ℕ) (d : Descent) (e′ b′ t′ l�
         pub wide-enough : 2 * (n + 127) + 2 ≤ length b′
         wide-enough = wide
 
-        module _ (r : Descent) (b″ p″ : List ℕ) (f : Settled n floors e′ p′ r b″ p″) (lb : length b″ ≡ length b′)
+        module _ (r : Descent) (b″ p″ : List ℕ) (f : Settled n floors e′ b′ p′ r b″ p″) (lb : length b″ ≡ length b′)
             (lp : length p″ ≡ length p′) where
           row-here : (v : ℕ) → v < n → row (has? 2 e′) (λ x. getD floors x 0) n v ≡ row E (floorAt true floors) n v
           row-here = row-same (has? 2 e′) E (λ x. getD floors x 0) (floorAt true floors) n same (λ v h. refl)
+
+          counted : r .used ≡ rowsUsed E (floorAt true floors) n
+          counted = f .used ∙ used-same (has? 2 e′) E (λ x. getD floors x 0) (floorAt true floors) n same (λ v h. refl)
 
           pub raises-settled : Raises n ends true floors e b t l p r e′ b″ t′ l′ p″
           unfolding raisedRefusal
@@ -262,13 +263,14 @@ module _ (n : ℕ) (ends e b t l p : List ℕ) (d : Descent) (e′ b′ t′ l�
               longer = made .longer;
               past = made .past;
               rows = λ v h. f .rows v h ∙ row-here v h;
-              counted = f .used ∙ used-same (has? 2 e′) E (λ x. getD floors x 0) (floorAt true floors) n same (λ v h. refl);
+              counted = counted;
               below = λ i v hi hv. let w = f .below i v hi hv in (
                 (λ x. let y = w .0 x in (y .0, omega (arith, y .1, row-here v (y .0)))),
                 λ x. w .1 (x .0, omega (arith, x .1, row-here v (x .0))),
               );
             };
-            sets-past = λ _. record { stays = λ x. absurd (true≢false x); empty = λ _. f .empty };
+            sets-past = λ _ i h. f .past i h
+                ∙ g .rows-past zero i (omega (arith, h, made .used, counted, used-low E (floorAt true floors) n));
             left = λ s ne. absurd (ne passed);
             flat = λ s z ne. absurd (ne (f .refusal));
             kept = λ i v h. f .others i v (omega (arith, h)) (λ z. absurd (omega (arith, z, h))) ∙ g .kept i v h;

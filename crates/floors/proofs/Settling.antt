@@ -1,25 +1,23 @@
 -- From the floors to the rows and the sets by row. Assumes nothing.
-use Rattle.counting.proofs.Prelude.{_≡_, refl, sym, ap, _∙_, subst, ⊎-elim, _↔_, _⊎_, inl, inr, Bool, true, false, true≢false, not, List}
-use Rattle.counting.proofs.Prelude.{ℕ, _+_, _*_, _/_, _%_, _≤_}
+use Rattle.counting.proofs.Prelude.{_≡_, refl, sym, ap, _∙_, ⊎-elim, _↔_, Bool, true, false, true≢false, not, List}
+use Rattle.counting.proofs.Prelude.{ℕ, _+_, _*_, _/_, _≤_}
 use Rattle.counting.proofs.Prelude.{_<_, min, arith, eqb, ltb, length, getD, set, List·getD-eq-default, eqb-true, ltb-false, not-false}
 use native.Mathlib.Nat.{not-suc-le-zero}
 use native.Mathlib.Decide.{ℕ-discrete}
 use Rattle.counting.specs.Quads.{quad}
 use Rattle.counting.proofs.Quads.{quad-same, quad-other}
-use Rattle.counting.proofs.Truth.{lt-or-le, two-cases, or-neither}
-use Rattle.counting.proofs.Above.{above-each, above-le, above-ext}
+use Rattle.counting.proofs.Truth.{lt-or-le, or-neither}
+use Rattle.counting.proofs.Above.{above-le, above-ext}
 use Rattle.counting.proofs.Somes.{some-found}
 use Rattle.counting.proofs.Falsity.{not-true}
 use Rattle.specification.specs.Count.{some, above}
-use Rattle.specification.specs.Sets.{bit, member, at, has?}
+use Rattle.specification.specs.Sets.{at, has?}
 use Rattle.specification.specs.Checks.{unfloored?}
 use Rattle.specification.specs.Rows.{rowsUsed}
-use Rattle.masks.proofs.Bits.{bit-of-zero}
-use Rattle.masks.proofs.Tables.{at-lt}
 use Rattle.rows.specs.Levels.{level}
 use Rattle.rows.proofs.Compaction.{ranked-below, ranked-rule}
+use Rattle.specification.specs.Lent.{KeptFrom}
 use Rattle.prefixes.specs.Prefixes.{lastSet, Prefixes}
-use Rattle.descent.specs.declared.Descent.{Descent}
 use Rattle.floors.specs.Steps.{Set, rowIn, Slope, Arrived, Liftable, Settled}
 use Rattle.floors.proofs.Rising.{level-rises, arc-has}
 
@@ -90,9 +88,9 @@ module _ (e below : List ℕ) (n top places : ℕ) (ok : Liftable e below n top 
         above-le n (λ v. true) (quad 2 p′) (n + 127)
         (λ v l t. omega (arith, came .rows v l, ranked-below (has? 2 e) floor n (level (has? 2 e) n) few up 127 (λ x h. good x) v l))
 
-    module _ (used last : ℕ) (b′ : List ℕ) (counted : used ≡ above n (λ v. true) (quad 2 p′)) (room : 2 * (n + 127) + 2 ≤ length b′)
+    module _ (used last : ℕ) (b b′ : List ℕ) (counted : used ≡ above n (λ v. true) (quad 2 p′)) (room : 2 * (n + 127) + 2 ≤ length b′)
         (long : 4 * n ≤ length p′) (filled : last ≡ lastSet used (length b′))
-        (sets : Prefixes 2 (min (min n 128) (length p′ / 4)) (quad 2 p′) last b′) where
+        (sets : Prefixes 2 (min (min n 128) (length p′ / 4)) (quad 2 p′) last b′) (stays : KeptFrom (2 * last + 2) b b′) where
       all : min (min n 128) (length p′ / 4) ≡ n
       all = omega (arith, long, ok .inside .small)
 
@@ -106,25 +104,12 @@ module _ (e below : List ℕ) (n top places : ℕ) (ok : Liftable e below n top 
             λ h. i .1 (omega (arith, h .0, all), omega (arith, h .1, came .rows v (h .0))),
           )
 
-      past : (k v : ℕ) → used < k → v < 128 → at 2 b′ k v ≡ 0
-      unfolding at member
-      past k v hk hv = ⊎-elim (λ z. z) (λ i. absurd (inside (lt-or-le (2 * k + v / 64) (length b′)) i))
-          (two-cases (at 2 b′ k v) (at-lt 2 b′ k v))
-        where
-          inside : (2 * k + v / 64 < length b′) ⊎ (length b′ ≤ 2 * k + v / 64) → at 2 b′ k v ≡ 1 → ⊥
-          inside (inl l) i =
-              let r = sets .past k v (omega (arith, whole, hk)) (omega (arith, hv)) l .0 i in
-              let h : v < n = omega (arith, r .0, all) in
-              omega (arith, r .1, above-each n (λ x. true) (quad 2 p′) v h refl, counted, hk)
-          inside (inr l) i =
-              omega (arith, i, ap (λ (x : ℕ). bit x (v % 64)) (List·getD-eq-default b′ 0 l) ∙ bit-of-zero (v % 64))
-
-      pub settle : Settled n floors e p (record { refusal = 0; used = used }) b′ p′
+      pub settle : Settled n floors e b p (record { refusal = 0; used = used }) b′ p′
       settle = record {
         refusal = refl;
         rows = came .rows;
         used = counted ∙ used-rows;
         below = keyed;
-        empty = past;
+        past = λ i h. stays i (omega (arith, whole, h));
         others = λ k v h o. came .others k v h o ∙ begun .others k v h o;
       }

@@ -1,7 +1,7 @@
 -- What the rows by floors promise. Assumes nothing.
 use mathlib.Core.Path.{_≡_}
 use mathlib.Core.Logic.{_≢_, _↔_}
-use mathlib.Core.Bool.{Bool, true, false}
+use mathlib.Core.Bool.{Bool, true}
 use mathlib.Core.List.{List}
 use Prim.Native.Nat.{ℕ, _+_, _*_, _≤_, _<_, min}
 use lib.Dec.{eqb}
@@ -12,11 +12,11 @@ use Rattle.specification.specs.Sets.{at}
 use Rattle.specification.specs.Graph.{edge?, tailsOf, headsOf}
 use Rattle.specification.specs.Rows.{row, rowsUsed}
 use Rattle.specification.specs.Checks.{unfloored?, floorAt}
-use Rattle.specification.specs.Lent.{Untouched}
+use Rattle.specification.specs.Lent.{Untouched, KeptFrom}
 use Rattle.counting.specs.Quads.{quad}
 use Rattle.reach.specs.Closure.{Closure, Composed}
 use Rattle.descent.specs.declared.Descent.{Descent}
-use Rattle.descent.specs.Promise.{edgesRefusal, noDescent, Sized, KeptFrom, Descended, Left}
+use Rattle.descent.specs.Promise.{edgesRefusal, noDescent, Sized, Descended, Left}
 
 -- why a graph is refused before its channels are looked at: 2 'size', 12 'floor', 3 'stranger' to 5 'ring' (SPECIFICATION.md, 13), the
 -- first that applies, or 0; by the refusal of its edges
@@ -44,11 +44,6 @@ pub record Raised (n : ℕ) (tails heads : List ℕ) (floor : ℕ → ℕ) (used
   pub counted : used ≡ rowsUsed (edge? tails heads) floor n
   pub below : (k v : ℕ) → k ≤ used → v < mostVertices → at 2 b k v ≡ 1 ↔ ((v < n) × (row (edge? tails heads) floor n v < k))
 
--- past the sets of the rows used b stays, and where there are floors it is empty
-pub record Past (floored : Bool) (used : ℕ) (b b′ : List ℕ) : Type 0 where
-  pub stays : floored ≡ false → KeptFrom (2 * used + 2) b b′
-  pub empty : floored ≡ true → (k v : ℕ) → used < k → v < mostVertices → at 2 b′ k v ≡ 0
-
 -- what the levels alone leave: floors that are refused lift nothing
 pub record Flat (n : ℕ) (ends b e′ b′ t′ l′ p′ : List ℕ) : Type 0 where
   pub levels : ℕ
@@ -56,7 +51,7 @@ pub record Flat (n : ℕ) (ends b e′ b′ t′ l′ p′ : List ℕ) : Type 0 
   pub past : KeptFrom (2 * levels + 2) b b′
 
 -- from the bytes of the edges and the floors to the tables; e′, b′, t′, l′ and p′ are the work lists after it. Where a list has too little
--- room the answer is 8, and nothing changed. What a refusal leaves goes by the edges alone
+-- room the answer is 8, and nothing changed. Past the sets of the rows used b stays. What a refusal leaves goes by the edges alone
 pub record Raises (n : ℕ) (ends : List ℕ) (floored : Bool) (floors e b t l p : List ℕ) (r : Descent) (e′ b′ t′ l′ p′ : List ℕ) : Type 0
   where
     pub answer : Roomy n floored e b t l p → r .refusal ≡ raisedRefusal n (tailsOf ends) (headsOf ends) floored floors
@@ -64,7 +59,7 @@ pub record Raises (n : ℕ) (ends : List ℕ) (floored : Bool) (floors e b t l p
         → (r .refusal ≡ 8) × Untouched e e′ × Untouched b b′ × Untouched t t′ × Untouched l l′ × Untouched p p′
     pub none : r .refusal ≢ 0 → r ≡ noDescent (r .refusal)
     pub made : r .refusal ≡ 0 → Raised n (tailsOf ends) (headsOf ends) (floorAt floored floors) (r .used) e′ b′ t′ l′ p′
-    pub sets-past : r .refusal ≡ 0 → Past floored (r .used) b b′
+    pub sets-past : r .refusal ≡ 0 → KeptFrom (2 * r .used + 2) b b′
     pub left : Roomy n floored e b t l p → edgesRefusal n (tailsOf ends) (headsOf ends) ≢ 0
         → Left (edgesRefusal n (tailsOf ends) (headsOf ends)) n ends e b t l p e′ b′ t′ l′ p′
     pub flat : Roomy n floored e b t l p → edgesRefusal n (tailsOf ends) (headsOf ends) ≡ 0 → r .refusal ≢ 0 → Flat n ends b e′ b′ t′ l′ p′

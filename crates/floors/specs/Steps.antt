@@ -10,6 +10,7 @@ use Rattle.specification.specs.Limits.{mostVertices, mostFloor, highestRow}
 use Rattle.specification.specs.Count.{some, above}
 use Rattle.specification.specs.Sets.{bit, at, has?}
 use Rattle.specification.specs.Rows.{row, rowsUsed}
+use Rattle.specification.specs.Lent.{KeptFrom}
 use Rattle.counting.specs.Quads.{quad}
 use Rattle.descent.specs.declared.Descent.{Descent}
 use Rattle.descent.specs.Steps.Closed.{Arc, Inside, Prefixes}
@@ -92,11 +93,11 @@ pub record Liftable (e below : List ℕ) (n top places : ℕ) : Type 0 where
   pub sets : 2 * top + 2 ≤ length below
   pub room : 4 * n ≤ places
 
--- the rows of n vertices by their floors, the sets by row, empty past them, and nothing else
-pub record Settled (n : ℕ) (floors e p : List ℕ) (r : Descent) (b′ p′ : List ℕ) : Type 0 where
+-- the rows of n vertices by their floors, the sets by row, and nothing else
+pub record Settled (n : ℕ) (floors e b p : List ℕ) (r : Descent) (b′ p′ : List ℕ) : Type 0 where
   pub refusal : r .refusal ≡ 0
   pub rows : (v : ℕ) → v < n → quad 2 p′ v ≡ rowIn e n (λ x. getD floors x 0) v
   pub used : r .used ≡ rowsUsed (has? 2 e) (λ x. getD floors x 0) n
   pub below : (k v : ℕ) → k ≤ r .used → v < mostVertices → at 2 b′ k v ≡ 1 ↔ ((v < n) × (rowIn e n (λ x. getD floors x 0) v < k))
-  pub empty : (k v : ℕ) → r .used < k → v < mostVertices → at 2 b′ k v ≡ 0
+  pub past : KeptFrom (2 * r .used + 2) b b′
   pub others : (k v : ℕ) → k < 4 → (k ≡ 2 → n ≤ v) → quad k p′ v ≡ quad k p v

@@ -1,8 +1,9 @@
 // Layer 1: rows by floors (SPECIFICATION.md, 4). The crate `descent` finds the levels, which go by the edges alone. Where there are floors
 // each vertex begins at its own, and level by level each lifts its successors above itself; the sets of vertices by row are made anew.
 ghost use mathlib.Core.Path.{_≡_};
-ghost use mathlib.Core.Bool.{true, false};
+ghost use mathlib.Core.Bool.{true, false, _&&_};
 ghost use Prim.Native.Nat.{ℕ, _+_, _*_, _≤_, _<_, min, max};
+ghost use lib.Dec.{ltb};
 ghost use lib.ListN.{length, getD};
 ghost use Rattle.specification.specs.Count.{above};
 ghost use Rattle.specification.specs.Checks.{unfloored?};
@@ -168,7 +169,7 @@ fn settled(
     places: &mut [u8],
 ) -> Descent
     requires { ⌜ Liftable (now edges) (now below) n levels (length (now places)) × (unfloored? n true (now floors) ≡ false) × (2 * (n + 127) + 2 ≤ length (now below)) ⌝ }
-    ensures { λ r. ⌜ Settled n (now (floors .entry)) (now (edges .entry)) (now (places .entry)) r (now (below .exit)) (now (places .exit)) ⌝ }
+    ensures { λ r. ⌜ Settled n (now (floors .entry)) (now (edges .entry)) (now (below .entry)) (now (places .entry)) r (now (below .exit)) (now (places .exit)) ⌝ }
 {
     set_floors(floors, n, places);
     lift(edges, below, n, levels, places);
@@ -190,33 +191,14 @@ fn room(n: usize) -> usize
     2 * (MOST_VERTICES + wide(MOST_FLOOR)) + 2
 }
 
-// As below, of a graph that has floors.
-fn with_floors<'a, 'f, 'e, 'b, 't, 'l, 'p>(
-    n: usize,
-    ends: &'a [u8],
-    floors: &'f [u8],
-    edges: &'e mut [u64],
-    below: &'b mut [u64],
-    table: &'t mut [u64],
-    longer: &'l mut [u64],
-    places: &'p mut [u8],
-) -> Descent
-    ensures { λ r. ⌜ Raises n (now (ends .entry)) true (now (floors .entry)) (now (edges .entry)) (now (below .entry)) (now (table .entry)) (now (longer .entry)) (now (places .entry)) r (now (edges .exit)) (now (below .exit)) (now (table .exit)) (now (longer .exit)) (now (places .exit)) ⌝ }
+// Whether n vertices have floors, and so many masks are too few for their sets by row.
+fn is_cramped(n: usize, floored: bool, masks: usize) -> bool
+    ensures { λ r. ⌜ r ≡ (floored && ltb masks (spread n)) ⌝ }
 {
-    if below.len() < room(n) {
-        return refused(8);
+    if floored {
+        return masks < room(n);
     }
-    let d = descent::descend(n, ends, edges, below, table, longer, places);
-    if (d.refusal == 8) | (d.refusal == 2) {
-        return d;
-    }
-    if is_unfloored(n, floors) {
-        return refused(12);
-    }
-    if d.refusal != 0 {
-        return d;
-    }
-    settled(n, floors, wide(d.used), edges, below, places)
+    false
 }
 
 // The tables of n vertices, of edges of two bytes each, tail and head, and of floors, if there are any, with rows and counts in `places`.
@@ -235,8 +217,22 @@ pub fn raised<'a, 'f, 'e, 'b, 't, 'l, 'p>(
 ) -> Descent
     ensures { λ r. ⌜ Raises n (now (ends .entry)) floored (now (floors .entry)) (now (edges .entry)) (now (below .entry)) (now (table .entry)) (now (longer .entry)) (now (places .entry)) r (now (edges .exit)) (now (below .exit)) (now (table .exit)) (now (longer .exit)) (now (places .exit)) ⌝ }
 {
-    if floored {
-        return with_floors(n, ends, floors, edges, below, table, longer, places);
+    if is_cramped(n, floored, below.len()) {
+        return refused(8);
     }
-    descent::descend(n, ends, edges, below, table, longer, places)
+    // called in one place, so that the compiler puts it here
+    let d = descent::descend(n, ends, edges, below, table, longer, places);
+    if !floored {
+        return d;
+    }
+    if (d.refusal == 8) | (d.refusal == 2) {
+        return d;
+    }
+    if is_unfloored(n, floors) {
+        return refused(12);
+    }
+    if d.refusal != 0 {
+        return d;
+    }
+    settled(n, floors, wide(d.used), edges, below, places)
 }

@@ -6,7 +6,7 @@ use native.Mathlib.Numerals.{add-one}
 use lib.Arith.{digits-div, digits-mod}
 use Rattle.specification.specs.Lent.{Filled}
 use Rattle.specification.specs.Pass.{stored}
-use Rattle.lists.proofs.Stores.{filled-none, filled-more, filled-to}
+use Rattle.counting.proofs.Stores.{filled-none, filled-more, filled-to}
 
 -- value i of the list: value f of entry e is n e f
 abbrev pub values : {E : Type 0} → ℕ → (ℕ → ℕ → E) → ℕ → E

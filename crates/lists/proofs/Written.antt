@@ -4,7 +4,7 @@ use native.Mathlib.Numerals.{add-one}
 use lib.Seq.{ext-getD}
 use Rattle.counting.proofs.Truth.{lt-or-le}
 use Rattle.specification.specs.Lent.{Filled}
-use Rattle.lists.proofs.Stores.{filled-none, filled-more, filled-to}
+use Rattle.counting.proofs.Stores.{filled-none, filled-more, filled-to}
 
 -- ---- the list with its first i entries written, by what g says
 module _ {E : Type 0} (ys : List E) (g : ℕ → E) where

@@ -1,38 +1,50 @@
 -- The sets by key while they are filled. Assumes nothing.
-use Rattle.counting.proofs.Prelude.{_≡_, sym, ap, ap₂, _∙_, subst, _≢_, _⊎_, inl, inr, ⊎-elim, List, [], _∷_, ℕ, _+_, _-_, _*_, _/_, _≤_}
-use Rattle.counting.proofs.Prelude.{_<_, max, arith, length, getD, set, replicate, length-set, length-replicate}
+use Rattle.counting.proofs.Prelude.{_≡_, refl, sym, ap, ap₂, _∙_, _≢_, _⊎_, inl, inr, ⊎-elim, List, [], _∷_, ℕ, _+_, _-_, _*_, _/_, _%_}
+use Rattle.counting.proofs.Prelude.{_≤_, _<_, min, max, arith, length, getD, set, length-set, List·getD-eq-default}
 use native.Mathlib.Nat.{mul-le-mul-left}
 use native.Mathlib.Decide.{ℕ-discrete}
 use lib.Bits.{bitOr}
-use lib.Seq.{set-out}
+use lib.Seq.{getD-set-other}
 use Rattle.counting.proofs.Truth.{lt-or-le}
-use Rattle.specification.specs.Sets.{at, inserted, United}
+use Rattle.specification.specs.Lent.{Filled, KeptFrom}
+use Rattle.specification.specs.Sets.{bit, member, at, inserted, United}
+use Rattle.masks.proofs.Bits.{bit-of-zero}
 use Rattle.masks.proofs.Sets.{united-none, united-more}
-use Rattle.masks.proofs.Tables.{at-lt, at-zeros, put-law, Absorbed, absorbed-law, Row, pair-row, row-member}
+use Rattle.masks.proofs.Tables.{at-lt, Put, put-law, Absorbed, absorbed-law, Row, pair-row, row-member}
 use Rattle.masks.proofs.Members.{length-inserted}
 use Rattle.prefixes.specs.Prefixes.{Prefixes}
 use Rattle.prefixes.specs.Steps.{Stage}
 
-inserted-out : (s : List ℕ) (first v : ℕ) → length s ≤ first + v / 64 → inserted s first v ≡ s
+-- a vertex is put into one mask
+inserted-other : (s : List ℕ) (first v i : ℕ) → i ≢ first + v / 64 → getD (inserted s first v) i 0 ≡ getD s i 0
 unfolding inserted
-inserted-out s first v l = set-out s (first + v / 64) _ l
+inserted-other s first v i ne = getD-set-other s (first + v / 64) i _ 0 ne
 
 module _ (w : ℕ) (key : ℕ → ℕ) (top : ℕ) where
-  stage-none : (m : ℕ) → (0 < top → w * top + w ≤ m) → Stage w 0 key top 0 (replicate m 0)
-  stage-none m h = record {
-    room = rw (length-replicate {A = ℕ} m 0) h;
+  -- the masks of the sets 0 to top are 0
+  stage-none : (s : List ℕ) → (0 < top → w * top + w ≤ length s) → ((i : ℕ) → i < w * top + w → getD s i 0 ≡ 0) → Stage w 0 key top 0 s
+  unfolding at member
+  stage-none s h z = record {
+    room = h;
     here = λ k v l lv lt e. absurd (omega arith);
-    has = λ k v l lv lt e z. absurd (omega arith);
-    only = λ k v lv e. absurd (let z = at-zeros w m k v in omega arith);
+    has = λ k v l lv lt e i. absurd (omega arith);
+    only = λ k v l lv e. absurd (let o = none k v l lv in omega arith);
   }
+    where
+      none : (k v : ℕ) → k ≤ top → v < w * 64 → at w s k v ≡ 0
+      none k v l lv =
+          let a = mul-le-mul-left w l in
+          let b : v / 64 < w = omega arith in
+          ap (λ (x : ℕ). bit x (v % 64)) (z (w * k + v / 64) (omega arith)) ∙ bit-of-zero (v % 64)
 
-  -- one vertex more
-  stage-put : (n : ℕ) (s : List ℕ) → n < w * 64 → Stage w n key top 0 s → Stage w (n + 1) key top 0 (inserted s (w * (key n + 1)) n)
-  stage-put n s hn g = record {
+  -- one vertex more, whose key has a set
+  stage-put : (n : ℕ) (s : List ℕ) → n < w * 64 → key n < top → Stage w n key top 0 s
+      → Stage w (n + 1) key top 0 (inserted s (w * (key n + 1)) n)
+  stage-put n s hn low g = record {
     room = rw (length-inserted s (w * u) n) (g .room);
-    here = λ k v l lv lt e. put-here k v (rw (length-inserted s (w * u) n) at l) lv lt e (ℕ-discrete v n);
+    here = λ k v l lv lt e. put-here k v l lv lt e (ℕ-discrete v n);
     has = λ k v l lv lt e z. absurd (omega arith);
-    only = λ k v lv e. put-only k v lv e (ℕ-discrete v n) (ℕ-discrete k u);
+    only = λ k v l lv e. put-only k v l lv e (ℕ-discrete v n) (ℕ-discrete k u);
   }
     where
       u : ℕ
@@ -41,35 +53,48 @@ module _ (w : ℕ) (key : ℕ → ℕ) (top : ℕ) where
       s′ : List ℕ
       s′ = inserted s (w * u) n
 
-      same : (k v : ℕ) → v < w * 64 → (k ≡ u → v ≢ n) → at w s′ k v ≡ at w s k v
-      same k v lv ne = go (lt-or-le (length s) (w * u + n / 64 + 1))
-        where
-          go : (length s < w * u + n / 64 + 1) ⊎ (w * u + n / 64 + 1 ≤ length s) → at w s′ k v ≡ at w s k v
-          go (inl l) = ap (λ x. at w x k v) (inserted-out s (w * u) n (omega arith))
-          go (inr l) = put-law w s u n hn (omega arith) .other k v lv ne
+      put : Put w s u n s′
+      put =
+          put-law w s u n hn
+          (let a = mul-le-mul-left w (let h : u ≤ top = omega arith in h) in
+          let b : n / 64 < w = omega arith in
+          omega (arith, g .room (omega arith)))
 
-      put-here : (k v : ℕ) → w * k + v / 64 < length s → v < w * 64 → v < n + 1 → key v + 1 ≡ k → Dec (v ≡ n) → at w s′ k v ≡ 1
-      put-here k v l lv lt e (yes q) =
-          let ku : k ≡ u = sym e ∙ ap (λ x. key x + 1) q in
-          ap₂ (λ a b. at w s′ a b) ku q ∙ put-law w s u n hn (rw (ku, q) at l) .here
-      put-here k v l lv lt e (no q) = same k v lv (λ _. q) ∙ g .here k v l lv (omega arith) e
+      put-here : (k v : ℕ) → k ≤ top → v < w * 64 → v < n + 1 → key v + 1 ≡ k → Dec (v ≡ n) → at w s′ k v ≡ 1
+      put-here k v l lv lt e (yes q) = ap₂ (λ a b. at w s′ a b) (sym e ∙ ap (λ x. key x + 1) q) q ∙ put .here
+      put-here k v l lv lt e (no q) = put .other k v lv (λ _. q) ∙ g .here k v l lv (omega arith) e
 
-      put-only : (k v : ℕ) → v < w * 64 → at w s′ k v ≡ 1 → Dec (v ≡ n) → Dec (k ≡ u)
+      put-only : (k v : ℕ) → k ≤ top → v < w * 64 → at w s′ k v ≡ 1 → Dec (v ≡ n) → Dec (k ≡ u)
           → (v < n + 1) × (key v < k) × (0 < k → key v + 1 ≡ k)
-      put-only k v lv e (yes q) (yes r) =
+      put-only k v l lv e (yes q) (yes r) =
           let kv : key v + 1 ≡ k = ap (λ x. key x + 1) q ∙ sym r in
           (omega arith, omega arith, λ _. kv)
-      put-only k v lv e (yes q) (no r) = absurd (let o = g .only k v lv (sym (same k v lv (λ z. absurd (r z))) ∙ e) .0 in omega arith)
-      put-only k v lv e (no q) d = let o = g .only k v lv (sym (same k v lv (λ _. q)) ∙ e) in (omega (arith, o .0), o .1, o .2)
+      put-only k v l lv e (yes q) (no r) =
+          absurd (let o = g .only k v l lv (sym (put .other k v lv (λ z. absurd (r z))) ∙ e) .0 in omega arith)
+      put-only k v l lv e (no q) d =
+          let o = g .only k v l lv (sym (put .other k v lv (λ _. q)) ∙ e) in (omega (arith, o .0), o .1, o .2)
+
+  -- one more, whose key has none
+  stage-past : (n : ℕ) (s : List ℕ) → top ≤ key n → Stage w n key top 0 s → Stage w (n + 1) key top 0 s
+  stage-past n s high g = record {
+    room = g .room;
+    here = λ k v l lv lt e. g .here k v l lv (before k v l lt e (ℕ-discrete v n)) e;
+    has = λ k v l lv lt e z. absurd (omega arith);
+    only = λ k v l lv e. let o = g .only k v l lv e in (omega (arith, o .0), o .1, o .2);
+  }
+    where
+      before : (k v : ℕ) → k ≤ top → v < n + 1 → key v + 1 ≡ k → Dec (v ≡ n) → v < n
+      before k v l lt e (yes q) = absurd (let z = ap key q in omega arith)
+      before k v l lt e (no q) = omega arith
 
   -- one set more is complete
   stage-join : (n j : ℕ) (s o s′ : List ℕ) → j < top → length s′ ≡ length s → Row w s j o → Absorbed w s (j + 1) o s′
       → Stage w n key top j s → Stage w n key top (j + 1) s′
   stage-join n j s o s′ h size row a g = record {
     room = rw size (g .room);
-    here = λ k v l lv lt e. join-here k v (rw size at l) lv lt e (ℕ-discrete k (j + 1));
+    here = λ k v l lv lt e. join-here k v l lv lt e (ℕ-discrete k (j + 1));
     has = λ k v l lv lt e z. join-has k v l lv lt e z (ℕ-discrete k (j + 1));
-    only = λ k v lv e. join-only k v lv e (ℕ-discrete k (j + 1));
+    only = λ k v l lv e. join-only k v l lv e (ℕ-discrete k (j + 1));
   }
     where
       new : (k v : ℕ) → v < w * 64 → k ≡ j + 1 → at w s′ k v ≡ max (at w s (j + 1) v) (at w s j v)
@@ -81,40 +106,36 @@ module _ (w : ℕ) (key : ℕ → ℕ) (top : ℕ) where
       second : (k v : ℕ) → v < w * 64 → k ≡ j + 1 → at w s j v ≡ 1 → at w s′ k v ≡ 1
       second k v lv e q = new k v lv e ∙ (let b = at-lt w s (j + 1) v in omega arith)
 
-      join-here : (k v : ℕ) → w * k + v / 64 < length s → v < w * 64 → v < n → key v + 1 ≡ k → Dec (k ≡ j + 1) → at w s′ k v ≡ 1
-      join-here k v l lv lt e (yes q) = first k v lv q (g .here (j + 1) v (rw q at l) lv lt (e ∙ q))
+      join-here : (k v : ℕ) → k ≤ top → v < w * 64 → v < n → key v + 1 ≡ k → Dec (k ≡ j + 1) → at w s′ k v ≡ 1
+      join-here k v l lv lt e (yes q) = first k v lv q (g .here (j + 1) v (omega arith) lv lt (e ∙ q))
       join-here k v l lv lt e (no q) = a .other k v lv q ∙ g .here k v l lv lt e
 
       join-has : (k v : ℕ) → k ≤ top → v < w * 64 → v < n → key v < k → k ≤ j + 1 → Dec (k ≡ j + 1) → at w s′ k v ≡ 1
       join-has k v l lv lt e z (yes q) = ⊎-elim
           (λ b. second k v lv q (g .has j v (omega arith) lv lt b (omega arith)))
-          (λ b.
-          let a = mul-le-mul-left w (let h : j + 1 ≤ top = omega arith in h) in
-          let m = g .room (omega arith) in
-          let p : v / 64 < w = omega arith in
-          first k v lv q (g .here (j + 1) v (omega arith) lv lt (omega arith)))
+          (λ b. first k v lv q (g .here (j + 1) v (omega arith) lv lt (omega arith)))
           (lt-or-le (key v) j)
       join-has k v l lv lt e z (no q) = a .other k v lv q ∙ g .has k v l lv lt e (omega arith)
 
-      join-only : (k v : ℕ) → v < w * 64 → at w s′ k v ≡ 1 → Dec (k ≡ j + 1) → (v < n) × (key v < k) × (j + 1 < k → key v + 1 ≡ k)
-      join-only k v lv e (yes q) = either (lt-or-le (at w s j v) 1)
+      join-only : (k v : ℕ) → k ≤ top → v < w * 64 → at w s′ k v ≡ 1 → Dec (k ≡ j + 1)
+          → (v < n) × (key v < k) × (j + 1 < k → key v + 1 ≡ k)
+      join-only k v h′ lv e (yes q) = either (lt-or-le (at w s j v) 1)
         where
           either : (at w s j v < 1) ⊎ (1 ≤ at w s j v) → (v < n) × (key v < k) × (j + 1 < k → key v + 1 ≡ k)
           either (inl b) =
               let m = new k v lv q in
               let c = at-lt w s (j + 1) v in
-              let r = g .only (j + 1) v lv (omega arith) in
+              let r = g .only (j + 1) v (omega arith) lv (omega arith) in
               (r .0, omega (arith, r .1), λ t. absurd (omega arith))
           either (inr b) =
               let c = at-lt w s j v in
-              let r = g .only j v lv (omega arith) in
+              let r = g .only j v (omega arith) lv (omega arith) in
               (r .0, omega (arith, r .1), λ t. absurd (omega arith))
-      join-only k v lv e (no q) = let r = g .only k v lv (sym (a .other k v lv q) ∙ e) in (r .0, r .1, λ t. r .2 (omega arith))
+      join-only k v h′ lv e (no q) = let r = g .only k v h′ lv (sym (a .other k v lv q) ∙ e) in (r .0, r .1, λ t. r .2 (omega arith))
 
   pub stage-all : (n : ℕ) (s : List ℕ) → Stage w n key top top s → Prefixes w n key top s
   stage-all n s g = record {
-    sets-by-key = λ k v l lv. ((λ e. let r = g .only k v lv e in (r .0, r .1)), λ p. g .has k v l lv (p .0) (p .1) l);
-    past = λ k v l lv h. ((λ e. let r = g .only k v lv e in (r .0, r .2 l)), λ p. g .here k v h lv (p .0) (p .1));
+    sets-by-key = λ k v l lv. ((λ e. let r = g .only k v l lv e in (r .0, r .1)), λ p. g .has k v l lv (p .0) (p .1) l);
   }
 
 -- ---- two masks a set, as the code stores them
@@ -144,16 +165,41 @@ stage-pair key top n j i s h e g =
     (omega (arith, g .room (omega arith)))))
     g
 
--- the next vertex is put in; the code reads its key into r
-pub put-step : (key : ℕ → ℕ) (top n r : ℕ) (s s′ : List ℕ) → n < 128 → r ≡ key n → s′ ≡ inserted s (2 * (r + 1)) n
-    → Stage 2 n key top 0 s → Stage 2 (n + 1) key top 0 s′
-put-step key top n r s s′ h e f g = rw (f, e) (stage-put 2 key top n s h g)
+-- past both masks the list stays
+pub twice-kept : (s : List ℕ) (p q a b i : ℕ) → i ≢ p → i ≢ q → getD (twice s p q a b) i 0 ≡ getD s i 0
+twice-kept s p q a b i np nq =
+    let one : List ℕ = set s p (bitOr (getD s p 0) a) in
+    getD-set-other one q i (bitOr (getD one q 0) b) 0 nq ∙ getD-set-other s p i (bitOr (getD s p 0) a) 0 np
 
--- a cleared list of m masks
-pub stage-start : (key : ℕ → ℕ) (top m : ℕ) (s : List ℕ) → s ≡ replicate m 0 → top ≤ m / 2 - 1 → Stage 2 0 key top 0 s
-stage-start key top m s e l = rw e (stage-none 2 key top m (λ p. omega arith))
+-- ---- the walk over the vertices
 
--- all are put in and joined; the code counts the vertices into v
-pub stage-joined : (key : ℕ → ℕ) (top m v : ℕ) (s s′ : List ℕ) → v ≡ m → Stage 2 v key top 0 s
-    → ((n : ℕ) (k : ℕ → ℕ) → Stage 2 n k top 0 s → Prefixes 2 n k top s′) → Prefixes 2 m key top s′
-stage-joined key top m v s s′ e g f = subst (λ x. Prefixes 2 x key top s′) e (f v key g)
+-- `was` is the list with its sets cleared: the vertices below n are put in, and past the sets nothing has changed
+pub record Putting (key : ℕ → ℕ) (top n : ℕ) (was is : List ℕ) : Type 0 where
+  pub long : length is ≡ length was
+  pub stage : Stage 2 n key top 0 is
+  pub kept : KeptFrom (2 * top + 2) was is
+
+-- cleared as far as there are masks
+pub put-none : (key : ℕ → ℕ) (top : ℕ) (lent was : List ℕ) → top ≤ length lent / 2 - 1
+    → Filled lent (λ i. 0) (min (2 * top + 2) (length lent)) was → Putting key top 0 was was
+put-none key top lent was l f = record {
+  long = refl;
+  stage = stage-none 2 key top was (λ p. omega (arith, f .as-long)) clear;
+  kept = λ i h. refl;
+}
+  where
+    clear : (i : ℕ) → i < 2 * top + 2 → getD was i 0 ≡ 0
+    clear i h = ⊎-elim (λ b. f .made i 0 (omega arith)) (λ b. List·getD-eq-default was 0 (omega (arith, f .as-long)))
+        (lt-or-le i (length lent))
+
+module _ (key : ℕ → ℕ) (top n k : ℕ) (was is : List ℕ) (few : n < 128) (e : k ≡ key n) (g : Putting key top n was is) where
+  -- the next vertex is put in; the code reads its key into k
+  pub put-more : (is′ : List ℕ) → k < top → is′ ≡ inserted is (2 * (k + 1)) n → Putting key top (n + 1) was is′
+  put-more is′ low q = record {
+    long = ap length q ∙ length-inserted is (2 * (k + 1)) n ∙ g .long;
+    stage = rw (q, e) (stage-put 2 key top n is few (omega arith) (g .stage));
+    kept = λ i h. ap (λ (x : List ℕ). getD x i 0) q ∙ inserted-other is (2 * (k + 1)) n i (λ z. omega arith) ∙ g .kept i h;
+  }
+
+  pub put-past : top ≤ k → Putting key top (n + 1) was is
+  put-past high = record { long = g .long; stage = stage-past 2 key top n is (omega arith) (g .stage); kept = g .kept }

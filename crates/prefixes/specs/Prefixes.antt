@@ -2,8 +2,7 @@
 use mathlib.Core.Path.{_≡_}
 use mathlib.Core.Logic.{_↔_}
 use mathlib.Core.List.{List}
-use Prim.Native.Nat.{ℕ, _+_, _-_, _*_, _/_, _≤_, _<_, min}
-use lib.ListN.{length}
+use Prim.Native.Nat.{ℕ, _-_, _*_, _/_, _≤_, _<_, min}
 use Rattle.specification.specs.Limits.{rowNumbers, maskBits}
 use Rattle.specification.specs.Sets.{at}
 
@@ -11,9 +10,6 @@ use Rattle.specification.specs.Sets.{at}
 abbrev pub lastSet : ℕ → ℕ → ℕ
 lastSet top masks = min (min top rowNumbers) (masks / 2 - 1)
 
--- of n vertices, for the sets 0 to top; a set past them has, in the masks that the list has of it, the vertices whose key is one less than
--- its number
+-- of n vertices, for the sets 0 to top
 pub record Prefixes (w n : ℕ) (key : ℕ → ℕ) (top : ℕ) (sets : List ℕ) : Type 0 where
   pub sets-by-key : (k v : ℕ) → k ≤ top → v < w * maskBits → at w sets k v ≡ 1 ↔ ((v < n) × (key v < k))
-  pub past : (k v : ℕ) → top < k → v < w * maskBits → w * k + v / maskBits < length sets
-      → at w sets k v ≡ 1 ↔ ((v < n) × (key v + 1 ≡ k))

@@ -3,19 +3,19 @@ use mathlib.Core.Path.{_≡_}
 use mathlib.Core.Logic.{_≢_}
 use mathlib.Core.Bool.{Bool, true, false}
 use mathlib.Core.List.{List, []}
-use Prim.Native.Nat.{ℕ, _≤_, _<_}
+use Prim.Native.Nat.{ℕ, _+_, _*_, _≤_, _<_}
 use lib.ListN.{length}
 use Rattle.counting.specs.Quads.{quad}
 use Rattle.specification.specs.Graph.{tailsOf, headsOf}
 use Rattle.descent.specs.Promise.{edgesRefusal, Left}
-use Rattle.floors.specs.Promise.{Roomy, Raised, Past, Flat}
+use Rattle.floors.specs.Promise.{Roomy, Raised, Flat}
 use Rattle.specification.specs.Sets.{has?}
 use Rattle.specification.specs.Channels.{givenLines}
 use Rattle.specification.specs.Given.{withGiven}
 use Rattle.planning.specs.Arranged.{Arranged}
 use Rattle.record.specs.declared.checks.Checked.{Checked}
 use Rattle.specification.specs.Checks.{content, unfloored?, floorAt, refusalOf}
-use Rattle.specification.specs.Lent.{Untouched}
+use Rattle.specification.specs.Lent.{Untouched, KeptFrom}
 
 -- a refusal with no count
 abbrev pub uncheckedBy : ℕ → Checked
@@ -38,7 +38,7 @@ pub record Passes (n : ℕ) (ends : List ℕ) (given : Bool) (field : List ℕ) 
 pub record Tables (n : ℕ) (ends : List ℕ) (floored : Bool) (floors b e′ b′ t′ l′ p′ : List ℕ) : Type 0 where
   pub used : ℕ
   pub raised : Raised n (tailsOf ends) (headsOf ends) (floorAt floored floors) used e′ b′ t′ l′ p′
-  pub past : Past floored used b b′
+  pub past : KeptFrom (2 * used + 2) b b′
 
 -- r is the first check that fails and no count, or 0 and what passes; e, b, t, l and p are the lists that are lent, and e′ to p′ what they
 -- hold afterwards, which goes by the refusals of the edges and of the floors alone. The entries of p past the vertices stay. Where the

@@ -1,9 +1,9 @@
 -- Levels are the rows of no floor, and so the laws of rows are theirs. Assumes nothing.
-use Rattle.counting.proofs.Prelude.{_≡_, refl, sym, _∙_, Bool, true, ℕ, zero, suc, _+_, _≤_, _<_, arith}
+use Rattle.counting.proofs.Prelude.{_≡_, refl, Bool, true, ℕ, zero, suc, _≤_, _<_, zero-le, arith}
 use Rattle.specification.specs.Count.{above}
 use Rattle.specification.specs.Rows.{rowWithin, row, rowsUsed}
 use Rattle.specification.specs.Limits.{longestPath}
-use Rattle.counting.proofs.Above.{above-ext}
+use Rattle.counting.proofs.Above.{above-each, above-le, above-ext}
 use Rattle.rows.specs.Levels.{levelWithin, level, levelsUsed}
 use Rattle.rows.proofs.Compaction.{Order, rows-below, rows-rule}
 
@@ -22,6 +22,21 @@ module _ (E : ℕ → ℕ → Bool) (floor : ℕ → ℕ) (n : ℕ) (none : (v :
 
   pub used-level : rowsUsed E floor n ≡ levelsUsed E n
   used-level = above-ext n (λ v. true) (λ v. true) (row E floor n) (level E n) (λ v l. refl) (λ v l t. row-level v l)
+
+-- no floor lowers a vertex: as many rows are used as levels, or more
+module _ (E : ℕ → ℕ → Bool) (floor : ℕ → ℕ) (n : ℕ) where
+  level-low : (k v : ℕ) → levelWithin E n k v ≤ rowWithin E floor n k v
+  unfolding rowWithin levelWithin
+  level-low zero v = zero-le
+  level-low (suc k) v =
+      let a = above-le n (λ u. E u v) (levelWithin E n k) (above n (λ u. E u v) (rowWithin E floor n k))
+      (λ u l e. let b = above-each n (λ x. E x v) (rowWithin E floor n k) u l e in omega (arith, level-low k u)) in
+      omega arith
+
+  pub used-low : levelsUsed E n ≤ rowsUsed E floor n
+  used-low =
+      above-le n (λ v. true) (level E n) (rowsUsed E floor n)
+      (λ v l e. let a = above-each n (λ x. true) (row E floor n) v l e in omega (arith, level-low longestPath v))
 
 module _ (E L : ℕ → ℕ → Bool) (n : ℕ) (o : Order E L n) (small : n ≤ 128) where
   abbrev flat : ℕ → ℕ

@@ -8,6 +8,10 @@ use lib.ListN.{length, getD}
 abbrev pub Untouched : {A : Type 0} → A → A → Type 0
 Untouched was is = is ≡ was
 
+-- from entry i on a list of numbers has what it had
+abbrev pub KeptFrom : ℕ → List ℕ → List ℕ → Type 0
+KeptFrom i was is = (j : ℕ) → i ≤ j → getD is j 0 ≡ getD was j 0
+
 -- the first `top` entries of a list are what g says, the others as before: with none to write the list is untouched
 pub record Filled {E : Type 0} (was : List E) (g : ℕ → E) (top : ℕ) (is : List E) : Type 0 where
   pub as-long : length is ≡ length was

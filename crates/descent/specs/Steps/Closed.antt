@@ -14,7 +14,8 @@ use Rattle.rows.specs.Levels.{level, levelsUsed}
 use Rattle.counting.specs.Quads.{quad}
 use Rattle.masks.specs.Sets.{Blank}
 use Rattle.descent.specs.declared.Descent.{Descent}
-use Rattle.descent.specs.Promise.{noDescent, KeptFrom, Stuck}
+use Rattle.specification.specs.Lent.{KeptFrom}
+use Rattle.descent.specs.Promise.{noDescent, Stuck}
 use Rattle.specification.specs.Limits.{mostVertices}
 
 -- the table e has an edge from u to v

@@ -1,4 +1,4 @@
-use Rattle.counting.proofs.Prelude.{_∙_, _+_, _*_, _≤_, arith, length, getD, needs}
+use Rattle.counting.proofs.Prelude.{_+_, _*_, _≤_, arith, length, getD, needs}
 use Rattle.floors.specs.Steps.{Arrived}
 use Rattle.floors.proofs.Settling.{floors-good, slope-of, used-few, settle}
 use Rattle.floors.proofs.settled.Statement.{statement}
@@ -55,7 +55,7 @@ returns c =
     let long : 4 * a .n ≤ length (lift .lift .last .1 .1 .1 .1 .0) =
     omega (arith, lift .lift .kept .1 .1 .1 .1 .0, set-floors .set-floors .kept .1 .1 .0, st .pre .0 .room) in
     settle _ _ _ _ _ (st .pre .0) (a .floors .now) (floors-good _ _ (st .pre .1) .1) (a .places .now) _ _ (set-floors .set-floors .ensures)
-    (came lift) _ _ _ (rows-used .rows-used .ensures) wide long (omega (arith, made .0, made .2)) (made .1)
+    (came lift) _ _ _ _ (rows-used .rows-used .ensures) wide long (omega (arith, made .0, made .2)) (made .1) (made .3)
 
 pub settled-spec : {M : Type 1} → statement M
 settled-spec =
