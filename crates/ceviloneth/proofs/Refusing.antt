@@ -8,7 +8,7 @@ use Rattle.chart_plan.proofs.Nothing.{empty, nothing-zeroed}
 use Rattle.chart_plan.proofs.Refusals.{Sound, lent-quiet}
 use Rattle.specification.specs.declared.ChartCounts.{ChartCounts}
 use Rattle.specification.specs.Lent.{Untouched}
-use Rattle.chart_numbers.specs.Chart.{Numbered, Left}
+use Rattle.chart_lists.specs.Chart.{Numbered, Left}
 
 pub record Refused (ws es bs : List ℕ) (r : ChartCounts) (ws′ es′ bs′ : List ℕ) : Type 0 where
   pub word-list : Untouched ws ws′

@@ -14,16 +14,16 @@ use Rattle.chart_plan.specs.Laid.{Lists, Laid}
 use Rattle.chart_plan.specs.declared.Plan.{Plan}
 use Rattle.chart_plan.proofs.Entries.{edges-counted, small, edges-few, bundles-few, ends-known, vertex-drawn, bundle-drawn, kind-among}
 use Rattle.chart_plan.proofs.Entries.{mark-drawn}
-use Rattle.chart_numbers.specs.declared.Counts.{Counts}
-use Rattle.chart_numbers.specs.Chart.{Numbered}
+use Rattle.chart_lists.specs.declared.Counts.{Counts}
+use Rattle.chart_lists.specs.Chart.{Numbered, whole}
 use Rattle.specification.specs.Numbers.{wordNumber, bundleNumber, words, bundles}
 use Rattle.specification.specs.Pass.{asNumbers, state, after}
 use Rattle.reduction.specs.Reduction.{transitiveIn?}
 use Rattle.lists.specs.Marking.{Marking}
 use Rattle.lists.proofs.Marking.{numbers-legible, after-same, marking, marked-filled, marked-reduced}
-use Rattle.chart_numbers.specs.Steps.Numbers.{kindAt, wordFrom, arrowFrom, bundleFrom, Ready}
-use Rattle.chart_numbers.specs.Steps.Numbers as numbers
-use Rattle.chart_numbers.specs.Steps.Hand.{LeftFor, whole}
+use Rattle.chart_lists.specs.Steps.Numbers.{kindAt, wordFrom, arrowFrom, bundleFrom, Ready}
+use Rattle.chart_lists.specs.Steps.Numbers as numbers
+use Rattle.chart_lists.specs.Steps.Hand.{LeftFor}
 
 -- the counts of what is planned of n vertices and m edges
 abbrev countsOf : ℕ → ℕ → ℕ → Plan → Counts

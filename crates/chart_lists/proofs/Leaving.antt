@@ -1,27 +1,24 @@
 -- From the lists and the counts to the promise. Assumes nothing.
-use Rattle.counting.proofs.Prelude.{_≡_, refl, sym, ap, ap₂, subst, _∙_, Bool, true, false, _||_, List, ℕ, _+_, _-_, _*_, _/_, _≤_, arith}
-use Rattle.counting.proofs.Prelude.{ltb, length, take, drop, replicate, eq-eqb, ne-eqb, ltb-false}
+use Rattle.counting.proofs.Prelude.{_≡_, refl, sym, ap, ap₂, subst, _∙_, Bool, true, false, _||_, List, ℕ, _*_, _/_, _≤_, arith}
+use Rattle.counting.proofs.Prelude.{ltb, length, replicate, eq-eqb, ne-eqb, ltb-false}
 use native.Mathlib.Decide.{ℕ-discrete}
 use Rattle.specification.specs.Count.{choose}
 use Rattle.specification.specs.Checks.{Content, edgesOf, nothing}
-use Rattle.specification.specs.Layout.{layoutOf}
-use Rattle.specification.specs.declared.Fields.{Fields}
-use Rattle.specification.specs.declared.Layout.the-variants.{Good}
 use Rattle.specification.specs.Chart.{planOf}
 use Rattle.specification.specs.Drawn.{chartRefusal, Drawn, graphContent, graphDrawn, short?, lent, refusedBy}
 use Rattle.counting.proofs.Zeros.{zeros}
 use Rattle.counting.proofs.Truth.{or-neither}
-use Rattle.lists.proofs.Stores.{filled-none, filled-to}
+use Rattle.counting.proofs.Stores.{filled-none, filled-to}
 use Rattle.chart_plan.specs.Laid.{Lists, Laid}
 use Rattle.chart_plan.specs.declared.Plan.{Plan}
 use Rattle.chart_plan.proofs.Entries.{edges-counted}
-use Rattle.chart_plan.proofs.Judging.{graph-refused, graph-whole, record-good}
+use Rattle.chart_plan.proofs.Judging.{graph-refused, graph-whole}
 use Rattle.chart_plan.proofs.Nothing.{empty}
 use Rattle.chart_plan.proofs.Shortage.{enough, lent-short, lent-whole}
 use Rattle.specification.specs.declared.ChartCounts.{ChartCounts}
-use Rattle.chart_numbers.specs.declared.Counts.{Counts}
-use Rattle.chart_numbers.specs.Chart.{Numbered, Left, HandedFlat}
-use Rattle.chart_numbers.specs.Steps.Hand.{noCounts, whole, roomRefusal}
+use Rattle.chart_lists.specs.declared.Counts.{Counts}
+use Rattle.chart_lists.specs.Chart.{Numbered, Left, whole, noCounts}
+use Rattle.chart_lists.specs.Steps.Hand.{roomRefusal}
 
 -- ---- a refusal
 
@@ -154,17 +151,3 @@ module _ (n : ℕ) (ends : List ℕ) (given : Bool) (field : List ℕ) (floored 
         accepted-whole (f .0),
       )
       (record { refusal = accepted; numbered = h })
-
--- ---- a record is read part by part
-
-pub record-left : (b : List ℕ) (f : Fields) → layoutOf b ≡ Good f → (ws es bs ws′ es′ bs′ : List ℕ) (r : ChartCounts)
-    → Left (lent (length ws / 6) (length es / 5) (length bs / 4)
-    (graphDrawn (f .vertices) (take ((f .edges + 2 * f .count) - f .edges) (drop (f .edges) b)) (f .given)
-    (take ((f .lines + f .size) - f .lines) (drop (f .lines) b)) (f .floored)
-    (take ((f .floors + f .extent) - f .floors) (drop (f .floors) b)))) ws es bs r ws′ es′ bs′
-    → HandedFlat b ws es bs r ws′ es′ bs′
-record-left b f e ws es bs ws′ es′ bs′ r h =
-    let i : (f .edges + 2 * f .count) - f .edges ≡ 2 * f .count = omega arith in
-    let j : (f .lines + f .size) - f .lines ≡ f .size = omega arith in
-    let k : (f .floors + f .extent) - f .floors ≡ f .extent = omega arith in
-    rw (record-good b f e) (rw (i, j, k) at h)

@@ -11,7 +11,7 @@ use Rattle.specification.specs.Pass.{asNumbers, stored, state, next}
 use Rattle.reduction.specs.Reduction.{transitiveIn?}
 use Rattle.kinds.specs.Kinds.{kindAmong}
 use Rattle.specification.specs.declared.Code.{Code}
-use Rattle.chart_numbers.specs.Steps.Numbers.{Given, tailAt, headAt, kindAt, arrowFrom, wordFrom, bundleFrom}
+use Rattle.chart_lists.specs.Steps.Numbers.{Given, tailAt, headAt, kindAt, arrowFrom, wordFrom, bundleFrom}
 
 -- ---- five or six numbers, and the count of a mark
 

@@ -1,14 +1,15 @@
--- What the call promises: the chart by its definitions, in the answer and in every number of the lists that are
--- lent, or a refusal and nothing. Assumes nothing.
+-- The chart by its definitions, in the answer and in every number of the three lists that are lent, or a refusal and nothing. Assumes
+-- nothing.
 use mathlib.Core.Path.{_≡_}
 use mathlib.Core.List.{List}
-use Prim.Native.Nat.{ℕ, _*_, _/_}
+use Prim.Native.Nat.{ℕ, _*_}
 use lib.ListN.{length}
 use Rattle.specification.specs.Checks.{Content, edgesOf}
 use Rattle.specification.specs.Chart.{Plan, planOf, vertexEntry, edgeEntry, bundleEntry}
-use Rattle.specification.specs.Drawn.{Drawn, recordDrawn, lent, Summary}
+use Rattle.specification.specs.Drawn.{Drawn, Summary}
 use Rattle.specification.specs.Lent.{Filled}
 use Rattle.specification.specs.declared.ChartCounts.{ChartCounts}
+use Rattle.chart_lists.specs.declared.Counts.{Counts}
 use Rattle.specification.specs.Numbers.{wordNumbers, arrowNumbers, bundleNumbers, words, arrows, bundles}
 
 -- every count of the chart of c, and its entries in the lists: r is the answer, ws′, es′ and bs′ are the lists ws, es and bs afterwards
@@ -22,7 +23,29 @@ pub record Left (d : Drawn) (ws es bs : List ℕ) (r : ChartCounts) (ws′ es′
   pub refusal : r .refusal ≡ d .refusal
   pub numbered : Numbered (d .graph) (planOf (d .graph)) ws es bs r ws′ es′ bs′
 
--- the record's chart, or why it is refused (`recordDrawn`): 8 where a list has room for fewer entries (`lent`)
-abbrev pub HandedFlat : List ℕ → List ℕ → List ℕ → List ℕ → ChartCounts → List ℕ → List ℕ → List ℕ → Type 0
-HandedFlat b ws es bs =
-    Left (lent (length ws / wordNumbers) (length es / arrowNumbers) (length bs / bundleNumbers) (recordDrawn b)) ws es bs
+-- the counts with the side columns
+abbrev pub whole : Counts → List ℕ → ChartCounts
+whole c used = record {
+  refusal = c .refusal;
+  words = c .words;
+  arrows = c .arrows;
+  bundles = c .bundles;
+  rows = c .rows;
+  lines = c .lines;
+  firm = c .firm;
+  width = c .width;
+  «side_columns» = used;
+}
+
+-- a refusal: no count
+abbrev pub noCounts : ℕ → Counts
+noCounts k = record {
+  refusal = k;
+  words = 0;
+  arrows = 0;
+  bundles = 0;
+  rows = 0;
+  lines = 0;
+  firm = 0;
+  width = 0;
+}

@@ -11,7 +11,7 @@ ghost use Rattle.kinds.specs.Kinds.{kindAmong};
 ghost use Rattle.specification.specs.Lent.{Filled};
 ghost use Rattle.specification.specs.Numbers.{words, bundles};
 ghost use Rattle.specification.specs.Pass.{asNumbers, state, next, after};
-ghost use Rattle.chart_numbers.specs.Steps.Numbers.{given, arrowFrom, wordFrom, bundleFrom, Ready};
+ghost use Rattle.chart_lists.specs.Steps.Numbers.{given, arrowFrom, wordFrom, bundleFrom, Ready};
 use crate::wide;
 use specification::Code;
 

@@ -2,7 +2,8 @@
 ghost use mathlib.Core.Path.{_≡_};
 ghost use Prim.Native.Nat.{_/_};
 ghost use lib.ListN.{length, replicate};
-ghost use Rattle.chart_numbers.specs.Steps.Hand.{LeftFor, Lends, Hands, roomRefusal, whole};
+ghost use Rattle.chart_lists.specs.Chart.{whole};
+ghost use Rattle.chart_lists.specs.Steps.Hand.{LeftFor, Lends, Hands, roomRefusal};
 use crate::Counts;
 use crate::entries::ARROW_NUMBERS;
 use crate::entries::BUNDLE_NUMBERS;

@@ -3,119 +3,20 @@ ghost use mathlib.Core.Path.{_≡_};
 ghost use Prim.Native.Nat.{_+_, _*_, _/_, _≤_, _<_, min};
 ghost use lib.ListN.{length, replicate};
 ghost use Rattle.specification.specs.Drawn.{graphDrawn, lent};
-ghost use Rattle.chart_plan.specs.Laid.{lists, Roomy};
-ghost use Rattle.chart_numbers.specs.Chart.{Left, HandedFlat};
-ghost use Rattle.chart_numbers.specs.Steps.Hand.{noCounts, whole, RowRoom};
+ghost use Rattle.chart_lists.specs.Chart.{Left, whole};
+ghost use Rattle.chart_numbers.specs.Chart.{HandedFlat};
+ghost use Rattle.chart_numbers.specs.Steps.{RowRoom};
 ghost use Rattle.specification.specs.Numbers.{wordNumbers, arrowNumbers, bundleNumbers};
 ghost use mathlib.Core.Bool.{false};
-use hand::hand_over;
+use chart_lists::Counts;
+use chart_lists::drawn;
 use specification::ChartCounts;
 use specification::Layout;
-
-mod entries;
-mod hand;
 
 // For so many vertices there are smaller work lists: none is longer than 256 bytes, which the compiler clears without a call.
 const FEW: usize = 15;
 
-// `ChartCounts` without the side columns: these are lent down from the public calls, so that they are copied once.
-pub(crate) struct Counts {
-    pub refusal: u8,
-    pub words: usize,
-    pub arrows: usize,
-    pub bundles: usize,
-    pub rows: u8,
-    pub lines: u8,
-    pub firm: u16,
-    pub width: u16,
-}
-
-// A byte as a usize: asks nothing of the byte, where a cast of an element asks that it fits.
-pub(crate) fn wide(x: u8) -> usize
-    ensures { λ r. ⌜ (r ≡ x) × (r < 256) ⌝ }
-{
-    x as usize
-}
-
-// No count.
-pub(crate) fn refused(refusal: u8) -> Counts
-    ensures { λ r. ⌜ r ≡ noCounts refusal ⌝ }
-{
-    Counts {
-        refusal,
-        words: 0,
-        arrows: 0,
-        bundles: 0,
-        rows: 0,
-        lines: 0,
-        firm: 0,
-        width: 0,
-    }
-}
-
-// The chart of a neutral graph into three lists and its side columns into `used`, by work lists that have room for its vertices.
-fn drawn<'g, 'f, 'h, 'e, 'b, 't, 'l, 'p, 's, 'n, 'c, 'u>(
-    n: usize,
-    ends: &'g [u8],
-    given: bool,
-    field: &'f [u8],
-    floored: bool,
-    floors: &'h [u8],
-    words: &mut [u16],
-    arrows: &mut [u16],
-    bundles: &mut [u16],
-    edges: &'e mut [u64],
-    below: &'b mut [u64],
-    table: &'t mut [u64],
-    longer: &'l mut [u64],
-    places: &'p mut [u8],
-    spans: &'s mut [u8],
-    number: &'n mut [u16],
-    column: &'c mut [u16],
-    used: &'u mut [u16],
-) -> Counts
-    requires { ⌜ Roomy n floored (lists (now edges) (now below) (now table) (now longer) (now places) (now spans) (now number) (now used) (now column)) × (2 * min n 128 + 2 ≤ length (now table)) × (length (now used) ≡ 128) ⌝ }
-    ensures { λ r. ⌜ Left (lent (length (now (words .entry)) / wordNumbers) (length (now (arrows .entry)) / arrowNumbers) (length (now (bundles .entry)) / bundleNumbers) (graphDrawn n (now (ends .entry)) given (now (field .entry)) floored (now (floors .entry)))) (now (words .entry)) (now (arrows .entry)) (now (bundles .entry)) (whole r (now (used .exit))) (now (words .exit)) (now (arrows .exit)) (now (bundles .exit)) ⌝ }
-{
-    let p = chart_plan::planned(
-        n,
-        ends,
-        given,
-        field,
-        floored,
-        floors,
-        edges,
-        below,
-        table,
-        longer,
-        places,
-        spans,
-        number,
-        used,
-        column,
-    );
-    // what reaches what is not read any more: its list takes the sets left of channels
-    hand_over(
-        words,
-        arrows,
-        bundles,
-        ends,
-        floored,
-        floors,
-        longer,
-        below,
-        table,
-        places,
-        spans,
-        number,
-        column,
-        used,
-        n,
-        p,
-    )
-}
-
-// The same with work lists for at most 15 vertices: clearing larger ones would take most of the time of a small chart.
+// The chart of a neutral graph into three lists and its side columns into `used`, with work lists for at most 15 vertices: clearing larger ones would take most of the time of a small chart.
 fn few<'g, 'f, 'h, 'b, 'u>(
     n: usize,
     ends: &'g [u8],
@@ -207,8 +108,41 @@ fn many<'g, 'f, 'h, 'b, 'u>(
     )
 }
 
-// The same where there are floors: rows may be many more than vertices.
-fn raised<'g, 'f, 'h, 'u>(
+// The same where at most 15 vertices have floors: there may be many more rows than vertices. In a function of its own, and so is the next:
+// the compiler then lets the two lists share their place on the stack.
+fn few_raised<'g, 'f, 'h, 'u>(
+    n: usize,
+    ends: &'g [u8],
+    given: bool,
+    field: &'f [u8],
+    floored: bool,
+    floors: &'h [u8],
+    words: &mut [u16],
+    arrows: &mut [u16],
+    bundles: &mut [u16],
+    used: &'u mut [u16],
+) -> Counts
+    requires { ⌜ (n ≤ 15) × (length (now used) ≡ 128) ⌝ }
+    ensures { λ r. ⌜ Left (lent (length (now (words .entry)) / wordNumbers) (length (now (arrows .entry)) / arrowNumbers) (length (now (bundles .entry)) / bundleNumbers) (graphDrawn n (now (ends .entry)) given (now (field .entry)) floored (now (floors .entry)))) (now (words .entry)) (now (arrows .entry)) (now (bundles .entry)) (whole r (now (used .exit))) (now (words .exit)) (now (arrows .exit)) (now (bundles .exit)) ⌝ }
+{
+    let mut below = [0; 288];
+    few(
+        n,
+        ends,
+        given,
+        field,
+        floored,
+        floors,
+        words,
+        arrows,
+        bundles,
+        &mut below,
+        used,
+    )
+}
+
+// And where any number of vertices do.
+fn many_raised<'g, 'f, 'h, 'u>(
     n: usize,
     ends: &'g [u8],
     given: bool,
@@ -223,22 +157,6 @@ fn raised<'g, 'f, 'h, 'u>(
     requires { ⌜ length (now used) ≡ 128 ⌝ }
     ensures { λ r. ⌜ Left (lent (length (now (words .entry)) / wordNumbers) (length (now (arrows .entry)) / arrowNumbers) (length (now (bundles .entry)) / bundleNumbers) (graphDrawn n (now (ends .entry)) given (now (field .entry)) floored (now (floors .entry)))) (now (words .entry)) (now (arrows .entry)) (now (bundles .entry)) (whole r (now (used .exit))) (now (words .exit)) (now (arrows .exit)) (now (bundles .exit)) ⌝ }
 {
-    if n <= FEW {
-        let mut below = [0; 288];
-        return few(
-            n,
-            ends,
-            given,
-            field,
-            floored,
-            floors,
-            words,
-            arrows,
-            bundles,
-            &mut below,
-            used,
-        );
-    }
     let mut below = [0; 512];
     many(
         n,
@@ -320,7 +238,21 @@ fn graphed<'g, 'f, 'h, 'u>(
     ensures { λ r. ⌜ Left (lent (length (now (words .entry)) / wordNumbers) (length (now (arrows .entry)) / arrowNumbers) (length (now (bundles .entry)) / bundleNumbers) (graphDrawn n (now (ends .entry)) given (now (field .entry)) floored (now (floors .entry)))) (now (words .entry)) (now (arrows .entry)) (now (bundles .entry)) (whole r (now (used .exit))) (now (words .exit)) (now (arrows .exit)) (now (bundles .exit)) ⌝ }
 {
     if floored {
-        return raised(
+        if n <= FEW {
+            return few_raised(
+                n,
+                ends,
+                given,
+                field,
+                floored,
+                floors,
+                words,
+                arrows,
+                bundles,
+                used,
+            );
+        }
+        return many_raised(
             n,
             ends,
             given,
@@ -360,7 +292,7 @@ fn recorded<'u>(
 {
     let layout = fields::layout_of(bytes);
     let Layout::Good(f) = layout else {
-        return refused(1);
+        return chart_lists::refused(1);
     };
     let from = f.edges;
     let to = from + 2 * f.count;

@@ -24,7 +24,7 @@ either : (t : Bool) (a b : ℕ) → a ≢ 8 → b ≢ 8 → choose t (λ _. a) (
 either true a b h k = h
 either false a b h k = k
 
-chart-unshort : (c : Content) → chartRefusal c ≢ 8
+pub chart-unshort : (c : Content) → chartRefusal c ≢ 8
 unfolding chartRefusal looseChecks laterChecks chartChecks firstOf
 chart-unshort c =
     either (size? c) 2 _ (λ e. omega arith) (

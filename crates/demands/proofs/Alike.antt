@@ -17,7 +17,7 @@ use Rattle.specification.specs.declared.Kind.the-variants.{Path, PathTransitive
 use Rattle.specification.specs.declared.VertexEntry.{VertexEntry}
 use Rattle.specification.specs.declared.EdgeEntry.{EdgeEntry}
 use Rattle.specification.specs.declared.ChartCounts.{ChartCounts}
-use Rattle.chart_numbers.specs.Chart.{Numbered, Left}
+use Rattle.chart_lists.specs.Chart.{Numbered, Left}
 
 module _ (n : ℕ) (tails heads : List ℕ) (g h : Bool) (f k : List ℕ) (p q : Bool) (x y : List ℕ)
     (same : givenLines g f ≡ givenLines h k) (level : (v : ℕ) → floorAt p x v ≡ floorAt q y v) where

@@ -22,7 +22,8 @@ use Rattle.specification.specs.Pass.{asNumbers, asEntries}
 use Rattle.lists.specs.Marking.{Marking}
 use Rattle.chart_entries.specs.Promise.{HandedOver}
 use Rattle.chart_entries.proofs.Refusals.{refused-untouched, Refused}
-use Rattle.chart_numbers.specs.Chart.{Left, HandedFlat}
+use Rattle.chart_lists.specs.Chart.{Left}
+use Rattle.chart_numbers.specs.Chart.{HandedFlat}
 use Rattle.ceviloneth.proofs.Refusing as flat
 use Rattle.ceviloneth.specs.State.{stateNumbers, Tells}
 use Rattle.ceviloneth.specs.Calls.{LentCall, LentAnswer, Calls, Life, lifeRun, Lived, Short}

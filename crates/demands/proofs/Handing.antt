@@ -14,7 +14,7 @@ use Rattle.specification.specs.declared.ChartCounts.{ChartCounts}
 use Rattle.kinds.specs.Codes.{kindOf}
 use Rattle.kinds.proofs.Coding.{kind-coded}
 use Rattle.chart_entries.specs.Promise.{HandedOver}
-use Rattle.chart_numbers.specs.Chart.{Numbered, Left}
+use Rattle.chart_lists.specs.Chart.{Numbered, Left}
 use Rattle.lists.proofs.Marking.{mark-back}
 use Rattle.demands.specs.Demands.{entriesIn}
 use Rattle.demands.specs.Numbers.{numberAt, vertexFrom, edgeFrom, bundleFrom, entriesFrom}

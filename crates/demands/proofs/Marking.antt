@@ -15,7 +15,7 @@ use Rattle.lists.proofs.Entered.{values}
 use Rattle.lists.proofs.Written.{refilled}
 use Rattle.lists.proofs.Marking.{Legible, numbers-legible, entries-legible, marking, filled-ends}
 use Rattle.chart_entries.specs.Promise.{HandedOver}
-use Rattle.chart_numbers.specs.Chart.{Left}
+use Rattle.chart_lists.specs.Chart.{Left}
 use Rattle.demands.specs.Demands.{Entries, entriesIn}
 use Rattle.demands.specs.Numbers.{entriesFrom}
 use Rattle.demands.proofs.Accepting.{Handed, call-accepted, drawn-whole}

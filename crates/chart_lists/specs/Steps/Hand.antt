@@ -1,6 +1,6 @@
 -- What is planned of a graph, handed over, and the answer. Assumes nothing.
 use mathlib.Core.Path.{_≡_}
-use mathlib.Core.Bool.{Bool, true, _||_}
+use mathlib.Core.Bool.{Bool, _||_}
 use mathlib.Core.List.{List}
 use Prim.Native.Nat.{ℕ, _+_, _*_, _/_, _≤_, _<_, min}
 use lib.Dec.{eqb, ltb}
@@ -11,12 +11,10 @@ use Rattle.counting.specs.Quads.{quad}
 use Rattle.specification.specs.Drawn.{chartRefusal, graphContent, graphDrawn, lent}
 use Rattle.chart_plan.specs.Laid.{lists, Laid}
 use Rattle.chart_plan.specs.declared.Plan.{Plan}
-use Rattle.floors.specs.Promise.{spread}
 use Rattle.specification.specs.Numbers.{wordNumbers, arrowNumbers, bundleNumbers}
 use Rattle.prefixes.specs.Prefixes.{lastSet, Prefixes}
 use Rattle.specification.specs.declared.ChartCounts.{ChartCounts}
-use Rattle.chart_numbers.specs.declared.Counts.{Counts}
-use Rattle.chart_numbers.specs.Chart.{Left}
+use Rattle.chart_lists.specs.Chart.{Left}
 
 -- ---- a plan handed over
 
@@ -49,40 +47,9 @@ abbrev pub LeftFor : ℕ → ℕ → List ℕ → ℕ → List ℕ → Type 0
 LeftFor n count places size left =
     2 < count → Prefixes 2 (min (min n mostVertices) (length places / 4)) (quad 0 places) (lastSet count size) left
 
--- a list of k masks has room for the sets by row of n vertices
-abbrev pub RowRoom : ℕ → Bool → ℕ → Type 0
-RowRoom n floored k = (2 * min n mostVertices + 2 ≤ k) × (floored ≡ true → spread n ≤ k)
-
 -- ---- the answer
 
 -- why a chart of n vertices, m edges and b bundles is refused, or 0: as its graph is, or with 8 where there is room for fewer
 unfoldable pub roomRefusal : ℕ → ℕ → ℕ → ℕ → ℕ → ℕ → ℕ → ℕ
 roomRefusal refusal n m b words arrows bundles =
     choose (eqb refusal 0) (λ _. choose (ltb words n || (ltb arrows m || ltb bundles b)) (λ _. 8) (λ _. 0)) (λ _. refusal)
-
--- the counts with the side columns
-abbrev pub whole : Counts → List ℕ → ChartCounts
-whole c used = record {
-  refusal = c .refusal;
-  words = c .words;
-  arrows = c .arrows;
-  bundles = c .bundles;
-  rows = c .rows;
-  lines = c .lines;
-  firm = c .firm;
-  width = c .width;
-  «side_columns» = used;
-}
-
--- a refusal: no count
-abbrev pub noCounts : ℕ → Counts
-noCounts k = record {
-  refusal = k;
-  words = 0;
-  arrows = 0;
-  bundles = 0;
-  rows = 0;
-  lines = 0;
-  firm = 0;
-  width = 0;
-}

@@ -1,4 +1,4 @@
--- `chart_numbers::recorded` meets its contract: a record is its parts, or refused with 1 (`Leaving.antt`). Assumes nothing.
+-- `chart_numbers::recorded` meets its contract: a record is its parts, or refused with 1 (`Parts.antt`). Assumes nothing.
 use Rattle.counting.proofs.Prelude.{_≡_, arith, needs}
 use Rattle.counting.proofs.Clearing.{cleared-length}
 use Rattle.specification.specs.declared.Layout.the-variants.{Good}
@@ -6,7 +6,8 @@ use Rattle.specification.specs.Layout.{layoutOf}
 use Rattle.specification.proofs.Cases.{case-layout}
 use Rattle.fields.proofs.Standing.{LaidOut, layout-good}
 use Rattle.chart_plan.proofs.Judging.{record-bad}
-use Rattle.chart_numbers.proofs.Leaving.{refused-left, record-left}
+use Rattle.chart_lists.proofs.Leaving.{refused-left}
+use Rattle.chart_numbers.proofs.Parts.{record-left}
 use Rattle.chart_numbers.proofs.recorded.Statement.{statement}
 use Rattle.chart_numbers.proofs.recorded.Tie as tie
 

@@ -2,7 +2,7 @@
 use Rattle.counting.proofs.Prelude.{_-_, _≤_, arith, needs}
 use Rattle.specification.specs.Lent.{Filled}
 use Rattle.ceviloneth.specs.Steps.{sessionBy, stateNumber}
-use Rattle.lists.proofs.Stores.{filled-none, filled-more, filled-all}
+use Rattle.counting.proofs.Stores.{filled-none, filled-more, filled-all}
 use Rattle.ceviloneth.proofs.Spelling.{stored}
 use Rattle.ceviloneth.proofs.state.fill_state.Statement.{statement}
 use Rattle.ceviloneth.proofs.state.fill_state.Tie as tie

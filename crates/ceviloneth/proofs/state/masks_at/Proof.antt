@@ -1,7 +1,7 @@
 -- `ceviloneth::state::masks_at` meets its contract: the invariant is a fill up to i. Assumes nothing.
 use Rattle.counting.proofs.Prelude.{refl, ℕ, _+_, _-_, _≤_, arith, getD, replicate, needs}
 use Rattle.specification.specs.Lent.{Filled}
-use Rattle.lists.proofs.Stores.{filled-none, filled-more}
+use Rattle.counting.proofs.Stores.{filled-none, filled-more}
 use Rattle.ceviloneth.proofs.Spelling.{copied}
 use Rattle.ceviloneth.proofs.state.masks_at.Statement.{statement}
 use Rattle.ceviloneth.proofs.state.masks_at.Tie as tie

@@ -1,8 +1,8 @@
--- `chart_numbers::entries::floor_at` meets its contract, also past the last floor. Assumes nothing.
+-- `chart_lists::entries::floor_at` meets its contract, also past the last floor. Assumes nothing.
 use Rattle.counting.proofs.Prelude.{sym, ap, _∙_, Bool, arith, List·getD-eq-default, not-true, not-false, needs}
 use Rattle.specification.specs.Checks.{floorAt}
-use Rattle.chart_numbers.proofs.entries.floor_at.Statement.{statement}
-use Rattle.chart_numbers.proofs.entries.floor_at.Tie as tie
+use Rattle.chart_lists.proofs.entries.floor_at.Statement.{statement}
+use Rattle.chart_lists.proofs.entries.floor_at.Tie as tie
 
 returns : tie.Need-returns
 returns c =

@@ -1,10 +1,10 @@
--- `chart_numbers::entries::kind_at` meets its contract. Assumes nothing.
+-- `chart_lists::entries::kind_at` meets its contract. Assumes nothing.
 use Rattle.counting.proofs.Prelude.{ap₂, _∙_, ℕ, _+_, _*_, getD, needs}
 use Rattle.counting.specs.Quads.{quad}
 use Rattle.specification.specs.Numbers.{codeOf}
 use Rattle.kinds.specs.Kinds.{kindAmong}
-use Rattle.chart_numbers.proofs.entries.kind_at.Statement.{statement}
-use Rattle.chart_numbers.proofs.entries.kind_at.Tie as tie
+use Rattle.chart_lists.proofs.entries.kind_at.Statement.{statement}
+use Rattle.chart_lists.proofs.entries.kind_at.Tie as tie
 
 returns : tie.Need-returns
 returns c =

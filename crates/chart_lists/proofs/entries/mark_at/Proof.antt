@@ -1,9 +1,9 @@
--- `chart_numbers::entries::mark_at` meets its contract: the mask is the one that holds v. Assumes nothing.
+-- `chart_lists::entries::mark_at` meets its contract: the mask is the one that holds v. Assumes nothing.
 use Rattle.counting.proofs.Prelude.{ap, ap₂, _∙_, ℕ, _+_, _*_, _/_, needs}
 use Rattle.specification.specs.Count.{indicator}
 use Rattle.reduction.proofs.Marks.{transitive-mask}
-use Rattle.chart_numbers.proofs.entries.mark_at.Statement.{statement}
-use Rattle.chart_numbers.proofs.entries.mark_at.Tie as tie
+use Rattle.chart_lists.proofs.entries.mark_at.Statement.{statement}
+use Rattle.chart_lists.proofs.entries.mark_at.Tie as tie
 
 returns : tie.Need-returns
 returns c =

@@ -1,9 +1,9 @@
--- `chart_numbers::entries::put_arrow` meets its contract, from what its callees ensure. Assumes nothing.
+-- `chart_lists::entries::put_arrow` meets its contract, from what its callees ensure. Assumes nothing.
 use Rattle.counting.proofs.Prelude.{refl, arith, needs, length-set}
-use Rattle.chart_numbers.specs.Steps.Numbers.{given}
-use Rattle.chart_numbers.proofs.Passing.{arrow-next, kind-here, mark-low}
-use Rattle.chart_numbers.proofs.entries.put_arrow.Statement.{statement}
-use Rattle.chart_numbers.proofs.entries.put_arrow.Tie as tie
+use Rattle.chart_lists.specs.Steps.Numbers.{given}
+use Rattle.chart_lists.proofs.Passing.{arrow-next, kind-here, mark-low}
+use Rattle.chart_lists.proofs.entries.put_arrow.Statement.{statement}
+use Rattle.chart_lists.proofs.entries.put_arrow.Tie as tie
 
 -- the places that facts are read from
 abbrev marked : tie.After-slice-known2 → tie.After-mark-at

@@ -1,13 +1,13 @@
--- `chart_numbers::entries::put_arrows` meets its contract. The invariant: the list and the count are the state after the first e edges.
+-- `chart_lists::entries::put_arrows` meets its contract. The invariant: the list and the count are the state after the first e edges.
 -- Assumes nothing.
 use Rattle.counting.proofs.Prelude.{_≡_, ap, _∙_, ℕ, _-_, _/_, _≤_, arith, length, needs}
 use native.Mathlib.Nat.{le-antisymm}
 use Rattle.specification.specs.Pass.{State, asNumbers, state, after}
 use Rattle.specification.specs.declared.EdgeEntry.{EdgeEntry}
 use Rattle.lists.proofs.Marking.{after-none, after-more, after-long, after-few}
-use Rattle.chart_numbers.specs.Steps.Numbers.{given, arrowFrom}
-use Rattle.chart_numbers.proofs.entries.put_arrows.Statement.{statement}
-use Rattle.chart_numbers.proofs.entries.put_arrows.Tie as tie
+use Rattle.chart_lists.specs.Steps.Numbers.{given, arrowFrom}
+use Rattle.chart_lists.proofs.entries.put_arrows.Statement.{statement}
+use Rattle.chart_lists.proofs.entries.put_arrows.Tie as tie
 
 abbrev Inv-loop : tie.InvT-loop
 Inv-loop out₀ ends longer places number columns below left m firm₀ e₀ out firm e =

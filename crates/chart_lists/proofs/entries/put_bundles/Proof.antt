@@ -1,12 +1,12 @@
--- `chart_numbers::entries::put_bundles` meets its contract. The invariant: the first i numbers stand in the list. Assumes nothing.
+-- `chart_lists::entries::put_bundles` meets its contract. The invariant: the first i numbers stand in the list. Assumes nothing.
 use Rattle.counting.proofs.Prelude.{_-_, _≤_, arith, needs}
 use Rattle.specification.specs.Lent.{Filled}
-use Rattle.lists.proofs.Stores.{filled-none, filled-more, filled-all}
+use Rattle.counting.proofs.Stores.{filled-none, filled-more, filled-all}
 use Rattle.specification.specs.Numbers.{bundles}
-use Rattle.chart_numbers.specs.Steps.Numbers.{bundleFrom}
-use Rattle.chart_numbers.proofs.Passing.{bundle-at}
-use Rattle.chart_numbers.proofs.entries.put_bundles.Statement.{statement}
-use Rattle.chart_numbers.proofs.entries.put_bundles.Tie as tie
+use Rattle.chart_lists.specs.Steps.Numbers.{bundleFrom}
+use Rattle.chart_lists.proofs.Passing.{bundle-at}
+use Rattle.chart_lists.proofs.entries.put_bundles.Statement.{statement}
+use Rattle.chart_lists.proofs.entries.put_bundles.Tie as tie
 
 abbrev Inv-loop : tie.InvT-loop
 Inv-loop out₀ spans count top i₀ out i = (i ≤ top) × Filled out₀ (bundles (bundleFrom spans)) i out

@@ -1,7 +1,7 @@
--- `chart_numbers::entries::put_six` meets its contract: five numbers, and one more. Assumes nothing.
+-- `chart_lists::entries::put_six` meets its contract: five numbers, and one more. Assumes nothing.
 use Rattle.counting.proofs.Prelude.{ap, List, ℕ, _+_, set, needs}
-use Rattle.chart_numbers.proofs.entries.put_six.Statement.{statement}
-use Rattle.chart_numbers.proofs.entries.put_six.Tie as tie
+use Rattle.chart_lists.proofs.entries.put_six.Statement.{statement}
+use Rattle.chart_lists.proofs.entries.put_six.Tie as tie
 
 returns : tie.Need-returns
 returns c =

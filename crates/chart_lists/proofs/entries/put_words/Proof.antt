@@ -1,11 +1,11 @@
--- `chart_numbers::entries::put_words` meets its contract. The invariant: the first v entries stand in the list. Assumes nothing.
+-- `chart_lists::entries::put_words` meets its contract. The invariant: the first v entries stand in the list. Assumes nothing.
 use Rattle.counting.proofs.Prelude.{_≡_, _∙_, _+_, _-_, _*_, _≤_, arith, needs}
 use Rattle.specification.specs.Numbers.{wordNumber}
-use Rattle.chart_numbers.specs.Steps.Numbers.{wordFrom}
+use Rattle.chart_lists.specs.Steps.Numbers.{wordFrom}
 use Rattle.lists.proofs.Entered.{entered, entered-none, entered-more, entered-long, entered-all}
-use Rattle.chart_numbers.proofs.Passing.{word-stored}
-use Rattle.chart_numbers.proofs.entries.put_words.Statement.{statement}
-use Rattle.chart_numbers.proofs.entries.put_words.Tie as tie
+use Rattle.chart_lists.proofs.Passing.{word-stored}
+use Rattle.chart_lists.proofs.entries.put_words.Statement.{statement}
+use Rattle.chart_lists.proofs.entries.put_words.Tie as tie
 
 abbrev Inv-loop : tie.InvT-loop
 Inv-loop out₀ places column floored floors n v₀ out v =

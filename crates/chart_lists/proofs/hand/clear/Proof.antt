@@ -1,7 +1,7 @@
 use Rattle.counting.proofs.Prelude.{_≡_, refl, _-_, _≤_, zero-le, arith, length, needs}
 use Rattle.counting.proofs.Clearing.{Clearing, clearing-none, clearing-more, clearing-all}
-use Rattle.chart_numbers.proofs.hand.clear.Statement.{statement}
-use Rattle.chart_numbers.proofs.hand.clear.Tie as tie
+use Rattle.chart_lists.proofs.hand.clear.Statement.{statement}
+use Rattle.chart_lists.proofs.hand.clear.Tie as tie
 
 abbrev Inv-loop : tie.InvT-loop
 Inv-loop used₀ i₀ end used i = (i ≤ end) × (end ≡ length used₀) × Clearing 0 i used₀ used

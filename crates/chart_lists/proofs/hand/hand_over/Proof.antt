@@ -1,4 +1,4 @@
--- `chart_numbers::hand::hand_over` meets its contract: refused, or the entries are
+-- `chart_lists::hand::hand_over` meets its contract: refused, or the entries are
 -- the chart's (`Leaving.antt`, `Charted.antt`). Assumes nothing.
 use Rattle.counting.proofs.Prelude.{_≡_, refl, sym, ap, subst, _∙_, List, ℕ, _*_, _/_, _≤_, arith, length, replicate}
 use lib.Seq.{length-take-le}
@@ -6,11 +6,11 @@ use Rattle.specification.specs.Drawn.{graphContent}
 use Rattle.specification.specs.Pass.{State, asNumbers}
 use Rattle.lists.proofs.Marking.{after-long}
 use Rattle.chart_plan.specs.Laid.{Lists, lists, Laid}
-use Rattle.chart_numbers.specs.Steps.Hand.{LeftFor}
-use Rattle.chart_numbers.proofs.Charted.{words-fit, bundles-fit, ready, passed, charted}
-use Rattle.chart_numbers.proofs.Leaving.{told-whole, call-refused, call-left}
-use Rattle.chart_numbers.proofs.hand.hand_over.Statement.{statement}
-use Rattle.chart_numbers.proofs.hand.hand_over.Tie as tie
+use Rattle.chart_lists.specs.Steps.Hand.{LeftFor}
+use Rattle.chart_lists.proofs.Charted.{words-fit, bundles-fit, ready, passed, charted}
+use Rattle.chart_lists.proofs.Leaving.{told-whole, call-refused, call-left}
+use Rattle.chart_lists.proofs.hand.hand_over.Statement.{statement}
+use Rattle.chart_lists.proofs.hand.hand_over.Tie as tie
 
 -- the places that facts are read from
 abbrev clear-of : tie.After-refused → tie.After-clear

@@ -1,8 +1,8 @@
 use Rattle.counting.proofs.Prelude.{refl, subst, ℕ, _/_, min, arith, length, needs}
 use Rattle.counting.specs.Quads.{quad}
 use Rattle.prefixes.specs.Prefixes.{Prefixes}
-use Rattle.chart_numbers.proofs.hand.make_left.Statement.{statement}
-use Rattle.chart_numbers.proofs.hand.make_left.Tie as tie
+use Rattle.chart_lists.proofs.hand.make_left.Statement.{statement}
+use Rattle.chart_lists.proofs.hand.make_left.Tie as tie
 
 returns : tie.Need-returns
 returns c =

@@ -1,7 +1,7 @@
 use borrow.Author.Tests.{eq-eqb, ne-eqb, lt-ltb, le-ltb}
-use Rattle.chart_numbers.specs.Steps.Hand.{roomRefusal}
-use Rattle.chart_numbers.proofs.hand.refusal_of.Statement.{statement}
-use Rattle.chart_numbers.proofs.hand.refusal_of.Tie as tie
+use Rattle.chart_lists.specs.Steps.Hand.{roomRefusal}
+use Rattle.chart_lists.proofs.hand.refusal_of.Statement.{statement}
+use Rattle.chart_lists.proofs.hand.refusal_of.Tie as tie
 
 returns : tie.Need-returns
 unfolding roomRefusal

@@ -1,0 +1,4 @@
+pub mod Charted
+pub mod Leaving
+pub mod Passing
+pub mod Drawing

@@ -1,0 +1,3 @@
+pub mod Chart
+pub mod Promise
+pub mod Steps
