@@ -1,6 +1,7 @@
 -- From what the fills leave to the chart: over a plan's lists the entries are the chart's. Cites drawing's laws. Assumes nothing.
 use Rattle.counting.proofs.Prelude.{_≡_, refl, sym, ap, ap₂, _∙_, Bool, List, ℕ, _+_, _*_, _/_, _%_, _<_, _≤_, min, arith, length}
 use Rattle.counting.proofs.Prelude.{getD, take}
+use lib.Seq.{getD-take, length-take-le}
 use Rattle.specification.specs.Lent.{Filled}
 use Rattle.lists.proofs.Written.{refilled}
 use Rattle.reach.proofs.Ends.{tail-at, head-at}
@@ -122,7 +123,7 @@ module _ (n : ℕ) (ends : List ℕ) (given : Bool) (field : List ℕ) (floored 
         ap₂ (transitiveIn? (t .longer)) (tail-same e) (head-same e) ∙ mark-drawn c p t l e (omega (arith, counted))
 
     -- `left` is made of the channels by `prefixes::by_channel`
-    module _ (size : ℕ) (room : 2 * min n 128 + 2 ≤ size) (lefts : LeftFor n (p .channels) (t .places) size left) where
+    module _ (size : ℕ) (room : 2 * min n 128 ≤ size) (lefts : LeftFor n (p .channels) (t .places) size left) where
       kind-same : (e : ℕ) → e < m → kindAt here e ≡ kindBetween c (planOf c) (tailOf c e) (headOf c e)
       unfolding kindAt graphContent
       kind-same e h =
@@ -142,10 +143,10 @@ module _ (n : ℕ) (ends : List ℕ) (given : Bool) (field : List ℕ) (floored 
           ∙ ap (after asNumbers (edgeEntry c (planOf c)) es) (sym counted))
 
       -- THE HAND-OVER: the counts are the chart's, the lists have its entries, and every number past them is as it was
-      pub charted : (ws es bs ws′ es′ bs′ : List ℕ) (x : ℕ) → length (t .used) ≡ 128
+      pub charted : (ws es bs ws′ es′ bs′ : List ℕ) (x : ℕ) → 128 ≤ length (t .used)
           → Filled ws (words (wordFrom (t .places) (t .column) floored floors)) (n * 6) ws′
           → Marking asNumbers c (planOf c) es es′ x → Filled bs (bundles (bundleFrom (t .spans))) (p .bundles * 4) bs′
-          → Numbered c (planOf c) ws es bs (whole (countsOf n m x p) (t .used)) ws′ es′ bs′
+          → Numbered c (planOf c) ws es bs (whole (countsOf n m x p) (take 128 (t .used))) ws′ es′ bs′
       unfolding graphContent
       charted ws es bs ws′ es′ bs′ x long hw he hb = record {
         summary = record {
@@ -156,8 +157,8 @@ module _ (n : ℕ) (ends : List ℕ) (given : Bool) (field : List ℕ) (floored 
           lines = l .channel-count;
           firm = marked-reduced asNumbers c (planOf c) es es′ x he;
           width = l .width;
-          side-columns = λ i h. l .used i (omega (arith, long));
-          long = long;
+          side-columns = λ i h. getD-take 128 (t .used) i 0 h ∙ l .used i (omega (arith, long));
+          long = length-take-le 128 (t .used) long;
         };
         word-list = refilled _ _ _ _ _ _ refl (λ k b. ap (λ (e : VertexEntry). wordNumber e (k % 6)) (word-same (k / 6) (omega arith))) hw;
         arrow-list = marked-filled asNumbers c (planOf c) es es′ x he;

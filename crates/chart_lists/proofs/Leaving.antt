@@ -1,6 +1,6 @@
 -- From the lists and the counts to the promise. Assumes nothing.
 use Rattle.counting.proofs.Prelude.{_≡_, refl, sym, ap, ap₂, subst, _∙_, Bool, true, false, _||_, List, ℕ, _*_, _/_, _≤_, arith}
-use Rattle.counting.proofs.Prelude.{ltb, length, replicate, eq-eqb, ne-eqb, ltb-false}
+use Rattle.counting.proofs.Prelude.{ltb, length, replicate, eq-eqb, ne-eqb, ltb-false, _∷_, zero, suc, take}
 use native.Mathlib.Decide.{ℕ-discrete}
 use Rattle.specification.specs.Count.{choose}
 use Rattle.specification.specs.Checks.{Content, edgesOf, nothing}
@@ -21,6 +21,12 @@ use Rattle.chart_lists.specs.Chart.{Numbered, Left, whole, noCounts}
 use Rattle.chart_lists.specs.Steps.Hand.{roomRefusal}
 
 -- ---- a refusal
+
+-- the first of a list of zeros are zeros
+pub zeros-cut : (m k : ℕ) → m ≤ k → take m (replicate {A = ℕ} k 0) ≡ replicate m 0
+zeros-cut zero k l = refl
+zeros-cut (suc m) zero l = absurd (omega arith)
+zeros-cut (suc m) (suc k) l = ap (λ (x : List ℕ). 0 ∷ x) (zeros-cut m k (omega arith))
 
 module _ (ws es bs : List ℕ) where
   nothing-numbered : (k : ℕ) → Numbered nothing (planOf nothing) ws es bs (whole (noCounts k) (replicate 128 0)) ws es bs
@@ -64,7 +70,7 @@ module _ (refusal n m b words arrows bundles k : ℕ) (e : k ≡ roomRefusal ref
   abbrev lacks : Bool
   lacks = ltb words n || (ltb arrows m || ltb bundles b)
 
-  told-refused : (refusal ≡ 0 → ⊥) → k ≡ refusal
+  pub told-refused : (refusal ≡ 0 → ⊥) → k ≡ refusal
   unfolding roomRefusal
   told-refused ne = e ∙ rw (ne-eqb refusal 0 ne) refl
 

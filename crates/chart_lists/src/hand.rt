@@ -2,7 +2,6 @@
 ghost use mathlib.Core.Path.{_≡_};
 ghost use Prim.Native.Nat.{_/_};
 ghost use lib.ListN.{length, replicate};
-ghost use Rattle.chart_lists.specs.Chart.{whole};
 ghost use Rattle.chart_lists.specs.Steps.Hand.{LeftFor, Lends, Hands, roomRefusal};
 use crate::Counts;
 use crate::entries::ARROW_NUMBERS;
@@ -82,7 +81,7 @@ pub(crate) fn hand_over<'e, 'f, 'l, 'b, 's, 'u>(
     p: Plan,
 ) -> Counts
     requires { ⌜ Lends n (now ends) floored (now floors) p (now below) (now longer) (now places) (now spans) (now number) (now used) (now column) (length (now left)) ⌝ }
-    ensures { λ r. ⌜ Hands n (now (ends .entry)) floored (now (floors .entry)) p (now (below .entry)) (now (longer .entry)) (now (places .entry)) (now (spans .entry)) (now (number .entry)) (now (used .entry)) (now (column .entry)) (now (words .entry)) (now (arrows .entry)) (now (bundles .entry)) (whole r (now (used .exit))) (now (words .exit)) (now (arrows .exit)) (now (bundles .exit)) ⌝ }
+    ensures { λ r. ⌜ Hands n (now (ends .entry)) floored (now (floors .entry)) p (now (below .entry)) (now (longer .entry)) (now (places .entry)) (now (spans .entry)) (now (number .entry)) (now (used .entry)) (now (column .entry)) (now (left .entry)) (now (words .entry)) (now (arrows .entry)) (now (bundles .entry)) r (now (left .exit)) (now (words .exit)) (now (arrows .exit)) (now (bundles .exit)) (now (used .exit)) ⌝ }
 {
     let m = ends.len() / 2;
     let b = p.bundles;

@@ -1,6 +1,6 @@
 // Layer 4: what is planned of a graph as three lent lists of numbers (SPECIFICATION.md, 9.4), with no table of edges between.
 ghost use mathlib.Core.Path.{_≡_};
-ghost use Prim.Native.Nat.{_+_, _*_, _<_, min};
+ghost use Prim.Native.Nat.{_<_};
 ghost use Rattle.chart_plan.specs.Laid.{lists};
 ghost use Rattle.chart_lists.specs.Chart.{noCounts};
 ghost use Rattle.chart_lists.specs.Promise.{Draws};
@@ -8,9 +8,6 @@ use hand::hand_over;
 
 mod entries;
 mod hand;
-
-// The most vertices.
-const MOST: usize = 128;
 
 // `ChartCounts` without the side columns: these are lent from above, so that they are copied once.
 pub struct Counts {
@@ -47,18 +44,8 @@ pub fn refused(refusal: u8) -> Counts
     }
 }
 
-// How many masks the sets left of each channel may have, of n vertices.
-fn room_left(n: usize) -> usize
-    ensures { λ r. ⌜ r ≡ 2 * min n 128 + 2 ⌝ }
-{
-    if n < MOST {
-        return 2 * n + 2;
-    }
-    2 * MOST + 2
-}
-
-// The chart of a neutral graph into three lists and its side columns into `used`, by work lists; 8, and nothing changed, where one of these
-// has no room.
+// The chart of a neutral graph into three lists and its side columns into `used`, by work lists; 8, and nothing changed but that `used` is
+// cleared, where one of these has no room.
 pub fn drawn<'g, 'f, 'h, 'e, 'b, 't, 'l, 'p, 's, 'n, 'c, 'u>(
     n: usize,
     ends: &'g [u8],
@@ -81,12 +68,6 @@ pub fn drawn<'g, 'f, 'h, 'e, 'b, 't, 'l, 'p, 's, 'n, 'c, 'u>(
 ) -> Counts
     ensures { λ r. ⌜ Draws n (now (ends .entry)) given (now (field .entry)) floored (now (floors .entry)) (now (words .entry)) (now (arrows .entry)) (now (bundles .entry)) (lists (now (edges .entry)) (now (below .entry)) (now (table .entry)) (now (longer .entry)) (now (places .entry)) (now (spans .entry)) (now (number .entry)) (now (used .entry)) (now (column .entry))) r (now (words .exit)) (now (arrows .exit)) (now (bundles .exit)) (lists (now (edges .exit)) (now (below .exit)) (now (table .exit)) (now (longer .exit)) (now (places .exit)) (now (spans .exit)) (now (number .exit)) (now (used .exit)) (now (column .exit))) ⌝ }
 {
-    if used.len() != MOST {
-        return refused(8);
-    }
-    if table.len() < room_left(n) {
-        return refused(8);
-    }
     let p = chart_plan::planned(
         n,
         ends,
@@ -104,9 +85,6 @@ pub fn drawn<'g, 'f, 'h, 'e, 'b, 't, 'l, 'p, 's, 'n, 'c, 'u>(
         used,
         column,
     );
-    if p.refusal == 8 {
-        return refused(8);
-    }
     // what reaches what is not read any more: its list takes the sets left of channels
     hand_over(
         words,

@@ -34,7 +34,7 @@ fn few<'g, 'f, 'h, 'b, 'u>(
     ensures { λ r. ⌜ Left (lent (length (now (words .entry)) / wordNumbers) (length (now (arrows .entry)) / arrowNumbers) (length (now (bundles .entry)) / bundleNumbers) (graphDrawn n (now (ends .entry)) given (now (field .entry)) floored (now (floors .entry)))) (now (words .entry)) (now (arrows .entry)) (now (bundles .entry)) (whole r (now (used .exit))) (now (words .exit)) (now (arrows .exit)) (now (bundles .exit)) ⌝ }
 {
     let mut edges = [0; 30];
-    let mut table = [0; 32];
+    let mut table = [0; 30];
     let mut longer = [0; 30];
     let mut places = [0; 60];
     let mut spans = [0; 120];
@@ -80,7 +80,7 @@ fn many<'g, 'f, 'h, 'b, 'u>(
     ensures { λ r. ⌜ Left (lent (length (now (words .entry)) / wordNumbers) (length (now (arrows .entry)) / arrowNumbers) (length (now (bundles .entry)) / bundleNumbers) (graphDrawn n (now (ends .entry)) given (now (field .entry)) floored (now (floors .entry)))) (now (words .entry)) (now (arrows .entry)) (now (bundles .entry)) (whole r (now (used .exit))) (now (words .exit)) (now (arrows .exit)) (now (bundles .exit)) ⌝ }
 {
     let mut edges = [0; 256];
-    let mut table = [0; 258];
+    let mut table = [0; 256];
     let mut longer = [0; 256];
     let mut places = [0; 512];
     let mut spans = [0; 1024];

@@ -1,5 +1,5 @@
 -- What the tables of a plan are, entry by entry: the chart's entries. Cites the chart's laws. Assumes nothing.
-use Rattle.counting.proofs.Prelude.{_≡_, refl, sym, ap, ap₂, _∙_, subst, _↔_, Bool, true, false, _&&_, List, ℕ, _+_, _*_, _/_, _≤_, _<_}
+use Rattle.counting.proofs.Prelude.{_≡_, refl, sym, ap, ap₂, _∙_, _↔_, Bool, true, false, _&&_, List, ℕ, _+_, _*_, _/_, _≤_, _<_}
 use Rattle.counting.proofs.Prelude.{min, arith, eqb, length, getD, take, eqb-true}
 use lib.Seq.{getD-take, length-take-le}
 use Rattle.specification.specs.Count.{choose}
@@ -62,10 +62,6 @@ kind-picked : (same next : Bool) (b d : ℕ) (x y : Kind) → (same ≡ true →
 kind-picked true true b d x y side cross = refl
 kind-picked true false b d x y side cross = ap PathTransitive (side refl refl)
 kind-picked false next b d x y side cross = cross refl
-
--- a list with room has a set for every channel
-last-all : (count size : ℕ) → count ≤ 128 → 2 * count + 2 ≤ size → lastSet count size ≡ min count 128
-last-all count size small room = omega arith
 
 module _ (c : Content) (p : Plan) (t : Lists) (l : Laid c p t) where
   abbrev n : ℕ
@@ -157,7 +153,7 @@ module _ (c : Content) (p : Plan) (t : Lists) (l : Laid c p t) where
   LeftOf size left =
       2 < p .channels → Prefixes 2 (min (min n 128) (length places / 4)) (quad 0 places) (lastSet (p .channels) size) left
 
-  candidates : (size : ℕ) (left : List ℕ) → 2 * n + 2 ≤ size → LeftOf size left
+  candidates : (size : ℕ) (left : List ℕ) → 2 * n ≤ size → LeftOf size left
       → Ready (widths planned) n (rowCount c) (p .channels) columns places (t .below) left
   candidates size left room q = record {
     counted = vertices-same;
@@ -166,8 +162,9 @@ module _ (c : Content) (p : Plan) (t : Lists) (l : Laid c p t) where
     row-low = λ v h. omega (arith, l .rows v h, row-counted c (l .sound) v h);
     by-row = below-same;
     channel-low = channel-known;
-    by-channel = λ h. subst (λ (k : ℕ). Prefixes 2 (min (min n 128) (length places / 4)) (quad 0 places) k left)
-        (last-all (p .channels) size (omega (arith, channels-small, small)) (omega (arith, channels-small))) (q h);
+    by-channel = λ h. record {
+      sets-by-key = λ k v a b. q h .sets-by-key k v (omega (arith, a, h, room, channels-small, small)) b;
+    };
     on-own = column-own;
   }
 
@@ -217,7 +214,7 @@ module _ (c : Content) (p : Plan) (t : Lists) (l : Laid c p t) where
         further = longer? (edge? (c .tails) (c .heads)) n u v
 
     -- the kind by candidates is the chart's
-    pub kind-among : (size : ℕ) (left : List ℕ) → 2 * n + 2 ≤ size → LeftOf size left
+    pub kind-among : (size : ℕ) (left : List ℕ) → 2 * n ≤ size → LeftOf size left
         → kindAmong (quad 0 places u) (quad 0 places v) (quad 1 places u) (quad 1 places v) into outOf columns places (t .below) left u v
         ≡ kindBetween c planned u v
     kind-among size left room q =

@@ -1,6 +1,6 @@
 -- Where columns stand by blocks, candidates are enough: each vertex strictly inside the segment of a cross edge is one. Assumes nothing.
-use Rattle.counting.proofs.Prelude.{_≡_, refl, sym, ap, _∙_, _↔_, ⊎-elim, true, List, ℕ, _+_, _/_, _≤_, _<_, min, max, arith, length, getD}
-use Rattle.counting.proofs.Prelude.{eq-eqb, lt-ltb}
+use Rattle.counting.proofs.Prelude.{_≡_, refl, sym, ap, _∙_, _↔_, ⊎-elim, true, List, ℕ, _+_, _-_, _/_, _≤_, _<_, min, max, arith}
+use Rattle.counting.proofs.Prelude.{length, getD, eq-eqb, lt-ltb}
 use native.Mathlib.Decide.{ℕ-discrete}
 use Rattle.counting.specs.Quads.{quad}
 use Rattle.counting.proofs.Truth.{and-intro, two-cases}
@@ -25,7 +25,7 @@ pub record Ready (W : Widths) (n top count : ℕ) (columns places below left : L
   pub row-low : (v : ℕ) → v < n → quad 2 places v < top
   pub by-row : (k v : ℕ) → k ≤ top → v < 128 → at 2 below k v ≡ 1 ↔ ((v < n) × (quad 2 places v < k))
   pub channel-low : (v : ℕ) → v < n → quad 0 places v < count
-  pub by-channel : 2 < count → Prefixes 2 (min (min n 128) (length places / 4)) (quad 0 places) (min count 128) left
+  pub by-channel : 2 < count → Prefixes 2 (min (min n 128) (length places / 4)) (quad 0 places) (count - 1) left
   pub on-own : (v : ℕ) → v < n → getD columns v 0 ≡ ownColumn W (quad 0 places v)
 
 -- a column further right is a later channel's

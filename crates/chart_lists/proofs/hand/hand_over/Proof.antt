@@ -1,14 +1,15 @@
 -- `chart_lists::hand::hand_over` meets its contract: refused, or the entries are
 -- the chart's (`Leaving.antt`, `Charted.antt`). Assumes nothing.
-use Rattle.counting.proofs.Prelude.{_≡_, refl, sym, ap, subst, _∙_, List, ℕ, _*_, _/_, _≤_, arith, length, replicate}
+use Rattle.counting.proofs.Prelude.{_≡_, refl, sym, ap, subst, _∙_, List, ℕ, _*_, _/_, _≤_, arith, length, take}
 use lib.Seq.{length-take-le}
 use Rattle.specification.specs.Drawn.{graphContent}
 use Rattle.specification.specs.Pass.{State, asNumbers}
 use Rattle.lists.proofs.Marking.{after-long}
 use Rattle.chart_plan.specs.Laid.{Lists, lists, Laid}
+use Rattle.chart_lists.specs.Chart.{noCounts}
 use Rattle.chart_lists.specs.Steps.Hand.{LeftFor}
 use Rattle.chart_lists.proofs.Charted.{words-fit, bundles-fit, ready, passed, charted}
-use Rattle.chart_lists.proofs.Leaving.{told-whole, call-refused, call-left}
+use Rattle.chart_lists.proofs.Leaving.{zeros-cut, told-refused, told-whole, call-refused, call-left}
 use Rattle.chart_lists.proofs.hand.hand_over.Statement.{statement}
 use Rattle.chart_lists.proofs.hand.hand_over.Tie as tie
 
@@ -40,8 +41,8 @@ whole c =
 
 laid : (c : tie.Else1) → let a = start c .args in let q = start c .pre in
     Laid (graphContent (a .n) (a .ends .now) (q .given) (q .field) (a .floored) (a .floors .now)) (a .p)
-    (planned (start c) (q .planned .edges) (q .planned .table))
-laid c = start c .pre .planned .laid (whole c .0)
+    (planned (start c) (q .edges) (q .table))
+laid c = start c .pre .laid (whole c .0)
 
 words-ready : (c : tie.Else1) → let a = start c .args in
     (a .n ≤ 128) × (4 * a .n ≤ length (a .places .now)) × (a .n ≤ length (a .column .now))
@@ -54,11 +55,20 @@ returns c =
     let clear = clear-of c in let if1 = clear .before .before in let told = if1 .before in
     let st = told .before .before .before .before .before .before .before .before .before .before .before .before .before .before in
     let a = st .args in
-    λ given field q.
-    call-refused (a .n) (a .ends .now) given field (a .floored) (a .floors .now) (a .p) (planned st (q .edges) (q .table)) (q .answer)
-    (q .laid) (a .words .now)
-    (a .arrows .now) (a .bundles .now) _ (told .refusal-of .ensures) (if1 .if1 .taken) _ _
-    (c .refused .ensures) (clear .clear .ensures ∙ ap (λ (k : ℕ). replicate k 0) (st .pre .used-long))
+    record {
+      drawn = λ given field q.
+          call-refused (a .n) (a .ends .now) given field (a .floored) (a .floors .now) (a .p) (planned st (q .edges) (q .table)) (q .answer)
+          (q .laid) (a .words .now) (a .arrows .now) (a .bundles .now) _ (told .refusal-of .ensures) (if1 .if1 .taken) _ _
+          (c .refused .ensures) (ap (take 128) (clear .clear .ensures) ∙ zeros-cut 128 (length (a .used .now)) (q .columns));
+      refused = λ ne. (
+        c .refused .ensures ∙ ap noCounts (told-refused _ _ _ _ _ _ _ _ (told .refusal-of .ensures) ne),
+        refl,
+        refl,
+        refl,
+        refl,
+        clear .clear .ensures,
+      );
+    }
 
 put-words-requires : tie.Need-put-words-requires
 put-words-requires c κs =
@@ -95,17 +105,20 @@ returns-2 c =
     let a = st .args in
     let left = subst (λ (k : ℕ). LeftFor (a .n) k (a .places .now) (length (a .left .now)) (made .make-left .last .1 .1 .1 .0))
     (made .before .before .wide .ensures .0) (made .make-left .ensures .0) in
-    λ given field q.
-    let t : Lists = planned st (q .edges) (q .table) in
-    call-left (a .n) (a .ends .now) given field (a .floored) (a .floors .now) (a .p) t (q .answer) (q .laid) (a .words .now)
-    (a .arrows .now) (a .bundles .now) _
-    (e .before .refusal-of .ensures) (e .if1 .left) _ _ _ _ refl
-    (charted (a .n) (a .ends .now) given field (a .floored) (a .floors .now) (a .p) t (q .laid (whole e .0)) _ (length (a .left .now))
-    (st .pre .left-room) left
-    (a .words .now) (a .arrows .now) (a .bundles .now) _ _ _ _ (st .pre .used-long) (vertices c .put-words .ensures)
-    (passed (a .n) (a .ends .now) given field (a .floored) (a .floors .now) (a .p) t (q .laid (whole e .0)) _ (length (a .left .now))
-    (st .pre .left-room) left
-    (a .arrows .now) _ _ (omega (arith, whole e .2)) (edges c .put-arrows .ensures)) (c .before .before .put-bundles .ensures))
+    record {
+      refused = λ ne. absurd (ne (whole e .0));
+      drawn = λ given field q.
+          let t : Lists = planned st (q .edges) (q .table) in
+          call-left (a .n) (a .ends .now) given field (a .floored) (a .floors .now) (a .p) t (q .answer) (q .laid) (a .words .now)
+          (a .arrows .now) (a .bundles .now) _
+          (e .before .refusal-of .ensures) (e .if1 .left) _ _ _ _ refl
+          (charted (a .n) (a .ends .now) given field (a .floored) (a .floors .now) (a .p) t (q .laid (whole e .0)) _ (length (a .left .now))
+          (st .pre .left-room (whole e .0)) left
+          (a .words .now) (a .arrows .now) (a .bundles .now) _ _ _ _ (q .columns) (vertices c .put-words .ensures)
+          (passed (a .n) (a .ends .now) given field (a .floored) (a .floors .now) (a .p) t (q .laid (whole e .0)) _ (length (a .left .now))
+          (st .pre .left-room (whole e .0)) left
+          (a .arrows .now) _ _ (omega (arith, whole e .2)) (edges c .put-arrows .ensures)) (c .before .before .put-bundles .ensures));
+    }
 
 pub hand-over-spec : {M : Type 1} → statement M
 hand-over-spec =
