@@ -1,4 +1,4 @@
-// Layer 4: what is planned of a graph as three lent lists of numbers (SPECIFICATION.md, 9.4), with no table of edges between.
+// What is planned of a graph as three lent lists of numbers (SPECIFICATION.md, 9.4): no table of edges between.
 ghost use mathlib.Core.Path.{_≡_};
 ghost use Prim.Native.Nat.{_<_};
 ghost use Rattle.chart_plan.specs.Laid.{lists};

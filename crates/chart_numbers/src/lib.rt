@@ -1,4 +1,4 @@
-// The chart as three lent lists of numbers (SPECIFICATION.md, 9.4), straight from what is planned: no table of edges between.
+// The chart of a graph or of a record as three lent lists of numbers (SPECIFICATION.md, 9.4), with work lists of as much room as it may need.
 ghost use mathlib.Core.Path.{_≡_};
 ghost use Prim.Native.Nat.{_+_, _*_, _/_, _≤_, _<_, min};
 ghost use lib.ListN.{length, replicate};
@@ -16,7 +16,8 @@ use specification::Layout;
 // For so many vertices there are smaller work lists: none is longer than 256 bytes, which the compiler clears without a call.
 const FEW: usize = 15;
 
-// The chart of a neutral graph into three lists and its side columns into `used`, with work lists for at most 15 vertices: clearing larger ones would take most of the time of a small chart.
+// The chart of a neutral graph into three lists and its side columns into `used`, with work lists for at most 15 vertices: clearing larger
+// ones would take most of the time of a small chart.
 fn few<'g, 'f, 'h, 'b, 'u>(
     n: usize,
     ends: &'g [u8],
