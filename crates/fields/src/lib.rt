@@ -1,4 +1,6 @@
 // Where the fields of a record stand (SPECIFICATION.md, 1).
+#![tactic(auto)]
+
 ghost use Rattle.std.specs.Prelude.{◌≡◌, ◌≤◌, ◌<◌, length};
 ghost use Rattle.specification.specs.Layout.{field_at, layout_of, layout_answer, lined, with_floors, after_lines, with_lines, with_edges};
 

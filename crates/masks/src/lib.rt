@@ -1,5 +1,7 @@
 // Sets of vertices as masks of 64 bits, in a list that may hold many sets. A set is known by the number of its first mask:
 // vertex v is in it where bit v mod 64 of mask first + v / 64 is set, the lowest bit being 0. A mask that the list lacks counts as 0.
+#![tactic(auto)]
+
 ghost use Rattle.std.specs.Prelude.{◌≡◌, true, false, ◌+◌, ◌/◌, ◌<◌, leb, ltb, length, get_or};
 ghost use Rattle.specification.specs.Sets.{member?, inserted, United};
 ghost use Rattle.specification.specs.Lent.{Untouched};

@@ -1,0 +1,11 @@
+use Rattle.counting.proofs.Prelude.{◌≡◌, refl, sym, subst, true≢false, ℕ, ◌+◌, ◌-◌, ◌≤◌, ◌<◌, zero-le, arith, length, le-leb, lt-leb, rules}
+use Rattle.specification.specs.Sets.{United}
+use Rattle.masks.proofs.Sets.{united_none, united_more}
+use Rattle.masks.proofs.unite.Given as goal
+
+abbrev pub invariant-loop-i : goal.invariant-loop-i
+invariant-loop-i l =
+    (l.i ≤ l.initial.i) × (l.initial.i ≡ length l.i-end) × (l.other + length l.i-end ≤ length l.first) × United l.first l.other l.i-end l.i l.masks
+
+abbrev pub decreases-loop-i : goal.decreases-loop-i
+decreases-loop-i l = l.initial.i - l.i
