@@ -1,5 +1,7 @@
 // The engine for apps: calls for C and Rust, on numbers and lists of numbers alone. No argument is asked to be sound: each call answers
 // for any numbers and any lists, and a refusal, a number of SPECIFICATION.md, 13, leaves every lent list as it was.
+#![tactic(auto)]
+
 ghost use Rattle.std.specs.Prelude.{◌≡◌, [], ◌∷◌};
 ghost use Rattle.chart_numbers.specs.Chart.{HandedFlat};
 ghost use Rattle.specification.specs.Asked.{leading_of, asked};

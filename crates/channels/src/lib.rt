@@ -1,5 +1,7 @@
 // Layer 2: channels (SPECIFICATION.md, 3). A channel is a list of vertices of which each reaches the next by the reachability table.
 // Channels are planned, or given by the caller and checked.
+#![tactic(auto)]
+
 ghost use Rattle.std.specs.Prelude.{◌≡◌, ◌≢◌, Bool, ◌||◌, [], ◌+◌, ◌*◌, ◌≤◌, ◌<◌, length, eqb};
 ghost use Rattle.specification.specs.Sets.{member?, inserted};
 ghost use Rattle.specification.specs.Connection.{leading?};
@@ -139,7 +141,7 @@ fn weigh(edges: &[u64], longer: &[u64], seen: &mut [u64], last: usize, v: usize,
 }
 
 // Why given channels are refused, or 0, how many are laid, how many vertices they have, and the set of these.
-#[derive(Drop)]
+#[derive(Clone, Copy)]
 struct Walked {
     refusal: u8,
     count: usize,

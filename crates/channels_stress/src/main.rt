@@ -1,5 +1,6 @@
 // Plans, a thousand times each, an order in which every search moves every predecessor, 64 deep, and a table that is no graph's, 128
 // deep, and writes the number of channels of each.
+#![tactic(auto)]
 
 // Has u lead to each v of `first` or more with u + v below 128.
 fn lead(table: &mut [u64], u: usize, first: usize) {

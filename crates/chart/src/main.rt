@@ -1,4 +1,6 @@
 // Prints the chart of the record on standard input as a listing (SPECIFICATION.md, 14.1), or `refused` and the number.
+#![tactic(auto)]
+
 ghost use Rattle.std.specs.Prelude.{◌+◌, ◌*◌, ◌<◌, ◌≤◌, length};
 
 use libc::{STDIN_FILENO, STDOUT_FILENO};

@@ -1,4 +1,6 @@
 // Charts handed over into lists that the caller lends (SPECIFICATION.md, 9).
+#![tactic(auto)]
+
 ghost use Rattle.std.specs.Prelude.{◌≡◌, List, ℕ, ◌+◌, ◌<◌, ◌≤◌, min, length, get_or};
 ghost use Rattle.specification.specs.Count.{indicator};
 ghost use Rattle.kinds.specs.Codes.{kind_of};
@@ -20,7 +22,7 @@ use specification::{Bend, BundleEntry, ChartCounts, Code, EdgeEntry, Kind, Layou
 // there, its row and how many vertices it reaches, in turn; the columns of the vertices, the pairs with a vertex between, the sets of the
 // vertices below each row and left of each channel, the bundle of the edges into each vertex and of those out of it, in turn, and the
 // channel, first row, last row and track of each bundle, in turn.
-#[derive(Drop)]
+#[derive(Clone, Copy)]
 pub struct Sheet {
     pub refusal: u8,
     pub vertices: usize,

@@ -1,4 +1,6 @@
 // What is planned of a graph as three lent lists of numbers (SPECIFICATION.md, 9.4): no table of edges between.
+#![tactic(auto)]
+
 ghost use Rattle.std.specs.Prelude.{◌≡◌, ◌<◌};
 ghost use Rattle.chart_plan.specs.Laid.{lists};
 ghost use Rattle.chart_lists.specs.Chart.{no_counts};
@@ -10,7 +12,7 @@ mod entries;
 mod hand;
 
 // `ChartCounts` without the side columns: these are lent from above, so that they are copied once.
-#[derive(Drop)]
+#[derive(Clone, Copy)]
 pub struct Counts {
     pub refusal: u8,
     pub words: usize,

@@ -1,4 +1,6 @@
 // The chart of a graph or of a record as three lent lists of numbers (SPECIFICATION.md, 9.4), with work lists of as much room as it may need.
+#![tactic(auto)]
+
 ghost use Rattle.std.specs.Prelude.{◌≡◌, ◌+◌, ◌*◌, ◌/◌, ◌≤◌, ◌<◌, min, length, replicate, false};
 ghost use Rattle.specification.specs.Drawn.{graph_drawn, lent};
 ghost use Rattle.chart_lists.specs.Chart.{Left, whole};

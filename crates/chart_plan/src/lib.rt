@@ -1,4 +1,6 @@
 // Layer 3: what is planned of a graph, layer by layer (SPECIFICATION.md, 3 to 8).
+#![tactic(auto)]
+
 ghost use Rattle.std.specs.Prelude.{◌≡◌, ◌≤◌, ◌<◌, min, length};
 ghost use Rattle.chart_plan.specs.Laid.{unplanned_by, lists, Plans};
 ghost use Rattle.chart_plan.specs.Steps.{roomy?};
@@ -17,7 +19,7 @@ const MOST: usize = 128;
 const MOST_CHANNELS: u8 = 31;
 
 // Why a graph is refused, or 0; how many rows, channels and bundles it has, and the columns of all channels.
-#[derive(Drop)]
+#[derive(Clone, Copy)]
 pub struct Plan {
     pub refusal: u8,
     pub rows: u8,

@@ -3,6 +3,8 @@
 // here, which go by the edges alone: the crate `floors` lifts them. A table has two masks of 64 bits a vertex: bit v mod 64 of mask
 // 2 u + v / 64 says that v is in the set of u. The places have four bytes a vertex: the row of v at 4 v + 2, and at 4 v + 3 how many vertices
 // it reaches; the first two are others'.
+#![tactic(auto)]
+
 ghost use Rattle.std.specs.Prelude.{◌≡◌, ℕ, ◌+◌, ◌*◌, ◌≤◌, ◌<◌, min, length};
 ghost use Rattle.std.specs.Int.Count.{ones};
 ghost use Rattle.specification.specs.Sets.{bit};
@@ -17,14 +19,14 @@ ghost use Rattle.descent.specs.Steps.Closed.{fits?};
 const MOST_VERTICES: usize = 128;
 
 // Why the edges are refused, or 0, and how many rows are used.
-#[derive(Drop)]
+#[derive(Clone, Copy)]
 pub struct Descent {
     pub refusal: u8,
     pub used: u8,
 }
 
 // The two masks of a set.
-#[derive(Drop)]
+#[derive(Clone, Copy)]
 struct Pair {
     low: u64,
     high: u64,

@@ -1,5 +1,7 @@
 // Sessions (SPECIFICATION.md, 11): an acyclic graph that grows edge by edge, with its reachability kept up. A session is a value: a call
 // takes it and hands one back. A table has two masks of 64 bits a vertex: bit v mod 64 of mask 2 u + v / 64 says that v is in the set of u.
+#![tactic(auto)]
+
 ghost use Rattle.std.specs.Prelude.{◌≡◌, ◌||◌, ◌≤◌, ◌<◌, min, eqb, length};
 ghost use Rattle.specification.specs.Sets.{has?};
 ghost use Rattle.editing.specs.Steps.{passing?};
@@ -13,7 +15,7 @@ const MOST_VERTICES: usize = 128;
 const MOST_EDGES: usize = 4096;
 
 // The vertices are 0 .. vertices - 1; `count` is the number of edges.
-#[derive(Drop)]
+#[derive(Clone, Copy)]
 pub struct Session {
     pub vertices: usize,
     pub count: usize,
@@ -22,7 +24,7 @@ pub struct Session {
 }
 
 // The refusal, or 0, and the session after the call: as it was where the call is refused.
-#[derive(Drop)]
+#[derive(Clone, Copy)]
 pub struct Changed {
     pub refusal: u8,
     pub session: Session,

@@ -1,5 +1,7 @@
 // Layer 1: rows by floors (SPECIFICATION.md, 4). The crate `descent` finds the levels, which go by the edges alone. Where there are floors
 // each vertex begins at its own, and level by level each lifts its successors above itself; the sets of vertices by row are made anew.
+#![tactic(auto)]
+
 ghost use Rattle.std.specs.Prelude.{◌≡◌, true, false, ◌&&◌, ℕ, ◌+◌, ◌*◌, ◌≤◌, ◌<◌, min, max, ltb, length, get_or};
 ghost use Rattle.specification.specs.Count.{above};
 ghost use Rattle.specification.specs.Checks.{unfloored?};

@@ -1,4 +1,6 @@
 // Whether the straight segment of an edge has a vertex strictly inside, and the course of a cross edge (an edge between channels).
+#![tactic(auto)]
+
 ghost use Rattle.std.specs.Prelude.{◌≡◌, ◌+◌, ◌*◌, ◌≤◌, ◌<◌, eqb, leb, length};
 ghost use Rattle.masks.specs.Pairs.{in_pair};
 ghost use Rattle.specification.specs.Geometry.{point, Hit, BlockedAmong, aligned, Decides, bend_beside, course_among};

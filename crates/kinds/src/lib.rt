@@ -1,5 +1,7 @@
 // The kind of an edge from tables of its ends' places and bundles. What can be in the way of a cross edge is looked for among the
 // few vertices whose row and channel are strictly between those of its ends. An entry that a list lacks counts as 0.
+#![tactic(auto)]
+
 ghost use Rattle.std.specs.Prelude.{◌≡◌, ◌<◌, min, max, get_or};
 ghost use Rattle.counting.specs.Quads.{quad};
 ghost use Rattle.geometry.specs.Segment.{point_of, vertex_count};

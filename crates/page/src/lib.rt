@@ -1,4 +1,6 @@
 // Cells of a chart as points on a page, exactly, and polylines through them (SPECIFICATION.md, 12).
+#![tactic(auto)]
+
 ghost use Rattle.std.specs.Prelude.{◌≡◌, false, [], ◌∷◌, ◌<◌, ◌^◌};
 ghost use Rattle.specification.specs.Page.{to_points, point_of, off_page, Answers};
 

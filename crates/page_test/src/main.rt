@@ -1,4 +1,6 @@
 // Draws a few polylines and checks what comes back, from what `page` promises.
+#![tactic(auto)]
+
 ghost use Rattle.std.specs.Prelude.{◌≡◌};
 ghost use Rattle.specification.specs.Page.{answer_of};
 ghost use Rattle.page_test.specs.Begins.{begins_at};

@@ -1,4 +1,6 @@
 // Layer 2: channels as data, and planned channels (SPECIFICATION.md, 3.3 and 3.4), laid by the predecessors that the search finds.
+#![tactic(auto)]
+
 ghost use Rattle.std.specs.Prelude.{◌≡◌, [], ◌∷◌, suc, ◌+◌, ◌*◌, ◌≤◌, ◌<◌, min, ◌/◌, length, replicate};
 ghost use Rattle.specification.specs.Sets.{member?, has?};
 ghost use Rattle.planning.specs.Arranged.{Arranged, Kept, Added};
@@ -12,7 +14,7 @@ const NOBODY: u8 = 255;
 
 // Why there are no channels, or 0, and how many there are. Each vertex's channel and position stand in a list of places, four bytes a
 // vertex: the channel first, then the position.
-#[derive(Drop)]
+#[derive(Clone, Copy)]
 pub struct Channels {
     pub refusal: u8,
     pub count: u8,

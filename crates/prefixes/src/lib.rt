@@ -1,4 +1,6 @@
 // Sets of vertices by a key, each holding those of all lower keys, so that what lies between two keys is a difference of two sets.
+#![tactic(auto)]
+
 ghost use Rattle.std.specs.Prelude.{◌≡◌, ℕ, ◌+◌, ◌*◌, ◌/◌, ◌≤◌, ◌<◌, min, length};
 ghost use Rattle.specification.specs.Lent.{Filled, KeptFrom};
 ghost use Rattle.specification.specs.Sets.{inserted};

@@ -1,5 +1,7 @@
 // Layer 1: which vertex reaches which (SPECIFICATION.md, 2), its laws and tables, and the one place that says how (2.4). A table has two
 // masks of 64 bits a vertex: bit v mod 64 of mask 2 u + v / 64, the lowest bit being 0, says that u reaches v by one or more edges.
+#![tactic(auto)]
+
 ghost use Rattle.std.specs.Prelude.{◌≡◌, ◌+◌, ◌*◌};
 ghost use Rattle.specification.specs.Count.{indicator};
 ghost use Rattle.specification.specs.Connection.{connection, connection_number, leading?, both?};

@@ -10,7 +10,7 @@ use floors::raised;
 use planning::Channels;
 
 // Why a graph is refused, or 0; how many rows are used, and how many channels there are. On a refusal both are 0.
-#[derive(Drop)]
+#[derive(Clone, Copy)]
 pub struct Checked {
     pub refusal: u8,
     pub used: u8,

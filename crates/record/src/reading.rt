@@ -11,7 +11,7 @@ use specification::{Connection, Layout, Reply};
 
 // Why a record is refused, or 0, how many vertices it has, and the table of what reaches what (SPECIFICATION.md, 2.2), two
 // masks a vertex. On a refusal every count and mask is 0.
-#[derive(Drop)]
+#[derive(Clone, Copy)]
 pub struct Reading {
     pub refusal: u8,
     pub vertices: usize,
@@ -19,7 +19,7 @@ pub struct Reading {
 }
 
 // The first two of these.
-#[derive(Drop)]
+#[derive(Clone, Copy)]
 struct Judged {
     refusal: u8,
     vertices: usize,

@@ -1,5 +1,7 @@
 // Transitive and reduced edges (SPECIFICATION.md, 5.1): the one place that says which edge is transitive, from the answer of its ends (2.4),
 // and the laws: reduced edges have the graph's reachability, and no links that have it are fewer.
+#![tactic(auto)]
+
 ghost use Rattle.std.specs.Prelude.{◌≡◌, ◌<◌};
 ghost use Rattle.specification.specs.Count.{indicator};
 ghost use Rattle.reduction.specs.Reduction.{marked?};

@@ -1,5 +1,7 @@
 // Layer 1: the checks of a graph's edges, and their table (SPECIFICATION.md, 13: 2 to 4). An edge has two bytes, tail and
 // head. The table has two masks of 64 bits a vertex: bit v mod 64 of mask 2 u + v / 64 says that an edge goes from u to v.
+#![tactic(auto)]
+
 ghost use Rattle.std.specs.Prelude.{◌≡◌, ◌+◌, ◌*◌, ◌≤◌, ◌<◌, min, length};
 ghost use Rattle.specification.specs.Count.{choose};
 ghost use Rattle.specification.specs.Sets.{member?, inserted};

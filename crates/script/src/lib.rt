@@ -1,5 +1,7 @@
 // Scripts of a session: lines of text, read byte by byte, and what each of them does to the session. A line is `words N`, `add U V` or
 // `leads U V`; no line is ever kept, so that it may be of any length.
+#![tactic(auto)]
+
 ghost use Rattle.std.specs.Prelude.{◌≡◌, min};
 ghost use Rattle.editing.specs.Promise.{change_answer, reply_answer};
 ghost use Rattle.script.specs.Scanning.{advanced, appended, extended, within, scanned, begun, order_of, finished_two, finished_one, finished};
@@ -17,7 +19,7 @@ const LARGEST: usize = 129;
 const MISSED: usize = 7;
 
 // A part as a decimal number: no byte yet, the value so far, or a byte that is no digit.
-#[derive(Drop)]
+#[derive(Clone, Copy)]
 pub enum Numeral {
     Empty,
     Value(usize),
@@ -25,7 +27,7 @@ pub enum Numeral {
 }
 
 // A line, as far as it is read: the number of the part, how many bytes of each name its first part has matched, and the numbers.
-#[derive(Drop)]
+#[derive(Clone, Copy)]
 pub struct Scanner {
     pub part: usize,
     pub words: usize,
@@ -36,7 +38,7 @@ pub struct Scanner {
 }
 
 // What a line orders.
-#[derive(Drop)]
+#[derive(Clone, Copy)]
 pub enum Command {
     Words(usize),
     Add(usize, usize),
@@ -45,7 +47,7 @@ pub enum Command {
 }
 
 // What a command comes to.
-#[derive(Drop)]
+#[derive(Clone, Copy)]
 pub enum Outcome {
     Done,
     Refused(u8),
@@ -53,7 +55,7 @@ pub enum Outcome {
     Unreadable,
 }
 
-#[derive(Drop)]
+#[derive(Clone, Copy)]
 pub struct Performed {
     pub outcome: Outcome,
     pub session: Session,

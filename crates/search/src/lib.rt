@@ -1,5 +1,7 @@
 // Layer 2: the search for predecessors (SPECIFICATION.md, 3.3). Each vertex asks once for a successor among those that it leads to by the
 // reachability table; a predecessor that stands in the way is moved.
+#![tactic(auto)]
+
 ghost use Rattle.std.specs.Prelude.{◌≡◌, Bool, [], ◌∷◌, ◌≤◌, ◌<◌, min, length, get_or};
 ghost use Rattle.specification.specs.Sets.{inserted, has?};
 ghost use Rattle.specification.specs.Planning.{matching};

@@ -1,5 +1,7 @@
 // Runs a script of a session: a line on standard input is `words N`, `add U V` or `leads U V`, and is answered by a line on standard
 // output: `ok`, `refused` with the number, `unreadable`, or how U leads to V, `no`, `arrow`, `longer` or `both` (SPECIFICATION.md, 14.3).
+#![tactic(auto)]
+
 ghost use Rattle.std.specs.Prelude.{◌+◌, ◌≤◌, length};
 
 use editing::Session;
@@ -11,7 +13,7 @@ use specification::Connection;
 const MOST_READS: u64 = 18446744073709551615;
 
 // The session, the line that is being read, and whether it has a byte.
-#[derive(Drop)]
+#[derive(Clone, Copy)]
 struct State {
     session: Session,
     scanner: Scanner,

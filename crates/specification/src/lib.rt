@@ -1,8 +1,9 @@
 // The types that are handed over, and the definitions of what is right (specs/, by the numbers of SPECIFICATION.md): all that a promise
 // rests on.
+#![tactic(auto)]
 
 // A tagged field: its bytes begin at `start`, and there are `size` of them.
-#[derive(Drop)]
+#[derive(Clone, Copy)]
 pub enum Field {
     Found { start: usize, size: usize },
     Missing,
@@ -10,7 +11,7 @@ pub enum Field {
 
 // Where the fields of a record stand. Edge i has its tail at edges + 2 i and its head after it, and there are `count` of them. The given
 // channels are the `size` bytes from `lines` on, where `given` says so, and the floors the `extent` bytes from `floors` on, where `floored` does.
-#[derive(Drop)]
+#[derive(Clone, Copy)]
 pub struct Fields {
     pub vertices: usize,
     pub edges: usize,
@@ -23,21 +24,21 @@ pub struct Fields {
     pub extent: usize,
 }
 
-#[derive(Drop)]
+#[derive(Clone, Copy)]
 pub enum Layout {
     Good(Fields),
     Bad,
 }
 
 // How a cross edge runs: straight, or with one bend at a column and a row.
-#[derive(Drop)]
+#[derive(Clone, Copy)]
 pub enum Course {
     Straight,
     Bent(u16, u8),
 }
 
 // A vertex as it is handed over (9.2).
-#[derive(Drop)]
+#[derive(Clone, Copy)]
 pub struct VertexEntry {
     pub channel: u8,
     pub position: u8,
@@ -48,14 +49,14 @@ pub struct VertexEntry {
 }
 
 // Where an edge bends.
-#[derive(Drop)]
+#[derive(Clone, Copy)]
 pub struct Bend {
     pub column: u16,
     pub row: u8,
 }
 
 // The kinds of edges (6.1, 8.4).
-#[derive(Drop)]
+#[derive(Clone, Copy)]
 pub enum Kind {
     Path,
     PathTransitive(u16),
@@ -64,7 +65,7 @@ pub enum Kind {
 }
 
 // The number of a kind, with its bundle or its bend.
-#[derive(Drop)]
+#[derive(Clone, Copy)]
 pub struct Code {
     pub code: u8,
     pub value: u16,
@@ -72,7 +73,7 @@ pub struct Code {
 }
 
 // An edge as it is handed over, with its mark (5.1).
-#[derive(Drop)]
+#[derive(Clone, Copy)]
 pub struct EdgeEntry {
     pub number: u16,
     pub kind: Kind,
@@ -80,7 +81,7 @@ pub struct EdgeEntry {
 }
 
 // A bundle as it is handed over: its channel, its rows, both included, and its track.
-#[derive(Drop)]
+#[derive(Clone, Copy)]
 pub struct BundleEntry {
     pub channel: u8,
     pub first_row: u8,
@@ -91,7 +92,7 @@ pub struct BundleEntry {
 // What a call for a chart answers (9.1), in the publisher's words: its number, or 0; how many entries each list got; the other counts, and the side
 // columns of each line, 0 past the last. Every number but the first is 0 where the chart is refused.
 #[repr(C)]
-#[derive(Drop)]
+#[derive(Clone, Copy)]
 pub struct ChartCounts {
     pub refusal: u8,
     pub words: usize,
@@ -105,21 +106,21 @@ pub struct ChartCounts {
 }
 
 // A whole column and row, on the page or not.
-#[derive(Drop)]
+#[derive(Clone, Copy)]
 pub struct Cell {
     pub column: u32,
     pub row: u32,
 }
 
 // Points across and points up (12.1).
-#[derive(Drop)]
+#[derive(Clone, Copy)]
 pub struct Point {
     pub x: f32,
     pub y: f32,
 }
 
 // A line through two, three or four points, or that one of them would be off the page (12.2).
-#[derive(Drop)]
+#[derive(Clone, Copy)]
 pub enum Polyline {
     Straight(Point, Point),
     Bent(Point, Point, Point),
@@ -128,7 +129,7 @@ pub enum Polyline {
 }
 
 // How one vertex reaches another (2.4): not at all, by an edge alone, by longer routes alone, of two edges or more each, or by both.
-#[derive(Drop)]
+#[derive(Clone, Copy)]
 pub enum Connection {
     Unreached,
     EdgeOnly,
@@ -137,7 +138,7 @@ pub enum Connection {
 }
 
 // The refusal, or 0, and how one vertex reaches the other: not at all where the call is refused.
-#[derive(Drop)]
+#[derive(Clone, Copy)]
 pub struct Reply {
     pub refusal: u8,
     pub connection: Connection,
@@ -146,7 +147,7 @@ pub struct Reply {
 // The same for apps, in the publisher's words: the refusal, or 0, and how the first word leads to the second, 0 not at all, 1 by an arrow
 // only, 2 by longer routes only, 3 by both; 0 where the call is refused.
 #[repr(C)]
-#[derive(Drop)]
+#[derive(Clone, Copy)]
 pub struct Leading {
     pub refusal: u8,
     pub leads: u8,
@@ -154,7 +155,7 @@ pub struct Leading {
 
 // The refusal, or 0, how many points the stroke has, and the points across (x) and up (y); 0.0 where there is none.
 #[repr(C)]
-#[derive(Drop)]
+#[derive(Clone, Copy)]
 pub struct Stroke {
     pub refusal: u8,
     pub points: u8,
@@ -170,7 +171,7 @@ pub struct Stroke {
 
 // What a call that writes a record answers, in the publisher's words: its number, or 0, and how many bytes it wrote, 0 where it is refused.
 #[repr(C)]
-#[derive(Drop)]
+#[derive(Clone, Copy)]
 pub struct WrittenBytes {
     pub refusal: u8,
     pub bytes: usize,

@@ -1,4 +1,6 @@
 // Prints whether the record on standard input is accepted, or the number of its refusal (SPECIFICATION.md, 14.2).
+#![tactic(auto)]
+
 use libc::{STDIN_FILENO, STDOUT_FILENO};
 
 fn main() {

@@ -4,21 +4,18 @@ use Rattle.masks.proofs.Sets.{united_none, united_more}
 use Rattle.masks.proofs.unite.Goals as goal
 
 pub returns-then-masks-first : goal.returns-then-masks-first
-returns-then-masks-first c = (
-  sym
-      (lt-leb _ _
-      (let l : length c.args.masks.now < c.args.first + length c.args.other.now = omega arith in l)),
-  ((λ e. absurd (true≢false (sym e))), λ e. refl),
-)
+returns-then-masks-first c = record {
+  answer = sym (lt-leb _ _ (let l : length c.args.masks.now < c.args.first + length c.args.other.now = omega arith in l));
+  made = λ e. absurd (true≢false (sym e));
+  kept = λ e. refl;
+}
 
 pub returns-then-masks-first-2 : goal.returns-then-masks-first-2
-returns-then-masks-first-2 c = (
-  sym
-      (lt-leb _ _
-      (let l : length c.args.masks.now
-      < c.args.first + length c.args.other.now = omega arith in l)),
-  ((λ e. absurd (true≢false (sym e))), λ e. refl),
-)
+returns-then-masks-first-2 c = record {
+  answer = sym (lt-leb _ _ (let l : length c.args.masks.now < c.args.first + length c.args.other.now = omega arith in l));
+  made = λ e. absurd (true≢false (sym e));
+  kept = λ e. refl;
+}
 
 pub loop-i-init : goal.loop-i-init
 loop-i-init c =
@@ -42,4 +39,4 @@ returns c =
     let l = c.loop-i in
     let whole = subst (λ (i : ℕ). United a.masks.now a.first a.other.now i l.masks)
     (let e : l.i ≡ length a.other.now = omega arith in e) l.invariant.3 in
-    (sym (le-leb _ _ l.invariant.2), ((λ e. whole), λ e. absurd (true≢false e)))
+    record { answer = sym (le-leb _ _ l.invariant.2); made = λ e. whole; kept = λ e. absurd (true≢false e) }
