@@ -1,0 +1,9 @@
+use Rattle.counting.proofs.Prelude.{◌≡◌, refl, ◌∙◌, subst, inl, inr, ℕ, ◌+◌, ◌-◌, ◌*◌, ◌≤◌, zero-le, arith, length, get_or, rules}
+use Rattle.scanning.proofs.Scanning.{Scanning, scanning_none, scanning_more, scanned_strange, scanned_all}
+use Rattle.scanning.proofs.scan.Given as goal
+
+abbrev pub invariant-loop-i : goal.invariant-loop-i
+invariant-loop-i l = (l.i ≤ l.m) × (length l.edges ≡ length l.initial.edges) × Scanning l.n l.ends l.i l.edges l.double
+
+abbrev pub decreases-loop-i : goal.decreases-loop-i
+decreases-loop-i l = l.m - l.i
