@@ -1,0 +1,11 @@
+use Rattle.counting.proofs.Prelude.{refl, sym, ◌∙◌, ◌-◌, arith, not-false, not-true, rules}
+use Rattle.specification.specs.Sets.{member?}
+use Rattle.planning.proofs.Following.{Begun, lay_none, lay_ready, lay_chain, lay_held, lay_pass, lay_few, lay_all}
+use Rattle.planning.proofs.chains.Given as goal
+
+abbrev pub invariant-loop-v : goal.invariant-loop-v
+invariant-loop-v l =
+    Begun (member? l.held 0) l.n l.first l.predecessor l.initial.places l.v l.count l.places
+
+abbrev pub decreases-loop-v : goal.decreases-loop-v
+decreases-loop-v l = l.n - l.v
