@@ -5,6 +5,7 @@ use Rattle.masks.proofs.Tables.{pair_row, absorbed_law}
 use Rattle.editing.specs.Promise.{Linked}
 use Rattle.editing.proofs.Linking.{Target, target_law, linked_none, linked_set, linked_clear}
 use Rattle.editing.proofs.link.Goals as goal
+use Rattle.editing.proofs.link.Goals.{then-comes, else-comes}
 
 pub loop-u-init : goal.loop-u-init
 loop-u-init c =
@@ -24,33 +25,33 @@ loop-u-init c =
 pub loop-u-preserved : goal.loop-u-preserved
 loop-u-preserved c =
     let a = c.args in
-    let l = c.loop in
-    let row = c.insert.new.0 in
+    let l = c.loop-u in
+    let row = c.insert.new.masks in
     let e = c.comes.ensures in
     let done : List ℕ → Type 0 = λ s. Linked 2 a.reach.now a.tail a.head (l.u + 1) s in
-    ⊎_elim
-    (λ w.
-    let call = w.3 in
-    let size : 2 * l.u + length row ≤ length l.reach = omega arith in
-    let united = subst (λ (j : ℕ). United l.reach (2 * l.u) row j call.last.0) l.invariant.2
-    (call.ensures.1.0 (call.ensures.0 ∙ le-leb _ _ size)) in (
-      omega arith,
-      ap length w.6 ∙ call.kept.0 ∙ l.invariant.1,
-      l.invariant.2,
-      l.invariant.3,
-      subst done (sym w.6)
-          (linked_set 2 a.reach.now a.tail a.head l.u l.reach l.invariant.4 call.last.0 row (sym e ∙ w.0.taken)
-          c.requires.1 l.invariant.3 (absorbed_law 2 l.reach l.u row call.last.0 united)),
-    ))
-    (λ w. (
-      omega arith,
-      ap length w.1 ∙ l.invariant.1,
-      l.invariant.2,
-      l.invariant.3,
-      subst done (sym w.1)
-          (linked_clear 2 a.reach.now a.tail a.head l.u l.reach l.invariant.4 (sym e ∙ w.0.left) c.requires.1),
-    ))
-    c.if-comes.branch
+    elim c.if-comes.branch [
+      | then-comes w ↦
+          let call = w.unite in
+          let size : 2 * l.u + length row ≤ length l.reach = omega arith in
+          let united = subst (λ (j : ℕ). United l.reach (2 * l.u) row j call.new.masks) l.invariant.2
+          (call.ensures.made (call.ensures.answer ∙ le-leb _ _ size)) in (
+            omega arith,
+            ap length w.reach-is ∙ call.auto.masks ∙ l.invariant.1,
+            l.invariant.2,
+            l.invariant.3,
+            subst done (sym w.reach-is)
+                (linked_set 2 a.reach.now a.tail a.head l.u l.reach l.invariant.4 call.new.masks row (sym e ∙ w.if-comes.true)
+                c.requires.1 l.invariant.3 (absorbed_law 2 l.reach l.u row call.new.masks united)),
+          )
+      | else-comes w ↦ (
+        omega arith,
+        ap length w.reach-is ∙ l.invariant.1,
+        l.invariant.2,
+        l.invariant.3,
+        subst done (sym w.reach-is)
+            (linked_clear 2 a.reach.now a.tail a.head l.u l.reach l.invariant.4 (sym e ∙ w.if-comes.false) c.requires.1),
+      )
+    ]
 
 pub returns : goal.returns
 returns c =

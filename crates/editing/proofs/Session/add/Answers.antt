@@ -6,31 +6,31 @@ use Rattle.editing.proofs.Session.add.Tie as tie
 use Rattle.editing.proofs.Session.add.Goals as goal
 
 abbrev Else-refusal-ne0 : Type 0
-Else-refusal-ne0 = lts.Else1 tie.the-claims reads.Pre reads.Post
+Else-refusal-ne0 = lts.Else1 tie.the-claims reads.Pre reads.Post tie.handed_clauses
 
 pub returns-then-refusal-ne0 : goal.returns-then-refusal-ne0
 returns-then-refusal-ne0 c =
     let a = c.args in
-    add-refused a.self a.tail a.head _ c.if-refusal-ne0.true c.refusal_of-refusal.ensures.0
+    add-refused a.self a.tail a.head _ c.if-refusal-ne0.true c.refusal_of-refusal.ensures.value
 
 -- not refused: the ends are in the tables, and there is room
 free : (c : Else-refusal-ne0) → let a = c.args in (a.tail < 128) × (a.head < 128) × (a.self.count < 4096)
-free c = c.refusal_of-refusal.ensures.1 c.if-refusal-ne0.false
+free c = c.refusal_of-refusal.ensures.tail_bound c.if-refusal-ne0.false
 
 pub overflow_mul-tail : goal.overflow_mul-tail
-overflow_mul-tail c = omega (arith, (free c.before.before.before).0)
+overflow_mul-tail c = omega (arith, (free c.before.before).0)
 
 pub link-requires : goal.link-requires
 link-requires c =
-    let h = free c.before.before.before.before.before.before.before in
-    (sym (slice_bounds-link-end c.before), h.0, h.1)
+    let h = free c.before.before.before.before.before.before in
+    (search rules, h.0, h.1)
 
 pub overflow_add-result : goal.overflow_add-result
-overflow_add-result c = omega (arith, (free c.before.before.before.before.before.before.before.before.before).2)
+overflow_add-result c = omega (arith, (free c.before.before.before.before.before.before.before.before).2)
 
 pub returns : goal.returns
 returns c =
     let a = c.args in
-    add-accepted a.self a.tail a.head _ (sym (slice_bounds-insert-end c.before.before.before.before.before.before.before))
-    (sym c.if-refusal-ne0.false ∙ c.refusal_of-refusal.ensures.0)
+    add-accepted a.self a.tail a.head _ (search rules)
+    (sym c.if-refusal-ne0.false ∙ c.refusal_of-refusal.ensures.value)
     (record { vertices = refl; count = refl; edges = c.insert.ensures.1; reach = c.link.ensures })

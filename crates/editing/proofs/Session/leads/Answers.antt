@@ -23,4 +23,4 @@ returns c =
     let a = c.args in
     let k = c.capped-n.ensures in
     leads-inside a.self a.tail a.head _ (inside a.self a.tail a.head (omega arith) (omega arith))
-    (c.connected.ensures.0 ∙ ap₂ connection c.contains-edge.ensures c.detour.ensures)
+    (c.connected.ensures.case ∙ ap₂ connection c.contains-edge.ensures c.detour.ensures)
