@@ -4,20 +4,16 @@ use Rattle.specification.specs.Machine.{answer_number}
 use Rattle.editing.specs.Promise.{reply_answer}
 use Rattle.script.specs.declared.Outcome.{Outcome}
 use Rattle.script.specs.Performing.{saying, said_of}
-use Rattle.script.proofs.replied.Statement.{statement}
-use Rattle.script.proofs.replied.Tie as tie
+use Rattle.script.proofs.replied.Goals as goal
 
 refused : (k : ℕ) (a : Connection) → k ≢ 0 → said_of (Outcome.Refused k) ≡ saying (reply_answer k a)
 unfolding said_of answer_number reply_answer
 refused zero a h = absurd (h refl)
 refused (suc k) a h = refl
 
-returns : tie.Need-returns
-returns c = refused _ _ c.if1.true
+pub returns-then-reply-ne0 : goal.returns-then-reply-ne0
+returns-then-reply-ne0 c = refused _ _ c.if-reply-ne0.true
 
-returns-2 : tie.Need-returns-2
+pub returns : goal.returns
 unfolding said_of answer_number reply_answer
-returns-2 c = rw c.if1.false
-
-pub replied-spec : {M : Type 1} → statement M
-replied-spec = tie.close (tie.spec returns returns-2)
+returns c = rw c.if-reply-ne0.false
