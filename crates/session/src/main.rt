@@ -90,12 +90,7 @@ fn put_outcome(output: &mut [u8], used: usize, outcome: Outcome) -> usize
 }
 
 // Answers the lines that end in the input, and writes the answers.
-fn feed<'a>(
-    rt: &impl Print,
-    state: State,
-    input: &'a [u8],
-    output: &mut [u8],
-) -> io::Result<State>
+fn feed<'a>(rt: &impl Print, state: State, input: &'a [u8], output: &mut [u8]) -> io::Result<State>
     requires { 16 ≤ length output.old }
 {
     let mut session = state.session;
