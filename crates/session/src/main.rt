@@ -27,7 +27,7 @@ struct State {
 // Writes what the output holds where less than a line's room is left; answers where the next line begins.
 fn make_room(rt: &impl Print, output: &[u8], used: usize) -> io::Result<usize>
     requires { (used ≤ length output.now) × (16 ≤ length output.now) }
-    ensures { IfOk result (λ n. n + 16 ≤ length output.now) }
+    ensures { IfOk result (λ r. r + 16 ≤ length output.now) }
 {
     if output.len() - used < 16 {
         rt.write_all(&output[..used])?;
