@@ -1,4 +1,4 @@
-use Rattle.counting.proofs.Prelude.{refl, sym, ◌∙◌, arith, rules}
+use Rattle.counting.proofs.Prelude.{refl, sym, ◌∙◌, arith}
 use Rattle.editing.proofs.Detours.{detour_by, detour-second}
 use Rattle.editing.proofs.detour.Goals as goal
 

@@ -1,5 +1,5 @@
-use Rattle.counting.proofs.Prelude.{◌≡◌, refl, sym, ap, ◌∙◌, subst, ⊎_elim, List, [], ◌∷◌, ℕ, ◌+◌, ◌-◌, ◌*◌, ◌≤◌, zero-le, arith, length}
-use Rattle.counting.proofs.Prelude.{get_or, le-leb, rules}
+use Rattle.counting.proofs.Prelude.{◌≡◌, refl, sym, ap, ◌∙◌, subst, List, [], ◌∷◌, ℕ, ◌+◌, ◌*◌, ◌≤◌, zero-le, arith, length}
+use Rattle.counting.proofs.Prelude.{get_or, le-leb}
 use Rattle.specification.specs.Sets.{United}
 use Rattle.masks.proofs.Tables.{pair_row, absorbed_law}
 use Rattle.editing.specs.Promise.{Linked}

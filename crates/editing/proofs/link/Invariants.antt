@@ -1,9 +1,6 @@
-use Rattle.counting.proofs.Prelude.{◌≡◌, refl, sym, ap, ◌∙◌, subst, ⊎_elim, List, [], ◌∷◌, ℕ, ◌+◌, ◌-◌, ◌*◌, ◌≤◌, zero-le, arith, length}
-use Rattle.counting.proofs.Prelude.{get_or, le-leb, rules}
-use Rattle.specification.specs.Sets.{United}
-use Rattle.masks.proofs.Tables.{pair_row, absorbed_law}
+use Rattle.counting.proofs.Prelude.{◌≡◌, ◌-◌, ◌≤◌, length}
 use Rattle.editing.specs.Promise.{Linked}
-use Rattle.editing.proofs.Linking.{Target, target_law, linked_none, linked_set, linked_clear}
+use Rattle.editing.proofs.Linking.{Target}
 use Rattle.editing.proofs.link.Given as goal
 
 abbrev pub invariant-loop-u : goal.invariant-loop-u

@@ -1,8 +1,8 @@
-use Rattle.counting.proofs.Prelude.{sym, ◌∙◌, ◌≤◌, ◌<◌, arith, rules}
+use Rattle.counting.proofs.Prelude.{sym, ◌∙◌, ◌<◌, arith}
 use lib.Count.{count_trailing_zeros}
 use Rattle.specification.specs.Sets.{at, has?}
-use Rattle.masks.proofs.Visiting.{Visited, visited_none, visited_more, visited_less, lowest-lt}
-use Rattle.editing.proofs.Detours.{Lacks, passing_found, passing_none}
+use Rattle.masks.proofs.Visiting.{visited_none, visited_more, visited_less, lowest-lt}
+use Rattle.editing.proofs.Detours.{passing_found, passing_none}
 use Rattle.editing.proofs.passes.Lts as lts
 use Rattle.editing.proofs.passes.Reads as reads
 use Rattle.editing.proofs.passes.Tie as tie

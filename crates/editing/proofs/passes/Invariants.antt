@@ -1,8 +1,6 @@
-use Rattle.counting.proofs.Prelude.{sym, ◌∙◌, ◌≤◌, ◌<◌, arith, rules}
-use lib.Count.{count_trailing_zeros}
-use Rattle.specification.specs.Sets.{at, has?}
-use Rattle.masks.proofs.Visiting.{Visited, visited_none, visited_more, visited_less, lowest-lt}
-use Rattle.editing.proofs.Detours.{Lacks, passing_found, passing_none}
+use Rattle.counting.proofs.Prelude.{◌≤◌}
+use Rattle.masks.proofs.Visiting.{Visited}
+use Rattle.editing.proofs.Detours.{Lacks}
 use Rattle.editing.proofs.passes.Given as goal
 
 abbrev pub invariant-loop-x : goal.invariant-loop-x

@@ -1,4 +1,4 @@
-use Rattle.counting.proofs.Prelude.{◌≡◌, sym, ◌∙◌, false, ◌<◌, arith, le-leb, lt-leb, rules}
+use Rattle.counting.proofs.Prelude.{◌≡◌, sym, ◌∙◌, false, ◌<◌, arith, le-leb, lt-leb}
 use Rattle.specification.specs.Sets.{at, has?}
 use Rattle.editing.specs.Promise.{outside?, refusal_of}
 use Rattle.editing.proofs.Machines.{verdict-unknown, verdict_duplicate, verdict-cycle, verdict-full, verdict_none}

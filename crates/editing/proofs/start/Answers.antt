@@ -1,4 +1,4 @@
-use Rattle.counting.proofs.Prelude.{inl, inr, arith, rules}
+use Rattle.counting.proofs.Prelude.{inl, inr, arith}
 use Rattle.editing.proofs.Machines.{start-passes, start_fails}
 use Rattle.editing.proofs.Sessions.{started}
 use Rattle.editing.proofs.start.Goals as goal

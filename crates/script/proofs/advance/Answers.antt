@@ -1,4 +1,4 @@
-use Rattle.counting.proofs.Prelude.{eq-eqb, ne_eqb, lt-ltb, le-ltb, rules}
+use Rattle.counting.proofs.Prelude.{eq-eqb, ne_eqb, lt-ltb, le-ltb}
 use Rattle.script.specs.Scanning.{advanced}
 use Rattle.script.proofs.advance.Goals as goal
 

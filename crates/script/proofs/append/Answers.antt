@@ -1,4 +1,4 @@
-use Rattle.counting.proofs.Prelude.{ap, ◌∙◌, ℕ, ◌+◌, ◌-◌, ◌*◌, min, le-leb, lt-leb, rules}
+use Rattle.counting.proofs.Prelude.{ap, ◌∙◌, ℕ, ◌+◌, ◌-◌, ◌*◌, min, le-leb, lt-leb}
 use Rattle.script.specs.declared.Numeral.{Numeral}
 use Rattle.specification.specs.Orders.{digit?}
 use Rattle.script.specs.Scanning.{appended}

@@ -1,4 +1,4 @@
-use Rattle.counting.proofs.Prelude.{sym, ap, ◌∙◌, rules}
+use Rattle.counting.proofs.Prelude.{sym, ap, ◌∙◌}
 use Rattle.script.specs.declared.Numeral.{Numeral}
 use Rattle.script.specs.Scanning.{extended}
 use Rattle.script.proofs.extend.Goals as goal

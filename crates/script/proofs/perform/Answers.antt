@@ -1,4 +1,4 @@
-use Rattle.counting.proofs.Prelude.{refl, rules}
+use Rattle.counting.proofs.Prelude.{refl}
 use Rattle.script.specs.declared.Command.{Command}
 use Rattle.script.specs.Performing.{said_of, Effect}
 use Rattle.script.proofs.Performing.{performs}

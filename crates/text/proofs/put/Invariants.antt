@@ -1,6 +1,5 @@
-use Rattle.counting.proofs.Prelude.{◌≡◌, refl, subst, ℕ, ◌+◌, ◌-◌, ◌≤◌, ◌<◌, zero-le, arith, length, rules}
+use Rattle.counting.proofs.Prelude.{◌≡◌, ◌+◌, ◌-◌, ◌≤◌, length}
 use Rattle.text.specs.Text.{Written}
-use Rattle.text.proofs.Writing.{written_none, written-more, puts_none, puts_whole}
 use Rattle.text.proofs.put.Given as goal
 
 abbrev pub invariant-loop-i : goal.invariant-loop-i

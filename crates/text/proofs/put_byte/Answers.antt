@@ -1,4 +1,4 @@
-use Rattle.counting.proofs.Prelude.{arith, rules}
+use Rattle.counting.proofs.Prelude.{arith}
 use Rattle.text.proofs.Writing.{byte_none, byte_whole}
 use Rattle.text.proofs.put_byte.Goals as goal
 

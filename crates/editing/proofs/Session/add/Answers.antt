@@ -1,5 +1,5 @@
 use Rattle.counting.proofs.Prelude.{refl, sym, ◌∙◌, ◌<◌, arith, rules}
-use Rattle.editing.proofs.Sessions.{add-refused, add-accepted}
+use Rattle.editing.proofs.Sessions.{add-accepted}
 use Rattle.editing.proofs.Session.add.Lts as lts
 use Rattle.editing.proofs.Session.add.Reads as reads
 use Rattle.editing.proofs.Session.add.Tie as tie
@@ -8,14 +8,9 @@ use Rattle.editing.proofs.Session.add.Goals as goal
 abbrev Else-refusal-ne0 : Type 0
 Else-refusal-ne0 = lts.Else1 tie.the-claims reads.Pre reads.Post tie.handed_clauses
 
-pub returns-then-refusal-ne0 : goal.returns-then-refusal-ne0
-returns-then-refusal-ne0 c =
-    let a = c.args in
-    add-refused a.self a.tail a.head _ c.if-refusal-ne0.true c.refusal_of-refusal.ensures.value
-
 -- not refused: the ends are in the tables, and there is room
 free : (c : Else-refusal-ne0) → let a = c.args in (a.tail < 128) × (a.head < 128) × (a.self.count < 4096)
-free c = c.refusal_of-refusal.ensures.tail_bound c.if-refusal-ne0.false
+free c = search rules
 
 pub overflow_mul-tail : goal.overflow_mul-tail
 overflow_mul-tail c = omega (arith, (free c.before.before).0)

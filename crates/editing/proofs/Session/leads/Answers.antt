@@ -1,4 +1,4 @@
-use Rattle.counting.proofs.Prelude.{ap₂, ◌∙◌, arith, rules}
+use Rattle.counting.proofs.Prelude.{ap₂, ◌∙◌, arith}
 use Rattle.specification.specs.Sets.{at, has?}
 use Rattle.specification.specs.Connection.{connection}
 use Rattle.editing.specs.Promise.{connection_of}

@@ -1,4 +1,4 @@
-use Rattle.counting.proofs.Prelude.{sym, ap, ◌∙◌, rules}
+use Rattle.counting.proofs.Prelude.{sym, ap, ◌∙◌}
 use Rattle.script.specs.declared.Numeral.{Numeral}
 use Rattle.script.specs.Scanning.{order_of, with_number, finished_one, finished}
 use Rattle.script.proofs.Scanner.finish.Goals as goal

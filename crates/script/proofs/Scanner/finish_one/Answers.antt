@@ -1,4 +1,4 @@
-use Rattle.counting.proofs.Prelude.{sym, ap, ◌∙◌, eq-eqb, ne_eqb, rules}
+use Rattle.counting.proofs.Prelude.{sym, ap, ◌∙◌, eq-eqb, ne_eqb}
 use Rattle.script.specs.declared.Numeral.{Numeral}
 use Rattle.script.specs.Scanning.{order_of, with_number, finished_two, finished_one}
 use Rattle.script.proofs.Scanner.finish_one.Goals as goal

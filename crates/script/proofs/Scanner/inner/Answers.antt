@@ -1,4 +1,4 @@
-use Rattle.counting.proofs.Prelude.{eq-eqb, ne_eqb, rules}
+use Rattle.counting.proofs.Prelude.{eq-eqb, ne_eqb}
 use Rattle.script.specs.Scanning.{within}
 use Rattle.script.proofs.Scanner.inner.Goals as goal
 

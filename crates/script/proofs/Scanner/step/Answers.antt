@@ -1,4 +1,4 @@
-use Rattle.counting.proofs.Prelude.{◌≡◌, ◌+◌, min, arith, eq-eqb, ne_eqb, rules}
+use Rattle.counting.proofs.Prelude.{◌≡◌, ◌+◌, min, arith, eq-eqb, ne_eqb}
 use Rattle.script.specs.Scanning.{scanned, next_part}
 use Rattle.script.proofs.Scanner.step.Goals as goal
 
