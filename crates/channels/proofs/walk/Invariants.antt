@@ -1,0 +1,15 @@
+use Rattle.counting.proofs.Prelude.{refl, ◌∙◌, ◌-◌, ◌≤◌, arith, length, rules}
+use Rattle.reach.specs.Closure.{connection_by}
+use Rattle.planning.specs.Arranged.{Kept}
+use Rattle.planning.proofs.Laying.{kept_same, kept_on}
+use Rattle.channels.proofs.Walking.{Walking, walking_none, walking_length, walked_unknown, walking_more}
+use Rattle.channels.proofs.Tabling.{Tabling, tabling_none, tabling_length, tabling_more, walks_refused, walks_all}
+use Rattle.channels.proofs.walk.Given as goal
+
+abbrev pub invariant-loop-i : goal.invariant-loop-i
+invariant-loop-i l =
+    (l.i ≤ length l.field) × Walking (connection_by 2 l.edges l.longer) l.n l.field l.i l.left l.last l.seen l.vertices l.fault
+    × Tabling l.n l.field l.i l.left l.p l.vertices l.count l.places × Kept l.n l.initial.places l.places
+
+abbrev pub decreases-loop-i : goal.decreases-loop-i
+decreases-loop-i l = length l.field - l.i

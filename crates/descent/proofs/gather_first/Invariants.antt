@@ -1,0 +1,12 @@
+use Rattle.counting.proofs.Prelude.{◌≡◌, refl, ℕ, ◌+◌, ◌*◌, ◌≤◌, ◌<◌, arith, length, get_or, rules}
+use lib.Count.{count_trailing_zeros}
+use Rattle.masks.proofs.Visiting.{lowest-lt, lowest_in, visited_less}
+use Rattle.descent.specs.Steps.Members.{Long}
+use Rattle.descent.proofs.Gathering.{Gathering, gathering_none, gathering_more, gathering_all}
+use Rattle.descent.proofs.gather_first.Given as goal
+
+abbrev pub invariant-loop-x : goal.invariant-loop-x
+invariant-loop-x l = Long 2 l.table l.mask 0 × ((b : ℕ) × Gathering l.table l.mask 0 0 0 l.a b l.x)
+
+abbrev pub decreases-loop-x : goal.decreases-loop-x
+decreases-loop-x l = l.x

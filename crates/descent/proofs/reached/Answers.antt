@@ -1,0 +1,81 @@
+use Rattle.counting.proofs.Prelude.{◌+◌, ◌*◌, ◌≤◌, ◌<◌, arith, length, rules}
+use lib.Count.{count_trailing_zeros}
+use Rattle.masks.proofs.Visiting.{lowest-lt, lowest_in}
+use Rattle.descent.specs.Steps.Members.{Long}
+use Rattle.descent.proofs.Gathering.{gathering_all, pictured_both}
+use Rattle.descent.proofs.Skipping.{First, first_none, first_more, nested_second, covered_second, skip_less}
+use Rattle.descent.proofs.reached.Lts as lts
+use Rattle.descent.proofs.reached.Reads as reads
+use Rattle.descent.proofs.reached.Tie as tie
+use Rattle.descent.proofs.reached.Goals as goal
+
+abbrev In-loop-x : Type 0
+In-loop-x = lts.In-loop tie.the-claims reads.Pre reads.Post goal.the-invariant-loop-x goal.the-decreases-loop-x
+
+pub loop-x-init : goal.loop-x-init
+loop-x-init c =
+    (c.requires.0, first_none c.args.table.now c.args.low c.args.high c.ranges.low.fits)
+
+-- the number of the member is below 64
+small : (c : In-loop-x) → count_trailing_zeros 64 c.loop-x.x < 64
+small c =
+    lowest-lt _ c.loop-x.x _ c.loop-x.invariant.1.so_far.members c.loop-x-test.true
+
+-- the table has its masks
+room : (c : In-loop-x)
+    → 2 * (0 + count_trailing_zeros 64 c.loop-x.x) + 2 ≤ length c.args.table.now
+room c = let l = c.loop-x in l.invariant.0.room _ (small c) (lowest_in _ l.x _ l.invariant.1.so_far.members c.loop-x-test.true)
+
+pub overflow_cast-w : goal.overflow_cast-w
+overflow_cast-w c = omega (arith, small c.before)
+
+pub overflow_mul-a : goal.overflow_mul-a
+overflow_mul-a c = omega (arith, small c.before)
+
+pub offset_bounds-table-w : goal.offset_bounds-table-w
+offset_bounds-table-w c = omega (arith, small c.before)
+
+pub bounds-table-w : goal.bounds-table-w
+bounds-table-w c = omega (arith, room c.before.before)
+
+pub overflow_mul-b : goal.overflow_mul-b
+overflow_mul-b c = omega (arith, small c.before.before)
+
+pub overflow_add-b : goal.overflow_add-b
+overflow_add-b c = omega (arith, small c.before.before)
+
+pub offset_bounds-table-w-in-loop-x : goal.offset_bounds-table-w-in-loop-x
+offset_bounds-table-w-in-loop-x c = omega (arith, small c.before.before)
+
+pub bounds-table-w-in-loop-x : goal.bounds-table-w-in-loop-x
+bounds-table-w-in-loop-x c = omega (arith, room c.before.before.before)
+
+pub loop-x-smaller : goal.loop-x-smaller
+loop-x-smaller c =
+    let l = c.loop-x in skip_less _ l.x _ l.invariant.1.so_far.members c.loop-x-test.true _
+
+pub loop-x-preserved : goal.loop-x-preserved
+loop-x-preserved c =
+    let a = c.args in
+    let l = c.loop-x in (
+      l.invariant.0,
+      first_more a.table.now a.low a.high c.requires.2 (λ i. (c.shared_slice_known-in-loop-x-2-1.given i).fits) l.a l.b l.x
+          l.invariant.1 c.loop-x-test.true,
+    )
+
+pub with_second-requires : goal.with_second-requires
+with_second-requires c =
+    let a = c.args in
+    let l = c.loop-x in (
+      c.requires.1,
+      nested_second a.table.now a.low a.high c.requires.2,
+      covered_second a.table.now a.low a.high l.a l.b l.invariant.1.covered,
+    )
+
+pub returns : goal.returns
+returns c =
+    let a = c.args in
+    let l = c.loop-x in
+    pictured_both a.table.now a.low a.high l.a l.b _ _
+    (gathering_all a.table.now a.low 0 0 0 l.a l.b l.x l.invariant.1.so_far c.loop-x-test.false)
+    c.with_second.ensures

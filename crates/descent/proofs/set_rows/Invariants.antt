@@ -1,0 +1,13 @@
+use Rattle.counting.proofs.Prelude.{◌≡◌, refl, ◌∙◌, ◌+◌, ◌*◌, ◌≤◌, ◌<◌, arith, length, length-set, rules}
+use lib.Count.{count_trailing_zeros}
+use Rattle.masks.proofs.Visiting.{lowest-lt, lowest_in, visited_less}
+use Rattle.descent.specs.Steps.Members.{Long}
+use Rattle.descent.proofs.Rowing.{Writing, writing_none, writing_more, writing_all}
+use Rattle.descent.proofs.set_rows.Given as goal
+
+abbrev pub invariant-loop-x : goal.invariant-loop-x
+invariant-loop-x l =
+    (l.base ≤ 64) × (length l.places ≡ length l.initial.places) × Long 4 l.initial.places l.mask l.base × Writing l.mask l.base l.r l.initial.places l.places l.x
+
+abbrev pub decreases-loop-x : goal.decreases-loop-x
+decreases-loop-x l = l.x

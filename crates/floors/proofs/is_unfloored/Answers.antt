@@ -1,0 +1,12 @@
+use Rattle.counting.proofs.Prelude.{◌≡◌, sym, ap, ◌∙◌, true, false, not, ◌||◌, eqb, length, eq-eqb, ne_eqb, rules}
+use Rattle.specification.specs.Checks.{unfloored?}
+use Rattle.floors.specs.Steps.{too_high?}
+use Rattle.floors.proofs.is_unfloored.Goals as goal
+
+pub returns-then-floors-n : goal.returns-then-floors-n
+unfolding unfloored?
+returns-then-floors-n c = simp (ne_eqb _ _ c.if-floors-n.true)
+
+pub returns : goal.returns
+unfolding unfloored? too_high?
+returns c = simp (eq-eqb _ _ c.if-floors-n.false) c.is_too_high.ensures
