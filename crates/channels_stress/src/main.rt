@@ -2,6 +2,8 @@
 // deep, and writes the number of channels of each.
 #![tactic(auto)]
 
+use std::io;
+
 // Has u lead to each v of `first` or more with u + v below 128.
 fn lead(table: &mut [u64], u: usize, first: usize) {
     let row = u % 128;
@@ -30,9 +32,9 @@ fn counted(table: [u64; 256], often: usize) -> u64 {
     last
 }
 
-fn main() {
-    io::print_decimal(1, counted(slanted(64, 64), 1000));
-    io::write_all(1, b"\n");
-    io::print_decimal(1, counted(slanted(128, 0), 1000));
-    io::write_all(1, b"\n");
+fn main(rt: HostRuntime) -> io::Result<()> {
+    let leading = counted(slanted(64, 64), 1000);
+    println!(rt; "{leading}")?;
+    let full = counted(slanted(128, 0), 1000);
+    println!(rt; "{full}")
 }

@@ -1,10 +1,11 @@
 // Prints the chart of the record on standard input as a listing (SPECIFICATION.md, 14.1), or `refused` and the number.
 #![tactic(auto)]
 
-ghost use Rattle.std.specs.Prelude.{◌+◌, ◌*◌, ◌<◌, ◌≤◌, length};
+ghost use Rattle.std.specs.Prelude.{◌+◌, ◌*◌, ◌<◌, ◌≤◌, length, IfOk};
 
-use libc::{STDIN_FILENO, STDOUT_FILENO};
 use specification::{ChartCounts, Layout};
+use std::io;
+use std::io::Read;
 
 // Room for any line but the first.
 const LINE: usize = 38;
@@ -13,6 +14,9 @@ const LINE: usize = 38;
 const WORD_NUMBERS: usize = 6;
 
 const NEWLINE: u8 = 10;
+
+// One byte more than a record may have: a longer input is refused by as many of its bytes.
+const MOST_READ: u64 = 65536;
 
 // ---- text: each call puts bytes into the output from `used` on, and answers where they end
 
@@ -188,62 +192,76 @@ fn put_arrow<'a>(
 // ---- lists of lines: what no longer has room in the output is written
 
 // Writes the first bytes of the output.
-fn flush(output: &[u8], used: usize)
+fn flush(rt: &impl Print, output: &[u8], used: usize) -> io::Result<()>
     requires { used ≤ length output.now }
 {
-    io::write_all(STDOUT_FILENO, &output[..used]);
+    rt.write_all(&output[..used])
 }
 
 // Writes what the output holds where less than a line's room is left; answers where the next line begins.
-fn make_room(output: &[u8], used: usize) -> usize
+fn make_room(rt: &impl Print, output: &[u8], used: usize) -> io::Result<usize>
     requires { (used ≤ length output.now) × (38 ≤ length output.now) }
-    ensures { result + 38 ≤ length output.now }
+    ensures { IfOk result (λ r. r + 38 ≤ length output.now) }
 {
     if output.len() - used < LINE {
-        flush(output, used);
-        return 0;
+        flush(rt, output, used)?;
+        return Ok(0);
     }
-    used
+    Ok(used)
 }
 
-fn put_words<'a>(output: &mut [u8], used: usize, n: usize, words: &'a [u16], floored: bool) -> usize
+fn put_words<'a>(
+    rt: &impl Print,
+    output: &mut [u8],
+    used: usize,
+    n: usize,
+    words: &'a [u16],
+    floored: bool,
+) -> io::Result<usize>
     requires { (used ≤ length output.old) × (38 ≤ length output.old) × (n ≤ 128) × (n * 6 ≤ length words.now) }
-    ensures { result ≤ length output.old }
+    ensures { IfOk result (λ r. r ≤ length output.old) }
 {
     let mut end = used;
     for v in 0..n {
-        let at = make_room(output, end);
+        let at = make_room(rt, output, end)?;
         end = put_word(output, at, words, v, floored);
     }
-    end
+    Ok(end)
 }
 
 // `ends` has the words that each arrow goes from and to, in turn.
 fn put_arrows<'a>(
+    rt: &impl Print,
     output: &mut [u8],
     used: usize,
     m: usize,
     arrows: &'a [u16],
     ends: &'a [u8],
-) -> usize
+) -> io::Result<usize>
     requires { (used ≤ length output.old) × (38 ≤ length output.old) × (m ≤ 4096) × (m * 5 ≤ length arrows.now) × (m + m ≤ length ends.now) }
-    ensures { result ≤ length output.old }
+    ensures { IfOk result (λ r. r ≤ length output.old) }
 {
     let mut end = used;
     for e in 0..m {
-        let at = make_room(output, end);
+        let at = make_room(rt, output, end)?;
         end = put_arrow(output, at, arrows, e, ends[2 * e], ends[2 * e + 1]);
     }
-    end
+    Ok(end)
 }
 
-fn put_bundles<'a>(output: &mut [u8], used: usize, count: usize, bundles: &'a [u16]) -> usize
+fn put_bundles<'a>(
+    rt: &impl Print,
+    output: &mut [u8],
+    used: usize,
+    count: usize,
+    bundles: &'a [u16],
+) -> io::Result<usize>
     requires { (used ≤ length output.old) × (38 ≤ length output.old) × (count ≤ 256) × (count * 4 ≤ length bundles.now) }
-    ensures { result ≤ length output.old }
+    ensures { IfOk result (λ r. r ≤ length output.old) }
 {
     let mut end = used;
     for b in 0..count {
-        let at = make_room(output, end);
+        let at = make_room(rt, output, end)?;
         let i = b * 4;
         let last = put_fields(
             output,
@@ -257,7 +275,7 @@ fn put_bundles<'a>(output: &mut [u8], used: usize, count: usize, bundles: &'a [u
         );
         end = text::put_byte(output, last, NEWLINE);
     }
-    end
+    Ok(end)
 }
 
 // ---- the whole
@@ -291,23 +309,22 @@ fn is_floored(b: &[u8]) -> bool {
     fields.floored
 }
 
-fn write_refusal(number: u8) {
+fn write_refusal(rt: &impl Print, number: u8) -> io::Result<()> {
     let mut output = [0u8; 16];
     let a = text::put(&mut output, 0, b"refused");
     let b = put_number(&mut output, a, number as u16);
     let c = text::put_byte(&mut output, b, NEWLINE);
-    flush(&output, c);
+    flush(rt, &output, c)
 }
 
 // Prints the chart of a record, or its refusal. Every chart fits the lists, so that each count is itself the lesser.
-fn write_chart(record: &[u8]) {
+fn write_chart(rt: &impl Print, record: &[u8]) -> io::Result<()> {
     let mut words = [0u16; 768];
     let mut arrows = [0u16; 20480];
     let mut bundles = [0u16; 1024];
     let chart = chart_numbers::of_record(record, &mut words, &mut arrows, &mut bundles);
     if chart.refusal != 0 {
-        write_refusal(chart.refusal);
-        return;
+        return write_refusal(rt, chart.refusal);
     }
     let ends = edges_of(record);
     let n = lesser(chart.words, 128);
@@ -315,15 +332,14 @@ fn write_chart(record: &[u8]) {
     let k = lesser(chart.bundles, 256);
     let mut output = [0u8; 512];
     let a = put_header(&mut output, 0, chart, n as u16, m as u16, k as u16);
-    let b = put_words(&mut output, a, n, &words, is_floored(record));
-    let c = put_arrows(&mut output, b, m, &arrows, ends);
-    let d = put_bundles(&mut output, c, k, &bundles);
-    flush(&output, d);
+    let b = put_words(rt, &mut output, a, n, &words, is_floored(record))?;
+    let c = put_arrows(rt, &mut output, b, m, &arrows, ends)?;
+    let d = put_bundles(rt, &mut output, c, k, &bundles)?;
+    flush(rt, &output, d)
 }
 
-// The buffer has one byte more than a record may have: a longer input fills it and is refused.
-fn main() {
-    let mut buffer = io::large_buffer();
-    let got = io::read_full(STDIN_FILENO, &mut buffer);
-    write_chart(&buffer[..got]);
+fn main(rt: HostRuntime) -> io::Result<()> {
+    let mut record = Vec::new(rt.alloc());
+    rt.stdin().take(MOST_READ).read_to_end(&mut record)?;
+    write_chart(&rt, record.as_slice())
 }

@@ -149,8 +149,8 @@ module _ (g : Graph) (s : Session) (r : Represents g s) where
 
 -- ---- the promises
 
-pub add-refused : (s : Session) (u v k : ℕ) → k ≢ 0 → k ≡ refusal_of s u v → AddPromise s u v (record { refusal = k; session = s })
-add-refused s u v k ne e = record {
+pub add_refused : (s : Session) (u v k : ℕ) → k ≢ 0 → k ≡ refusal_of s u v → AddPromise s u v (record { refusal = k; session = s })
+add_refused s u v k ne e = record {
   refusal = e;
   kept = λ _. refl;
   made = λ z. absurd (ne z);

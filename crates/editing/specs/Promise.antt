@@ -9,7 +9,7 @@ use Rattle.editing.specs.declared.Changed.{Changed}
 use Rattle.specification.specs.declared.Connection.{Connection}
 use Rattle.specification.specs.declared.Connection.TheVariants.{Unreached}
 use Rattle.specification.specs.declared.Reply.{Reply}
-use Rattle.specification.specs.Machine.{Graph, Call, Answer, contains, reached?, verdict, refusal, step, start_vertices, fresh, Lawful}
+use Rattle.specification.specs.Machine.{Graph, Call, Answer, contains, reached?, verdict, step, start_vertices, fresh, Lawful}
 use Rattle.specification.specs.Graph.{size_refusal}
 use Rattle.specification.specs.Lent.{Untouched}
 

@@ -154,6 +154,7 @@ pub fn start(n: usize) -> Changed
 impl Session {
     // The session with the edge from tail to head, or as it was: 3 (an end that is no vertex), 4 (the edge is in), 5 (it would close a
     // cycle) or 9 (4,096 edges are in), the first that applies.
+    #[tactic(auto, using(crate::proofs::Sessions::add_refused))]
     pub fn add(self, tail: usize, head: usize) -> Changed
         ensures { AddPromise self tail head result }
     {

@@ -2,15 +2,19 @@
 // output: `ok`, `refused` with the number, `unreadable`, or how U leads to V, `no`, `arrow`, `longer` or `both` (SPECIFICATION.md, 14.3).
 #![tactic(auto)]
 
-ghost use Rattle.std.specs.Prelude.{◌+◌, ◌≤◌, length};
+ghost use Rattle.std.specs.Prelude.{◌+◌, ◌≤◌, length, IfOk};
 
 use editing::Session;
-use libc::{STDIN_FILENO, STDOUT_FILENO};
 use script::{Outcome, Scanner};
 use specification::Connection;
+use std::io;
+use std::io::Read;
 
 // More reads than any input has: the proof asks for a number that falls.
 const MOST_READS: u64 = 18446744073709551615;
+
+// How many bytes a read gets at most, and answers wait for.
+const BUFFER: usize = 65536;
 
 // The session, the line that is being read, and whether it has a byte.
 #[derive(Clone, Copy)]
@@ -21,15 +25,15 @@ struct State {
 }
 
 // Writes what the output holds where less than a line's room is left; answers where the next line begins.
-fn make_room(output: &[u8], used: usize) -> usize
+fn make_room(rt: &impl Print, output: &[u8], used: usize) -> io::Result<usize>
     requires { (used ≤ length output.now) × (16 ≤ length output.now) }
-    ensures { result + 16 ≤ length output.now }
+    ensures { IfOk result (λ r. r + 16 ≤ length output.now) }
 {
     if output.len() - used < 16 {
-        io::write_all(STDOUT_FILENO, &output[..used]);
-        return 0;
+        rt.write_all(&output[..used])?;
+        return Ok(0);
     }
-    used
+    Ok(used)
 }
 
 // The last digit of a number, and the line's end.
@@ -86,7 +90,7 @@ fn put_outcome(output: &mut [u8], used: usize, outcome: Outcome) -> usize
 }
 
 // Answers the lines that end in the input, and writes the answers.
-fn feed<'a>(state: State, input: &'a [u8], output: &mut [u8]) -> State
+fn feed<'a>(rt: &impl Print, state: State, input: &'a [u8], output: &mut [u8]) -> io::Result<State>
     requires { 16 ≤ length output.old }
 {
     let mut session = state.session;
@@ -102,24 +106,24 @@ fn feed<'a>(state: State, input: &'a [u8], output: &mut [u8]) -> State
             session = next;
             scanner = Scanner::new();
             begun = false;
-            let at = make_room(output, used);
+            let at = make_room(rt, output, used)?;
             used = put_outcome(output, at, outcome);
         } else {
             scanner = scanner.step(byte);
             begun = true;
         }
     }
-    io::write_all(STDOUT_FILENO, &output[..used]);
-    State {
+    rt.write_all(&output[..used])?;
+    Ok(State {
         session,
         scanner,
         begun,
-    }
+    })
 }
 
-fn main() {
-    let mut input = io::large_buffer();
-    let mut output = io::large_buffer();
+fn main(rt: HostRuntime) -> io::Result<()> {
+    let mut input = [0u8; BUFFER];
+    let mut output = [0u8; BUFFER];
     let none = editing::start(0);
     let session = none.session;
     let mut state = State {
@@ -128,14 +132,14 @@ fn main() {
         begun: false,
     };
     for turn in 0..MOST_READS {
-        let got = libc::read(STDIN_FILENO, &mut input);
-        let n = io::count(got, &input);
+        let n = rt.stdin().read(&mut input)?;
         if n == 0 {
             break;
         }
-        state = feed(state, &input[..n], &mut output);
+        state = feed(&rt, state, &input[..n], &mut output)?;
     }
     if state.begun {
-        feed(state, b"\n", &mut output);
+        feed(&rt, state, b"\n", &mut output)?;
     }
+    Ok(())
 }

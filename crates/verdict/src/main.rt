@@ -1,17 +1,19 @@
 // Prints whether the record on standard input is accepted, or the number of its refusal (SPECIFICATION.md, 14.2).
 #![tactic(auto)]
 
-use libc::{STDIN_FILENO, STDOUT_FILENO};
+use std::io;
+use std::io::Read;
 
-fn main() {
-    let mut buffer = io::large_buffer();
-    let got = io::read_full(STDIN_FILENO, &mut buffer);
-    let r = record::reading::read(&buffer[..got]);
+// One byte more than a record may have: a longer input is refused by as many of its bytes.
+const MOST_READ: u64 = 65536;
+
+fn main(rt: HostRuntime) -> io::Result<()> {
+    let mut bytes = Vec::new(rt.alloc());
+    rt.stdin().take(MOST_READ).read_to_end(&mut bytes)?;
+    let r = record::reading::read(bytes.as_slice());
     if r.refusal == 0 {
-        io::write_all(STDOUT_FILENO, b"accepted\n");
-        return;
+        return println!(rt; "accepted");
     }
-    io::write_all(STDOUT_FILENO, b"refused ");
-    io::print_decimal(STDOUT_FILENO, r.refusal as u64);
-    io::write_all(STDOUT_FILENO, b"\n");
+    let number = r.refusal;
+    println!(rt; "refused {number}")
 }
