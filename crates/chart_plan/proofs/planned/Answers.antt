@@ -24,7 +24,7 @@ lent_to k = lent k.before.before.before.before.before.before.before.before.befor
 -- where the checks are made, those that are not of masks have room
 fine : (k : After-check-k) → tested k.args.n (lent_to k) ≡ true
 fine k =
-    tested_so _ true (lent_to k) k.capped.ensures k.is_roomy.ensures (not-false _ k.if-not-is_roomy.false)
+    tested_so _ true (lent_to k) k.capped.ensures k.is_roomy.ensures k.if-not-is_roomy.false
 
 pub returns-then-not-is_roomy : goal.returns-then-not-is_roomy
 returns-then-not-is_roomy c =
