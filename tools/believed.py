@@ -20,15 +20,15 @@ HEAD = re.compile(r'^( *)(?:abbrev |unfoldable )?pub (?:record |data )?([^\s(){}
 USE = re.compile(r'^use (Rattle\S+?)(?:\.\{(.*)\}| as (\S+))$')
 GHOST = re.compile(r'^ghost use (Rattle\S+?)(?:\.\{(.*)\}| as (\S+));$')
 CALL = re.compile(r'\bpub\s+(?:extern\s+"C"\s+)?fn\s+(\w+)')
-# The crate of definitions, that of the exported calls, and those that no chart needs.
+# The crate of definitions, those of the exported calls, and those that no chart needs.
 DEFINED = 'specification'
-EXPORTED = 'ceviloneth'
+EXPORTED = {'ceviloneth', 'ceviloneth_c'}
 SESSIONS = {'editing', 'script', 'page', 'text'}
 
 
 def module_of(path):
-    """The module that an import names: `Rattle·reach·specs.specs.Graph` and `Rattle·reach.specs.Graph` are one."""
-    found = re.match(r'Rattle·(\w+)(?:·specs)?\.(?:specs\.)?(.*)$', path)
+    """The module that an import names: `Rattle.reach.specs.Graph`."""
+    found = re.match(r'Rattle\.(\w+)\.specs\.(.*)$', path)
     return (found.group(1), found.group(2)) if found else None
 
 
@@ -151,7 +151,7 @@ def main():
     chart, exported, every = (set(demanded(root, specs)) for _ in range(3))
     for crate, roots in promised(root, specs):
         every |= roots
-        if crate == EXPORTED:
+        if crate in EXPORTED:
             exported |= roots
         elif crate not in SESSIONS:
             chart |= roots

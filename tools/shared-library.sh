@@ -1,7 +1,7 @@
 #!/usr/bin/env bash
 # Links the proved archive to a shared library that exports the header's calls and nothing else.
 #
-#     rt staticlib ceviloneth
+#     tools/archive.sh
 #     tools/shared-library.sh [ARCHIVE [LIBRARY]]
 #
 # Without arguments they are target/staticlib/libceviloneth.a and target/shared/libceviloneth.so. Fails where the archive lacks a call of
@@ -26,7 +26,7 @@ defined() {
   nm --defined-only --extern-only "$@" | awk '$2 == "T" { print $3 }' | sort -u
 }
 
-[ -f "$archive" ] || fail "$archive is missing: run 'rt staticlib ceviloneth' at the root of the repository"
+[ -f "$archive" ] || fail "$archive is missing: run tools/archive.sh"
 calls=$(declared)
 diff <(echo "$calls") <(defined "$archive") || fail "$header (<) and $archive (>) have different calls"
 

@@ -1,4 +1,4 @@
-//! Links the proved archive: from `CEVILONETH_ARCHIVE_DIR`, else where `rt staticlib ceviloneth` writes it.
+//! Links the proved archive: from `CEVILONETH_ARCHIVE_DIR`, else where `tools/archive.sh` writes it.
 
 use std::env;
 use std::path::{Path, PathBuf};
@@ -10,7 +10,7 @@ fn main() {
     let archive = folder.join("libceviloneth.a");
     println!("cargo:rerun-if-changed={}", archive.display());
     if !archive.is_file() {
-        let asked = "run `rt staticlib ceviloneth` at the root of the repository";
+        let asked = "run `tools/archive.sh`";
         panic!(
             "{} is missing: {asked}, or set {variable}",
             archive.display()

@@ -1,6 +1,6 @@
 /* Draws the record in a file: prints the chart's counts, its words, its first arrows and its bundles.
  *
- *     rt staticlib ceviloneth
+ *     tools/archive.sh
  *     cc -std=c99 -Wall -Iinclude -o target/draw examples/c/draw.c target/staticlib/libceviloneth.a
  *     target/draw samples/p5.record
  */

@@ -1,7 +1,7 @@
 #!/usr/bin/env python3
 """Draws a record, asks how its words lead to each other, or checks a folder of records: the shared library by ctypes alone.
 
-    rt staticlib ceviloneth && tools/shared-library.sh
+    tools/archive.sh && tools/shared-library.sh
     python3 examples/python/ceviloneth.py draw samples/p5.record
     python3 examples/python/ceviloneth.py leads samples/p5.record 0 3
     python3 examples/python/ceviloneth.py check samples

@@ -3,7 +3,7 @@
 
     charts.py [SEED [COUNT]]
 
-Each record is given to target/bin/chart, the samples also in pieces. The samples and the records that take most of the stack are given to
+Each record is given to crates/chart/out/chart, the samples also in pieces. The samples and the records that take most of the stack are given to
 it with a stack of 160 KiB. Listings are those of the samples' and the vectors' files, else the second implementation's. The seed is
 printed, and of the first record with another listing the bytes and the first lines that differ. The last line says how many were
 compared; the exit status is 1 at a difference.
@@ -15,7 +15,7 @@ import sys
 sys.dont_write_bytecode = True
 from records import EDGES, ROOT, VECTORS, WORST, build, by_pieces, listing, output, random_records, vectors
 
-PROGRAM = ROOT / 'target' / 'bin' / 'chart'
+PROGRAM = ROOT / 'crates' / 'chart' / 'out' / 'chart'
 STACK = 160 * 1024
 
 

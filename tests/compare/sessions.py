@@ -3,7 +3,7 @@
 
     sessions.py [SEED [COUNT]]
 
-Each script is given to target/bin/session, some also in pieces or without the last line feed. Answers are those of the file of vectors,
+Each script is given to crates/session/out/session, some also in pieces or without the last line feed. Answers are those of the file of vectors,
 else the second implementation's. The seed is printed, and of the first script with another answer the lines since its last start, with
 both answers. The last line says which answers were seen; the exit status is 1 at a difference, or where one was not seen.
 """
@@ -15,7 +15,7 @@ import sys
 sys.dont_write_bytecode = True
 from records import REFERENCE, ROOT, build, by_pieces, dense, output
 
-PROGRAM = ROOT / 'target' / 'bin' / 'session'
+PROGRAM = ROOT / 'crates' / 'session' / 'out' / 'session'
 SECOND = REFERENCE / 'target' / 'release' / 'session'
 ANSWERS = {'ok', 'no', 'arrow', 'longer', 'both', 'unreadable', *(f'refused {number}' for number in [2, 3, 4, 5, 9])}
 

@@ -3,7 +3,7 @@
 
     verdicts.py [SEED [COUNT]]
 
-Each record is given to target/bin/verdict; what it prints must be `accepted` where the second implementation draws a chart or finds it
+Each record is given to crates/verdict/out/verdict; what it prints must be `accepted` where the second implementation draws a chart or finds it
 broad, else its refusal. The first record with another answer is printed. The seed is printed.
 """
 import subprocess
@@ -12,7 +12,7 @@ import sys
 sys.dont_write_bytecode = True
 from records import EDGES, ROOT, VECTORS, build, random_records, vectors
 
-PROGRAM = ROOT / 'target' / 'bin' / 'verdict'
+PROGRAM = ROOT / 'crates' / 'verdict' / 'out' / 'verdict'
 BROAD = 'refused 11'
 
 

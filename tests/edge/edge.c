@@ -1,7 +1,7 @@
 /* The edge test: header and archive are of one version, each list of each call may be (NULL, 0), and entries, questions and the page's
  * rows are by the header's names.
  *
- *     rt staticlib ceviloneth
+ *     tools/archive.sh
  *     cc -std=c99 -O1 -Wall -Iinclude -o target/edge tests/edge/edge.c target/staticlib/libceviloneth.a
  *     target/edge
  *

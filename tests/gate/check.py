@@ -7,27 +7,33 @@
     check.py sizes [ROOT]       the lengths of lists that the header names are those of the theorem that 8 is not answered, the numbers of an
                                 entry and the limits those of the definitions
     check.py lines [ROOT]       no line of a definition or a proof (.antt) has more than 140 characters
-    check.py logs [ROOT]        after rt ci: every must-fail edit was refused by the fact that its comment names
+    check.py logs [ROOT]        by target/ci.log, what rt ci said: every must-fail edit was refused by the fact that its comment names
 
 The rules: a public call (`pub fn`, exported ones and methods too; not `pub(crate)`) has no `requires`, has a result, has an `ensures`
 that speaks of the result, and for each `&mut` parameter an `ensures` that speaks of it at exit. Exit status 1 where something is wrong.
 
-An edit has a line `# breaks: FILE, DEFINITION: the fact, in words`: where the prover's first error lies. FILE is without its ending, from
-the crate's folder; in a record the row follows the definition, `table.p2`. Of a function without a proof file the place is `crate::name`
-and the part that is not proved. An error that only follows from one before (`was not admitted`) is passed over.
+An edit has a line `# breaks: FILE, DEFINITION: the fact, in words`: where the prover's first error lies, of which rt ci prints the first
+line. FILE is without its ending, from the crate's folder; in a record the row follows the definition, `table.p2`. Of a goal that no proof
+file answers the place is `crate::function` and the goal. An edit that rt ci could not try, or that only takes a name away which a proof
+file cites, shows nothing of a fact.
 """
 import re
 import sys
 from pathlib import Path
 
 CALL = re.compile(r'\bpub\s+(?:extern\s+"C"\s+)?fn\s+(\w+)\s*(?:<[^>]*>)?\s*\(')
-CLAUSE = re.compile(r'\s*(requires|ensures|ghost)\b\s*\w*\s*\{')
+CLAUSE = re.compile(r'\s*(requires|ensures|ghost)\b\*?\s*\w*\s*\{')
 WIDTH = 140
 LENT = re.compile(r"(\w+)\s*:\s*&\s*(?:'\w+\s+)?mut\b")
 
 BREAKS = re.compile(r'^# breaks: (\S+), (\S+): \S', re.M)
+TRIED = re.compile(r'^rt: must-fail (\w+/[\w.-]+)\.edit: (.*)')
+REFUSED = re.compile(r'refused, as it must be(?: \((only [^:]*)\))?: (?:\./)?(.*)')
 ERROR = re.compile(r'^(\S+)\.(?:antt|rt)(?::(\d+):\d+)?: error: (?:`([^`]+)`: )?(.*)')
-UNPROVED = re.compile(r'^fn (\S+): no proof: .* does not close `([^`]+)`')
+# a goal without an answer; rt cuts a long line off
+UNPROVED = re.compile(r'^note: (?:\./)?src/(\S+)\.rt:(\d+):\d+: it is not proved .*?\(`([^`]+)(`?)')
+FUNCTION = re.compile(r'^( *)(?:pub(?:\(\w+\))? )?(?:const |unsafe |extern "C" )*fn (\w+)')
+IMPL = re.compile(r'^impl(?:<.*?>)? (?:[\w:]+(?:<.*?>)? for )?(\w+)')
 # what the prover says where a proof file does not fit the code, or a name is not there: then no fact was tried
 UNFIT = re.compile(r'has no (field|function|such)|(not in|in no) scope|can(not)? be named|is not (declared|there)|does not define'
                    r'|no such|no equation of the list has an instance|no occurrence')
@@ -67,9 +73,8 @@ def calls(text):
 
 
 def speaks_of_result(promise):
-    """Whether λ r. .. uses r."""
-    bound = re.match(r'\s*λ\s+([^\s.]+)\s*\.(.*)', promise, flags=re.S)
-    return bool(bound) and bool(re.search(r'(?<![\w-])' + re.escape(bound.group(1)) + r'(?![\w-])', bound.group(2)))
+    """Whether a clause uses `result`."""
+    return bool(re.search(r"(?<![\w.-])result(?![\w'?-])", promise))
 
 
 def faults(has_result, clauses, lent):
@@ -82,7 +87,7 @@ def faults(has_result, clauses, lent):
     if not any(speaks_of_result(promise) for promise in promises):
         yield 'has no promise about its result'
     for name in lent:
-        at_exit = re.compile(r'(?<![\w-])«?' + re.escape(name) + r'»?\s*\.exit\b')
+        at_exit = re.compile(r'(?<![\w.-])«?' + re.escape(name) + r'»?\.new\b')
         if not any(at_exit.search(promise) for promise in promises):
             yield f'has no promise about the contents of {name} at exit'
 
@@ -99,7 +104,7 @@ def check_promises(root):
 
 def check_listed(root):
     lines = (line.split('#')[0] for line in (root / 'crates.txt').read_text().splitlines())
-    listed = {line.split(':')[0].strip() for line in lines if ':' in line}
+    listed = {line.split(':')[0].split()[0] for line in lines if ':' in line}
     folders = {path.name for path in (root / 'crates').iterdir()}
     wrong = [f'crates/{name} is not in crates.txt' for name in sorted(folders - listed)]
     wrong += [f'crates.txt names {name}, which crates/ lacks' for name in sorted(listed - folders)]
@@ -112,7 +117,8 @@ def check_named(root):
     page = (root / 'docs' / 'PROMISES.md').read_text()
     quoted = set(re.findall(r'`([^`\n]+)`', page))
     crates = {folder.name: folder for folder in (root / 'crates').iterdir()}
-    sources = [path for crate in crates.values() for path in crate.rglob('*') if path.suffix in ('.rt', '.antt')]
+    sources = [path for crate in crates.values() for part in ('src', 'specs', 'proofs') for path in (crate / part).rglob('*')
+               if path.suffix in ('.rt', '.antt')]
     known = set(re.split(r'[\s(){}<>;,.:]+', ' '.join(path.read_text() for path in sources)))
     edits = {f'{name}/{edit.stem}' for name, crate in crates.items() for edit in crate.glob('must-fail/*.edit')}
     wrong = [f'names no edit {edit}' for edit in sorted(edits - quoted)]
@@ -146,25 +152,37 @@ def row_at(source, definition, line):
     return definition
 
 
-def first_error(log, folder):
-    """Where the first error of a log lies, as a comment names it, and what it says."""
-    for text in log.splitlines():
-        if found := UNPROVED.match(text):
-            return found.groups(), ''
-        found = ERROR.match(text)
-        if found and 'was not admitted' not in found.group(4):
-            file, line, definition, said = found.groups()
-            file = file.removeprefix(f'{folder}/')
-            source = folder / f'{file}.antt'
-            lines = source.read_text().splitlines() if source.exists() else []
-            return (file, row_at(lines, definition or '?', int(line or 0))), said
-    return ('nowhere', '?'), 'no error'
+def function_at(source, line, where):
+    """The function that a line of a source file stands in, by its path: `crate::module::Type::name`."""
+    for place in range(line, 0, -1):
+        found = FUNCTION.match(source[place - 1])
+        if found:
+            types = [IMPL.match(text) for text in reversed(source[:place])] if found.group(1) else []
+            own = next((impl.group(1) for impl in types if impl), None)
+            return '::'.join([*where, *([own] if own else []), found.group(2)])
+    return '::'.join([*where, '?'])
+
+
+def first_error(said, folder):
+    """Where the first error lies, as a comment names it, whether the name is whole, and what is said of it."""
+    if found := UNPROVED.match(said):
+        file, line, goal, end = found.groups()
+        modules = [] if file in ('lib', 'main') else file.split('/')
+        source = folder / 'src' / f'{file}.rt'
+        lines = source.read_text().splitlines() if source.exists() else []
+        return (function_at(lines, min(int(line), len(lines)), [folder.name, *modules]), goal), bool(end), ''
+    if found := ERROR.match(said):
+        file, line, definition, said = found.groups()
+        source = folder / f'{file}.antt'
+        lines = source.read_text().splitlines() if source.exists() else []
+        return (file, row_at(lines, definition or '?', int(line or 0))), True, said
+    return ('nowhere', '?'), True, said
 
 
 def restates(folder, file, definition):
     """Whether a law only opens a definition's clauses: `unfolding`, and by computation alone. Examples and functions' proofs do not."""
     source = folder / f'{file}.antt'
-    if not source.exists() or file == 'proofs/Table' or file.endswith('/Proof') or '/Examples/' in file:
+    if not source.exists() or file == 'proofs/Table' or re.match(r'proofs/.+/(Answers|Invariants|Proof)$', file) or '/Examples/' in file:
         return False
     name = re.escape(definition.split('.')[0])
     law = re.search(rf'^[ ]*(?:pub )?{name} :.*?(?=\n\s*\n|\Z)', source.read_text(), re.M | re.S)
@@ -172,39 +190,44 @@ def restates(folder, file, definition):
     return bool(clauses) and 'unfolding' in law.group() and all(re.match(r'(refl|rw|simp)\b', clause) for clause in clauses)
 
 
-def edit_faults(edit, folder):
-    """What is wrong with an edit and its log, in words."""
+def edit_faults(edit, folder, said):
+    """What is wrong with an edit and with what rt ci said of it, in words."""
     named = BREAKS.search(edit.read_text())
-    log = folder / '.log'
     if not named:
         yield 'has no line `# breaks: FILE, DEFINITION: the fact`'
-    if not log.exists():
-        yield 'has no log: run rt ci first'
+    if said is None:
+        yield 'was not tried: run rt ci first'
         return
-    place, said = first_error(log.read_text(), folder)
-    if UNFIT.search(said) or re.match(r'(Inv|μ)-', place[1]):
+    refused = REFUSED.match(said)
+    if not refused:
+        yield f'is not refused: {said[:200]}'
+        return
+    place, whole, said = first_error(refused.group(2), folder)
+    if (refused.group(1) or '').startswith('only because') or UNFIT.search(said) or place[0].endswith('/Invariants'):
         yield f'fails since a proof does not fit, no fact: {", ".join(place)}: {said[:200]}'
     if place[0].startswith('specs/') and '/Examples/' not in place[0]:
         yield f'is no definition: {", ".join(place)}: {said[:200]}'
     if restates(folder, *place):
         yield f'fails in a law that only restates a definition: {", ".join(place)}'
-    if named and named.groups() != place:
+    if named and named.groups() != place and (whole or named.group(1) != place[0] or not named.group(2).startswith(place[1])):
         yield f'breaks {", ".join(place)}, not {", ".join(named.groups())}'
 
 
 def check_logs(root):
+    log = root / 'target' / 'ci.log'
+    tried = dict(found.groups() for found in map(TRIED.match, log.read_text().splitlines()) if found) if log.exists() else {}
     seen, wrong = 0, []
     for edit in sorted(root.glob('crates/*/must-fail/*.edit')):
         seen += 1
-        crate = edit.parts[-3]
-        wrong += [f'{crate}/{edit.stem} {fault}' for fault in edit_faults(edit, root / 'target' / 'must-fail' / crate / edit.stem)]
+        name = f'{edit.parts[-3]}/{edit.stem}'
+        wrong += [f'{name} {fault}' for fault in edit_faults(edit, edit.parents[1], tried.get(name))]
     print('\n'.join(wrong + [f'{seen} edits, {len(wrong)} faults']))
     return seen > 0 and not wrong
 
 
 # names of the header's numbers, and those of the definitions that they must be
-ENTRIES = {'word_numbers': 'wordNumbers', 'arrow_numbers': 'arrowNumbers', 'bundle_numbers': 'bundleNumbers'}
-LIMITS = {'lines': 'mostChannels', 'rows': 'pageRows', 'most_floor': 'mostFloor'}
+ENTRIES = {name: name for name in ('word_numbers', 'arrow_numbers', 'bundle_numbers')}
+LIMITS = {'lines': 'most_channels', 'rows': 'page_rows', 'most_floor': 'most_floor'}
 
 
 def defined(text, name):
@@ -235,7 +258,7 @@ def check_sizes(root):
 
 
 def check_lines(root):
-    paths = sorted(root.glob('crates/**/*.antt'))
+    paths = sorted(path for part in ('specs', 'proofs') for path in root.glob(f'crates/*/{part}/**/*.antt'))
     lines = ((path, number, line) for path in paths for number, line in enumerate(path.read_text().splitlines(), 1))
     wrong = [f'{path.relative_to(root)}:{number}: {len(line)} characters' for path, number, line in lines if len(line) > WIDTH]
     print('\n'.join(wrong + [f'{len(paths)} files, {len(wrong)} lines of more than {WIDTH} characters']))

@@ -18,13 +18,25 @@ SIZES = '''#define CEVILONETH_WORD_NUMBERS 6
 #define CEVILONETH_MOST_FLOOR 127
 '''
 STATED = 'pub words : 768 ≤ length ws\npub arrows : 20480 ≤ length es\npub bundles : 1024 ≤ length bs\n'
-NUMBERS = 'wordNumbers = 6\narrowNumbers = 5\nbundleNumbers = 4\n'
-LIMITS = 'mostVertices = 128\nmostChannels = 31\nmostFloor = 127\nlongestPath = mostVertices\npageRows = mostFloor + longestPath\n'
+NUMBERS = 'word_numbers = 6\narrow_numbers = 5\nbundle_numbers = 4\n'
+LIMITS = 'most_vertices = 128\nmost_channels = 31\nmost_floor = 127\nlongest_path = most_vertices\npage_rows = most_floor + longest_path\n'
 
-KEEPS = 'pub fn f(a: &mut [u8]) -> u8\n    ensures { λ r. ⌜ (r ≡ 0) × (now (a .exit) ≡ now (a .entry)) ⌝ }\n{ 0 }\n'
+KEEPS = 'pub fn f(a: &mut [u8]) -> u8\n    ensures none { result ≡ 0 }\n    ensures kept { a.new ≡ a.old }\n{ 0 }\n'
 
 EDIT = '# breaks: proofs/Laws, law: words'
-FACT = 'proofs/Laws.antt:5:9: error: `law`: types differ'
+REFUSED = 'refused, as it must be: '
+FACT = REFUSED + './proofs/Laws.antt:5:9: error: `law`: types differ'
+OPEN = REFUSED + 'note: src/lib.rt:7:9: it is not proved that what the function ensures holds when it returns (`returns`)'
+SOURCE = '''pub fn f() -> u8 {
+    0
+}
+
+impl<'a> Kept for S<'a> {
+    pub fn g(self) -> u8 {
+        0
+    }
+}
+'''
 LAWS = '''-- laws
 pub law : one ≡ two
 unfolding one
@@ -45,21 +57,22 @@ table = record {
 '''
 
 # a name, the check, crates.txt (of logs: the edit), the source of the crate `one`, its definitions, the page, the header
-# or the log to check, and what must be said; nothing where the check must pass
+# or what rt ci said of the edit, and what must be said; nothing where the check must pass
 CASES = [
     ('a call that keeps the rules', 'promises', 'one:\n', KEEPS, None),
-    ('a private call may require', 'promises', 'one:\n', 'fn f(n: u8)\n    requires { ⌜ n < 9 ⌝ }\n{}\n', None),
-    ('a call within the crate may require', 'promises', 'one:\n', 'pub(crate) fn f(n: u8)\n    requires { ⌜ n < 9 ⌝ }\n{}\n', None),
+    ('a private call may require', 'promises', 'one:\n', 'fn f(n: u8)\n    requires { n < 9 }\n{}\n', None),
+    ('a call within the crate may require', 'promises', 'one:\n', 'pub(crate) fn f(n: u8)\n    requires { n < 9 }\n{}\n', None),
     ('a call in a comment is none', 'promises', 'one:\n', '// pub fn f() {}\n', None),
-    ('a requires', 'promises', 'one:\n', 'pub fn f(n: u8) -> u8\n    requires { ⌜ n < 9 ⌝ }\n    ensures { λ r. ⌜ r ≡ n ⌝ }\n{ n }\n', 'f has a requires'),
-    ('no result', 'promises', 'one:\n', 'pub fn f(n: u8)\n    ensures { λ _. ⌜ n ≡ n ⌝ }\n{}\n', 'f has no result'),
+    ('a requires', 'promises', 'one:\n', 'pub fn f(n: u8) -> u8\n    requires { n < 9 }\n    ensures { result ≡ n }\n{ n }\n', 'f has a requires'),
+    ('no result', 'promises', 'one:\n', 'pub fn f(n: u8)\n    ensures { n ≡ n }\n{}\n', 'f has no result'),
     ('no promise', 'promises', 'one:\n', 'pub fn f() -> u8 { 0 }\n', 'f has no promise about its result'),
-    ('a promise that leaves the result out', 'promises', 'one:\n', 'pub fn f(n: u8) -> u8\n    ensures { λ r. ⌜ n ≡ n ⌝ }\n{ n }\n', 'f has no promise about its result'),
-    ('an exported call', 'promises', 'one:\n', '#[no_mangle]\npub extern "C" fn f() -> u8 { 0 }\n', 'f has no promise about its result'),
+    ('a promise that leaves the result out', 'promises', 'one:\n', 'pub fn f(n: u8) -> u8\n    ensures { n ≡ n }\n{ n }\n', 'f has no promise about its result'),
+    ('an exported call', 'promises', 'one:\n', '#[unsafe(no_mangle)]\npub extern "C" fn f() -> u8 { 0 }\n', 'f has no promise about its result'),
     ('a method', 'promises', 'one:\n', "impl S { pub fn f<'a>(self, n: &'a [u8]) -> u8 { 0 } }\n", 'f has no promise about its result'),
-    ('a lent list left out', 'promises', 'one:\n', 'pub fn f(a: &mut [u8]) -> u8\n    ensures { λ r. ⌜ r ≡ 0 ⌝ }\n{ 0 }\n', 'contents of a at exit'),
+    ('a lent list left out', 'promises', 'one:\n', 'pub fn f(a: &mut [u8]) -> u8\n    ensures { result ≡ 0 }\n{ 0 }\n', 'contents of a at exit'),
     ('a second lent list left out', 'promises', 'one:\n', KEEPS.replace('a: &mut [u8]', "a: &mut [u8], b: &'b mut [u8]"), 'contents of b at exit'),
     ('a listed crate', 'listed', 'one: # with a comment\n', KEEPS, None),
+    ('a listed static library', 'listed', 'one staticlib: two\n', KEEPS, None),
     ('an unlisted crate', 'listed', '# one:\n', KEEPS, 'crates/one is not in crates.txt'),
     ('a listed crate without a folder', 'listed', 'one:\ntwo: one\n', KEEPS, 'crates/ lacks'),
     ('a page that names what is there', 'named', 'one:\n', '`one/wrong`, `one::f`', None),
@@ -76,31 +89,47 @@ CASES = [
     ('a floor of another number', 'sizes', 'one:\n', SIZES.replace('127', '128'), "most_floor: the header has ['128'], the theorem ['127']"),
     ('lines that fit', 'lines', 'one:\n', 'ab\n' + 'λ' * 140 + '\n', None),
     ('a long line', 'lines', 'one:\n', 'ab\n' + 'λ' * 141 + '\n', 'crates/one/specs/Lines.antt:2: 141 characters'),
-    ('a refusal by the fact that is named', 'logs', EDIT, 'proofs/Laws.antt:5:9: error: `law`: types differ', None),
-    ('an error that follows from another', 'logs', EDIT, 'proofs/A.antt:1:1: error: `a`: `law` was not admitted\n' + FACT, None),
-    ('a row of a record', 'logs', EDIT.replace('law:', 'table.two:'), 'proofs/Laws.antt:15:9: error: `table`: types differ', None),
-    ('a function without a proof file', 'logs', '# breaks: one::f, returns: words', 'fn one::f: no proof: `search` does not close `returns`', None),
+    ('a refusal by the fact that is named', 'logs', EDIT, FACT, None),
+    ('an error that follows from another', 'logs', EDIT, REFUSED + './proofs/A.antt:1:1: error: 1 declaration that depends on `law`, which was rejected', 'breaks proofs/A, ?'),
+    ('a row of a record', 'logs', EDIT.replace('law:', 'table.two:'), FACT.replace('5:9', '15:9').replace('law', 'table'), None),
+    ('a function without a proof file', 'logs', '# breaks: one::f, returns: words', OPEN.replace(':7:', ':2:'), None),
+    ('a method without a proof file', 'logs', '# breaks: one::S::g, returns: words', OPEN, None),
+    ('a function of another file', 'logs', '# breaks: one::part::f, returns: words', OPEN.replace('lib.rt:7', 'part.rt:2'), None),
+    ('a goal that is cut off', 'logs', '# breaks: one::S::g, returns-then-a: words', OPEN.replace('returns`)', 'returns-th'), None),
+    ('another goal', 'logs', '# breaks: one::S::g, returns-then-a: words', OPEN, 'breaks one::S::g, returns, not'),
+    ('a goal of another function', 'logs', '# breaks: one::f, returns: words', OPEN, 'breaks one::S::g, returns, not'),
+    ('a goal that is cut off, of another function', 'logs', '# breaks: one::f, returns-then-a: words', OPEN.replace('returns`)', 'returns-th'), 'breaks one::S::g'),
     ('an edit that names no fact', 'logs', '# a comment', FACT, 'has no line'),
-    ('an edit without a log', 'logs', EDIT, None, 'has no log'),
-    ('another place', 'logs', EDIT, 'proofs/Laws.antt:5:9: error: `other`: types differ', 'breaks proofs/Laws, other, not proofs/Laws, law'),
-    ('another row', 'logs', EDIT.replace('law:', 'table.one:'), 'proofs/Laws.antt:15:9: error: `table`: types differ', 'breaks proofs/Laws, table.two'),
-    ('no error at all', 'logs', EDIT, 'logic=not-proved', 'breaks nowhere'),
-    ('a need that is not there', 'logs', EDIT, FACT.replace('types differ', 'module `one.Tie` has no `Need-x` that can be named from here'), 'does not fit'),
+    ('an edit that was not tried', 'logs', EDIT, None, 'run rt ci first'),
+    ('an edit whose check gave no verdict', 'logs', EDIT, 'NOT TRIED: its check was killed', 'is not refused'),
+    ('an edit that cannot be applied', 'logs', EDIT, "BAD EDIT: an 'old:' text is in src/lib.rt 0 times", 'is not refused: BAD EDIT'),
+    ('an edit that is proved', 'logs', EDIT, 'NOT REFUSED: the crate is still proved with this edit', 'is not refused: NOT REFUSED'),
+    ('an edit that takes a name away', 'logs', EDIT, FACT.replace('be:', 'be (only because a proof file names what the edit took away):'), 'does not fit'),
+    ('a limit of the prover', 'logs', EDIT, FACT.replace('be:', 'be (only by a limit of the prover, which gave no verdict):'), None),
+    ('another place', 'logs', EDIT, FACT.replace('law', 'other'), 'breaks proofs/Laws, other, not proofs/Laws, law'),
+    ('another row', 'logs', EDIT.replace('law:', 'table.one:'), FACT.replace('5:9', '15:9').replace('law', 'table'), 'breaks proofs/Laws, table.two'),
+    ('no error at all', 'logs', EDIT, REFUSED + 'logic=not-proved', 'breaks nowhere'),
+    ('a need that is not there', 'logs', EDIT, FACT.replace('types differ', 'module `one.Goals` has no `x` that can be named from here'), 'does not fit'),
     ('a field that is not there', 'logs', EDIT, FACT.replace('types differ', 'record `Args` has no field `v`'), 'does not fit'),
     ('a name out of scope', 'logs', EDIT, FACT.replace('types differ', '`x` is not in scope'), 'does not fit'),
-    ('a function that is not there', 'logs', EDIT, 'proofs/f/Proof.antt: error: `one` has no function `f` for this file', 'does not fit'),
+    ('a function that is not there', 'logs', EDIT, REFUSED + './proofs/f/Answers.antt: error: `one` has no function `f` for this file', 'does not fit'),
     ('a rewriting that finds nothing', 'logs', EDIT, FACT.replace('types differ', '`simp`: no equation of the list has an instance'), 'does not fit'),
-    ('an invariant of other locals', 'logs', EDIT.replace('law:', 'Inv-loop:'), FACT.replace('`law`', '`Inv-loop`'), 'does not fit'),
-    ('a definition without a type', 'logs', EDIT.replace('proofs', 'specs'), 'specs/Laws.antt:5:9: error: `law`: types differ', 'is no definition'),
-    ('a law that restates', 'logs', EDIT.replace('law:', 'opened:'), 'proofs/Laws.antt:9:1: error: `opened`: types differ', 'only restates'),
+    ('an invariant of other locals', 'logs', EDIT.replace('Laws, law:', 'f/Invariants, invariant-loop:'), FACT.replace('Laws', 'f/Invariants').replace('law', 'invariant-loop'), 'does not fit'),
+    ('a definition without a type', 'logs', EDIT.replace('proofs', 'specs'), FACT.replace('proofs', 'specs'), 'is no definition'),
+    ('a law that restates', 'logs', EDIT.replace('law:', 'opened:'), FACT.replace('5:9', '9:1').replace('law', 'opened'), 'only restates'),
+    ('an answer that restates', 'logs', EDIT.replace('Laws, law:', 'f/Answers, opened:'), FACT.replace('Laws.antt:5:9', 'f/Answers.antt:9:1').replace('law', 'opened'), None),
 ]
 
 
-def write_log(tried, log):
-    Path(tried, 'proofs').mkdir(parents=True)
-    Path(tried, 'proofs/Laws.antt').write_text(LAWS)
-    if log is not None:
-        Path(tried, '.log').write_text(''.join(f'{tried}/{line}\n' if line.startswith(('proofs', 'specs')) else f'{line}\n' for line in log.splitlines()))
+def write_log(root, said):
+    for file in ('Laws', 'f/Answers'):
+        path = Path(root, f'crates/one/proofs/{file}.antt')
+        path.parent.mkdir(parents=True)
+        path.write_text(LAWS)
+    for file in ('lib', 'part'):
+        Path(root, f'crates/one/src/{file}.rt').write_text(SOURCE)
+    Path(root, 'target').mkdir()
+    Path(root, 'target/ci.log').write_text('rt: one proved\n' + (f'rt: must-fail one/wrong.edit: {said}\n' if said else ''))
 
 
 def run(check, crates, source):
@@ -121,7 +150,7 @@ def run(check, crates, source):
         if check == 'lines':
             Path(folder, 'crates/one/specs/Lines.antt').write_text(source)
         if check == 'logs':
-            write_log(Path(folder, 'target/must-fail/one/wrong'), source)
+            write_log(folder, source)
         done = subprocess.run([sys.executable, CHECK, check, folder], capture_output=True, text=True)
         return done.returncode, done.stdout
 

@@ -1,7 +1,7 @@
 /* The memory test: every list lies between pages that can't be touched, at the lower or at the upper one, and records can only be
  * read. Sound and damaged records, short lists and nonsense go in; a refusal must change nothing, and an answer only what it needs.
  *
- *     rt staticlib ceviloneth
+ *     tools/archive.sh
  *     cc -std=c99 -O1 -Wall -Iinclude -o target/memory tests/memory/memory.c target/staticlib/libceviloneth.a
  *     target/memory
  *

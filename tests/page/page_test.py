@@ -3,7 +3,7 @@
 
 Needs the tool `svg` (apps/target/release/svg, or what SVG names) and a browser: what CHROME names, or chromium, chromium-browser,
 google-chrome or google-chrome-stable on the path. Where no browser is installed nothing is tried, which one line says. What the page
-answers is compared with the proved program too where that is there (target/bin/session, or what SESSION names).
+answers is compared with the proved program too where that is there (crates/session/out/session, or what SESSION names).
 Exit status 1 where something differs, or where the browser does not run. With --installed it only tells by its exit status whether
 there is a browser.
 """
@@ -20,7 +20,7 @@ sys.dont_write_bytecode = True
 import browser
 from tried import BOXES, FLOORS, QUICK, ROOT, STATE, Tried, counts, expect, wrong
 
-SESSION = Path(os.environ.get('SESSION', ROOT / 'target' / 'bin' / 'session'))
+SESSION = Path(os.environ.get('SESSION', ROOT / 'crates' / 'session' / 'out' / 'session'))
 SESSION_THERE = 'SESSION' in os.environ or SESSION.exists()
 SMALL = ('p1', 'p5', 'p6', 'editor', 'house', 'centuries')
 # seconds for all

@@ -2,7 +2,7 @@
 """The example in Python: what it draws is each sample's listing, and that of the program `chart` for records with floors, what it checks is
 what that program says, words lead to each other by the arrows, and errors are told.
 
-Needs target/shared/libceviloneth.so (tools/shared-library.sh) and target/bin/chart. Exit status 1 where something differs.
+Needs target/shared/libceviloneth.so (tools/shared-library.sh) and crates/chart/out/chart. Exit status 1 where something differs.
 """
 import os
 import shutil
@@ -49,7 +49,7 @@ def expect_error(what, said, text):
 
 def charted(path):
     """What the program prints for a record."""
-    said = subprocess.run([ROOT / 'target' / 'bin' / 'chart'], stdin=path.open('rb'), capture_output=True, text=True, check=True)
+    said = subprocess.run([ROOT / 'crates' / 'chart' / 'out' / 'chart'], stdin=path.open('rb'), capture_output=True, text=True, check=True)
     return said.stdout
 
 

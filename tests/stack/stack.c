@@ -3,7 +3,7 @@
  * are refused, and the files that are named.
  * Every answer must be the one that is given on the main thread's large stack.
  *
- *     rt staticlib ceviloneth
+ *     tools/archive.sh
  *     cc -std=c99 -O1 -Wall -pthread -Iinclude -o target/stack tests/stack/stack.c target/staticlib/libceviloneth.a
  *     target/stack [--bytes N] [RECORD ..]
  *

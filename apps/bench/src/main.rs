@@ -25,7 +25,7 @@ Exit status: 0 done; 1 a ratio is over; 2 wrong use, or a file can't be written.
 
 const HEAD: &str = "# Benchmarks
 
-Made by one command, from the root of the repository, after `rt staticlib ceviloneth`:
+Made by one command, from the root of the repository, after `tools/archive.sh`:
 
     (cd apps && cargo run --release --offline --quiet -p bench -- --plot ../docs/pictures/cost.svg) > docs/BENCHMARKS.md
 

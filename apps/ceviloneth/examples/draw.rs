@@ -1,6 +1,6 @@
 //! Draws the record in a file, follows its arrows in a session, and places the first one on a page.
 //!
-//!     rt staticlib ceviloneth
+//!     tools/archive.sh
 //!     cd apps && cargo run --release --offline --example draw -- ../samples/p1.record
 
 use ceviloneth::{stroke_straight, Chart, Place, Refusal, Session};
