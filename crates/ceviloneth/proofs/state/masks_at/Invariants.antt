@@ -1,0 +1,11 @@
+use Rattle.counting.proofs.Prelude.{refl, ℕ, ◌+◌, ◌-◌, ◌≤◌, arith, get_or, replicate, rules}
+use Rattle.specification.specs.Lent.{Filled}
+use Rattle.counting.proofs.Stores.{filled_none, filled_more}
+use Rattle.ceviloneth.proofs.Spelling.{copied}
+use Rattle.ceviloneth.proofs.state.masks_at.Given as goal
+
+abbrev pub invariant-loop-i : goal.invariant-loop-i
+invariant-loop-i l = (l.i ≤ 256) × Filled (replicate 256 0) (λ (k : ℕ). get_or l.state (l.first + k) 0) l.i l.masks
+
+abbrev pub decreases-loop-i : goal.decreases-loop-i
+decreases-loop-i l = 256 - l.i
