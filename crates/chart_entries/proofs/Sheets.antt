@@ -25,7 +25,7 @@ use Rattle.chart_plan.proofs.Judging.{graph_refused, graph_whole, record_good}
 use Rattle.chart_plan.proofs.Nothing.{empty}
 use Rattle.reduction.specs.Reduction.{transitive_in?}
 use Rattle.chart_plan.proofs.Shortage.{enough, lent-short, lent-whole}
-use Rattle.fields.proofs.Standing.{LaidOut, layout_good}
+use Rattle.fields.proofs.Standing.{layout_good}
 use Rattle.chart_entries.specs.declared.Sheet.{Sheet}
 use Rattle.chart_entries.specs.Steps.Entries.{vertex_at, kind_by, kind_at, edge_at, bundle_at}
 use Rattle.chart_entries.specs.Steps.Sheets.{blank_of, sheet_of, Drafted, Tables, Room, SheetOf, GraphSheet, RecordSheet, ends_in}

@@ -1,7 +1,7 @@
 -- The next edge is one step of the pass (`entry_more`). Assumes nothing.
-use Rattle.std.proofs.Common.{◌≡◌, ap, ◌∙◌, arith}
+use Rattle.std.proofs.Common.{ap, arith}
 use Rattle.specification.specs.declared.EdgeEntry.{EdgeEntry}
-use Rattle.specification.specs.Pass.{State, as_entries, after}
+use Rattle.specification.specs.Pass.{State, as_entries}
 use Rattle.chart_entries.specs.Steps.Entries.{edge_at}
 use Rattle.lists.proofs.Marking.{after_none, entry_more, after-few}
 use Rattle.chart_entries.proofs.fill_edges.Goals as goal

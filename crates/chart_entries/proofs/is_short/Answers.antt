@@ -7,9 +7,11 @@ module _ (n m k v e b : ℕ) where
   few-vertices : v < n → true ≡ too_short? n m k v e b
   unfolding too_short?
   few-vertices h = rw (lt-ltb _ _ h)
+
   few-edges : n ≤ v → e < m → true ≡ too_short? n m k v e b
   unfolding too_short?
   few-edges g h = rw (le-ltb _ _ g, lt-ltb _ _ h)
+
   -- where the others have room, it is the last that says
   rest : n ≤ v → m ≤ e → ltb b k ≡ too_short? n m k v e b
   unfolding too_short?

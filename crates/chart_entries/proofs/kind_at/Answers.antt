@@ -1,5 +1,5 @@
 -- `chart_entries::kind_at` meets its contract, from what `code_at` ensures of the code. Assumes nothing.
-use Rattle.counting.proofs.Prelude.{◌≡◌, ◌∙◌}
+use Rattle.counting.proofs.Prelude.{◌∙◌}
 use Rattle.chart_entries.specs.Steps.Entries.{kind_at}
 use Rattle.chart_entries.proofs.Sheets.{kind-made}
 use Rattle.chart_entries.proofs.kind_at.Goals as goal

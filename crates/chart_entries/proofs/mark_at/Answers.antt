@@ -1,5 +1,5 @@
 -- `chart_entries::mark_at` meets its contract: the mark is that of the mask that holds v, read back. Assumes nothing.
-use Rattle.counting.proofs.Prelude.{◌≡◌, ap, ap₂, ◌∙◌, ℕ, ◌+◌, ◌*◌, ◌/◌, eqb}
+use Rattle.counting.proofs.Prelude.{ap, ap₂, ◌∙◌, ℕ, ◌+◌, ◌*◌, ◌/◌, eqb}
 use Rattle.reduction.specs.Reduction.{marked?}
 use Rattle.reduction.proofs.Marks.{transitive_mask}
 use Rattle.lists.proofs.Marking.{mark_back}
