@@ -188,7 +188,7 @@ module _ (n : ℕ) (ends : List ℕ) (given : Bool) (field : List ℕ) (floored 
       vertices = refl;
       edges = sym counted;
       bundles = l.bundles.counted;
-      rows = l.row_count;
+      rows = l.rows_counted;
       channels = l.channel_count;
       width = l.width;
       tracks = λ i h. l.used i (omega (arith, long));

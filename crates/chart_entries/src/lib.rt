@@ -385,8 +385,7 @@ fn summary(d: Sheet, reduced: u16) -> ChartCounts
     }
 }
 
-// ---- the lists. The fills have one loop (lists/proofs/Filling.antt); those of the vertices and of the edges read a lent part of bytes
-// (proofs/Reading.antt, lists/proofs/Tally.antt).
+// ---- the lists
 
 fn fill_vertices<'a>(out: &mut [VertexEntry], floors: &'a [u8], d: Sheet, top: usize) -> usize
     requires { (top ≤ length out.old) × (top ≤ 128) }

@@ -70,16 +70,16 @@ module _ (c : Content) (s : Sound c) where
   -- ---- how many
 
   -- 1 + the highest row
-  pub row_count : row_count c ≡ above n (λ v. true) (row_of c)
+  pub row_count_lem : row_count c ≡ above n (λ v. true) (row_of c)
   unfolding row_of row_count
-  row_count = refl
+  row_count_lem = refl
 
   pub rows_few : row_count c ≤ page_rows
-  rows_few = omega (arith, row_count, above-le n (λ v. true) (row_of c) page_rows (λ v l e. row_paged v l))
+  rows_few = omega (arith, row_count_lem, above-le n (λ v. true) (row_of c) page_rows (λ v l e. row_paged v l))
 
   -- each row is one of them
   pub row-counted : (v : ℕ) → v < n → row_of c v < row_count c
-  row-counted v h = omega (arith, row_count, above_each n (λ v. true) (row_of c) v h refl)
+  row-counted v h = omega (arith, row_count_lem, above_each n (λ v. true) (row_of c) v h refl)
 
   -- ---- the lowest, and the fewest
 

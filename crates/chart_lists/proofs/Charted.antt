@@ -153,7 +153,7 @@ module _ (n : ℕ) (ends : List ℕ) (given : Bool) (field : List ℕ) (floored 
           words = refl;
           arrows = sym counted;
           bundles = l.bundles.counted;
-          rows = l.row_count;
+          rows = l.rows_counted;
           lines = l.channel_count;
           firm = marked_reduced as_numbers c (plan_of c) es es' x he;
           width = l.width;

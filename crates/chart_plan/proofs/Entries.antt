@@ -187,7 +187,7 @@ module _ (c : Content) (p : Plan) (t : Lists) (l : Laid c p t) where
     unfolding plan_of chart.bundled chart.tracked
     side_same s a =
         let k = ends_known e h in
-        ap₂ min (l.bundles.into v k.1) (l.bundles.out-of u k.0)
+        ap₂ min (l.bundles.into v k.1) (l.bundles.out_of u k.0)
         ∙ side-number c l.sound u v (side_edge c l.sound u v (edge_there c l.sound e h) k.0 k.1 (eqb-true _ _ s) a)
 
     course-drawn : course_of (point_of columns places) (vertex_count columns places) u v ≡ course_of (place_of c planned) n u v

@@ -273,7 +273,7 @@ module _ {n : ℕ} {k : Checked} {e p spans number used column : List ℕ} (x : 
         unfolding plan_of chart.bundled chart.tracked graph_content
         laid = record {
           sound = s;
-          row_count = rows-counted;
+          rows_counted = rows-counted;
           rows = rows-laid;
           descendants = descendants_laid;
           channel_count = arranged.counted;

@@ -58,7 +58,7 @@ pub record Roomy (n : ℕ) (floored : Bool) (t : Lists) : Type 0 where
 -- lists of masks have `Plans` says
 pub record Laid (c : Content) (p : Plan) (t : Lists) : Type 0 where
   pub sound : Sound c
-  pub row_count : p.rows ≡ row_count c
+  pub rows_counted : p.rows ≡ row_count c
   pub rows : (v : ℕ) → v < c.vertices → quad 2 t.places v ≡ row_of c v
   pub descendants : (v : ℕ) → v < c.vertices → quad 3 t.places v ≡ descendants_of c v
   pub channel_count : p.channels ≡ length (plan_of c).channels

@@ -15,7 +15,7 @@ use Rattle.tracks.proofs.FirstFit.{row-meet, meet-row, meet_fact}
 use Rattle.tracks.proofs.Different.{different_ext}
 use Rattle.chart_laws.proofs.Channels.{channels_divide, channel_below, lines_below, channels-whole, channels-least}
 use Rattle.chart_laws.proofs.Broad.{division_decided}
-use Rattle.chart_laws.proofs.Rows.{floor-kept, edge_rises, row_count, rows_fewest}
+use Rattle.chart_laws.proofs.Rows.{floor-kept, edge_rises, row_count_lem, rows_fewest}
 use Rattle.chart_laws.proofs.Marks.{chart_links, chart_links_least, chart_links_count}
 use Rattle.chart_laws.proofs.Bundling.{bundle_channel, bundle_ordered, plan_packed, tracks_different}
 use Rattle.specification.specs.Lawful.{Chart, ShareRow, Divided, Lawful, rows_of, links_of, side_columns, SameBundles}
@@ -97,7 +97,7 @@ module _ (c : Content) (s : Sound c) where
 
     rows-counted : rows_of c x ≡ row_count c
     unfolding rows_of
-    rows-counted = above_ext n (λ v. true) (λ v. true) x.row (row_of c) (λ v l. refl) (λ v l e. a.row v l) ∙ sym (row_count c s)
+    rows-counted = above_ext n (λ v. true) (λ v. true) x.row (row_of c) (λ v l. refl) (λ v l e. a.row v l) ∙ sym (row_count_lem c s)
 
     links_counted : links_of c x ≡ reduced_edges c
     unfolding links_of link_count

@@ -11,7 +11,8 @@ use Rattle.geometry.proofs.Blocks.{lower-or_higher}
 
 -- a polyline is met where one of its segments is
 met_1 : {a b p : Point} → Meets (a ∷ b ∷ []) p → On a b p
-met_1 (here o) = o
+met_1 {a = a} {b = b} {p = p} (here o) = o
+met_1 {a = a} {b = b} {p = p} (later x5) = elim x5 [ ]
 
 met_2 : {a b c p : Point} {X : Type 0} → (On a b p → X) → (On b c p → X) → Meets (a ∷ b ∷ c ∷ []) p → X
 met_2 f g (here o) = f o

@@ -16,7 +16,7 @@ use Rattle.specification.specs.Pass.{Form, State, state, stored, next, after, as
 use Rattle.specification.specs.declared.EdgeEntry.{EdgeEntry}
 use Rattle.lists.specs.Marking.{Marking, after_edges}
 use Rattle.lists.proofs.Entered.{values, entered, entered_long, entered-filled}
-use Rattle.lists.proofs.Written.{written, filled-once}
+use Rattle.lists.proofs.Written.{filled-once}
 
 -- ---- forms: the mark is one of an edge's values, and is read from it
 
@@ -78,16 +78,14 @@ module _ {E : Type 0} (f : Form E) where
     pub after-few : (k : ℕ) → (after f g was k).reduced ≤ k
     after-few k = omega (arith, after-counted k, count-le k (λ e. not (g e).transitive))
 
--- an entry an edge: the list written so far (`Written.antt`), with the count
-pub written_after : (g : ℕ → EdgeEntry) (was : List EdgeEntry) (k : ℕ)
-    → state (written was g k) (count k (λ e. not (g e).transitive)) ≡ after as_entries g was k
-unfolding written after next stored count sum
-written_after g was zero = refl
-written_after g was (suc k) =
-    let so_far = written_after g was k in
-    ap₂ (λ (l : List EdgeEntry) (x : ℕ). state l (x + indicator (not (g k).transitive)))
-    (ap₂ (λ (l : List EdgeEntry) (i : ℕ). set l i (g k)) (ap (λ (s : State EdgeEntry). s.list) so_far)
-    (let e : k ≡ k * 1 + 0 = omega arith in e)) (ap (λ (s : State EdgeEntry). s.reduced) so_far)
+-- an entry an edge: the next edge's is written at its own place, and counted unless the edge is transitive
+pub entry_more : (g : ℕ → EdgeEntry) (was is : List EdgeEntry) (k r : ℕ) (x : EdgeEntry) (n : ℕ) → x ≡ g k
+    → n ≡ r + indicator (not x.transitive) → state is r ≡ after as_entries g was k → state (set is k x) n ≡ after as_entries g was (k + 1)
+unfolding next stored
+entry_more g was is k r x n same more so_far =
+    after_more as_entries g was k (state is r) (state (set is k x) n) so_far
+    (ap₂ state (ap₂ (set is) (let place : k ≡ k * 1 + 0 = omega arith in place) same)
+    (more ∙ ap (λ (y : EdgeEntry). r + indicator (not y.transitive)) same))
 
 -- ---- the chart's edges
 

@@ -1,33 +1,8 @@
--- A list whose first entries are written one after the other. Assumes nothing.
-use Rattle.counting.proofs.Prelude.{◌≡◌, refl, sym, ◌∙◌, ⊎_elim, List, ℕ, zero, suc, ◌+◌, ◌<◌, ◌≤◌, arith, length, set, length-set}
-use native.Mathlib.Numerals.{add-one}
+-- Of a list whose first entries are written (`Filled`). Assumes nothing.
+use Rattle.counting.proofs.Prelude.{◌≡◌, sym, ◌∙◌, ⊎_elim, List, ℕ, ◌<◌, ◌≤◌, arith}
 use lib.Seq.{ext_get_or}
 use Rattle.counting.proofs.Truth.{lt-or-le}
 use Rattle.specification.specs.Lent.{Filled}
-use Rattle.counting.proofs.Stores.{filled_none, filled_more, filled_to}
-
--- ---- the list with its first i entries written, by what g says
-module _ {E : Type 0} (ys : List E) (g : ℕ → E) where
-  unfoldable pub written : ℕ → List E
-  written zero = ys
-  written (suc i) = set (written i) i (g i)
-
-  pub as_long : (i : ℕ) → length (written i) ≡ length ys
-  unfolding written
-  as_long zero = refl
-  as_long (suc i) = length-set (written i) i (g i) ∙ as_long i
-
-  so_far : (i : ℕ) → i ≤ length ys → Filled ys g i (written i)
-  unfolding written
-  so_far zero le = filled_none ys g
-  so_far (suc i) le =
-      filled_to ys g (i + 1) (suc i) (set (written i) i (g i)) (add-one i)
-      (filled_more ys g i (written i) (g i) (omega arith) refl (so_far i (omega arith)))
-
-  pub filled : (i top : ℕ) → i ≡ top → top ≤ length ys → Filled ys g top (written i)
-  filled i top e le = filled_to ys g i top (written i) e (so_far i (omega arith))
-
--- ---- of a list that is filled
 
 -- where nothing is to be written, the list is as it was
 pub untouched : {E : Type 0} (was is : List E) (g : ℕ → E) (top : ℕ) → top ≡ 0 → Filled was g top is → is ≡ was

@@ -14,7 +14,7 @@ use Rattle.specification.specs.Checks.{Content, content_of, Sound}
 use Rattle.specification.specs.Chart.{floor_of, row_of, row_count}
 use Rattle.reach.proofs.Decide.{edge_decided}
 use Rattle.matching.proofs.Beside.{none_whole}
-use Rattle.chart_laws.proofs.Rows.{row-rule, row_count}
+use Rattle.chart_laws.proofs.Rows.{row-rule, row_count_lem}
 use Rattle.proof_table.specs.Table.{values, pairs, chain_floors, tall, tall_record, Draws}
 use Rattle.proof_table.proofs.Full.{values_long, values_from_0}
 use Rattle.proof_table.proofs.Broad.{draws}
@@ -115,7 +115,7 @@ unfolding tall
 used =
     let each = above_each 128 (λ v. true) (row_of tall) 127 (omega arith) refl in
     let most = above-le 128 (λ v. true) (row_of tall) 255 (λ v h _. omega (arith, rows v h)) in
-    omega (arith, row_count tall tall_sound, each, most, rows 127 (omega arith))
+    omega (arith, row_count_lem tall tall_sound, each, most, rows 127 (omega arith))
 
 -- ---- the record
 

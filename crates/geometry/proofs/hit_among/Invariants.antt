@@ -1,0 +1,12 @@
+use Rattle.counting.proofs.Prelude.{arith, rules}
+use lib.Count.{trailing_le}
+use Rattle.geometry.specs.Segment.{point_of}
+use Rattle.masks.proofs.Visiting.{Visited, visited_none, visited_more, visited_less}
+use Rattle.geometry.proofs.Among.{Missed, struck_here, struck_none}
+use Rattle.geometry.proofs.hit_among.Given as goal
+
+abbrev pub invariant-loop-x : goal.invariant-loop-x
+invariant-loop-x l = Visited l.mask l.x (Missed l.mask l.base (point_of l.columns l.places) l.n l.tail l.head)
+
+abbrev pub decreases-loop-x : goal.decreases-loop-x
+decreases-loop-x l = l.x
