@@ -1,0 +1,13 @@
+use Rattle.counting.proofs.Prelude.{◌≡◌, ◌∙◌, ◌+◌, ◌-◌, ◌*◌, ◌≤◌, arith, rules}
+use Rattle.specification.specs.Numbers.{word_number}
+use Rattle.chart_lists.specs.Steps.Numbers.{word_from}
+use Rattle.lists.proofs.Entered.{entered, entered_none, entered-more, entered_long, entered_all}
+use Rattle.chart_lists.proofs.Passing.{word-stored}
+use Rattle.chart_lists.proofs.entries.put_words.Given as goal
+
+abbrev pub invariant-loop-v : goal.invariant-loop-v
+invariant-loop-v l =
+    (l.v ≤ l.n) × (l.out ≡ entered 6 (λ w. word_number (word_from l.places l.column l.floored l.floors w)) l.initial.out l.v)
+
+abbrev pub decreases-loop-v : goal.decreases-loop-v
+decreases-loop-v l = l.n - l.v
