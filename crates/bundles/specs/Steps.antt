@@ -1,7 +1,8 @@
 -- What the private steps leave behind. An end is a vertex with a direction: number 2 v for the edges into v, 2 v + 1 for those out of v.
 -- `places` has four numbers a vertex: its channel, its position in it, its row and one that is not read here.
 -- Assumes nothing.
-use Rattle.std.specs.Prelude.{◌≡◌, ◌≢◌, ◌⊎◌, Bool, true, false, not, ◌&&◌, ◌||◌, List, ℕ, zero, suc, ◌+◌, ◌-◌, ◌*◌, ◌≤◌, ◌<◌, min, max, eqb, ltb, length, get_or, set}
+use Rattle.std.specs.Prelude.{◌≡◌, ◌≢◌, ◌⊎◌, Bool, true, false, not, ◌&&◌, ◌||◌, List, ℕ, zero, suc, ◌+◌, ◌-◌, ◌*◌, ◌≤◌, ◌<◌, min, max, eqb}
+use Rattle.std.specs.Prelude.{ltb, length, get_or, set}
 use Rattle.specification.specs.Count.{choose, indicator, sum, count}
 use Rattle.specification.specs.Sets.{bit, member, member?}
 use Rattle.specification.specs.Bundles.{Bundle, along, waits_at, best, lowest, highest, rounds, bundles, adjacent?, empty}

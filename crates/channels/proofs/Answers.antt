@@ -31,7 +31,8 @@ module _ (n refusal : ℕ) (ls : List (List ℕ)) (p : List ℕ) (r : Channels) 
   }
 
 -- refused by size alone
-pub answers-sized : (n refusal : ℕ) (ls : List (List ℕ)) (p : List ℕ) (r : Channels) (k : ℕ) → (size_refusal n ≢ 0 → refusal ≡ size_refusal n)
+pub answers-sized : (n refusal : ℕ) (ls : List (List ℕ)) (p : List ℕ) (r : Channels) (k : ℕ)
+    → (size_refusal n ≢ 0 → refusal ≡ size_refusal n)
     → Sized n (length p) k → k ≢ 0 → r ≡ record { refusal = k; count = 0 } → Answers n refusal ls p r p
 answers-sized n refusal ls p r k same z d e =
     let k-refused : r.refusal ≡ k = ap (λ (x : Channels). x.refusal) e in

@@ -1,6 +1,7 @@
 -- The checks of given channels: what each says, and what each step of its loop keeps. Assumes nothing.
 use Rattle.counting.proofs.Prelude.{◌≡◌, refl, sym, ap, ◌∙◌, subst, ◌≢◌, Bool, true, false, not, ◌&&◌, ◌||◌, List, [], ◌∷◌, ℕ}
-use Rattle.counting.proofs.Prelude.{suc, ◌+◌, ◌-◌, ◌≤◌, ◌<◌, arith, eqb, leb, length, get_or, drop, replicate, eq-eqb, ne_eqb, lt-ltb, le-leb}
+use Rattle.counting.proofs.Prelude.{suc, ◌+◌, ◌-◌, ◌≤◌, ◌<◌, arith, eqb, leb, length, get_or, drop, replicate, eq-eqb, ne_eqb, lt-ltb}
+use Rattle.counting.proofs.Prelude.{le-leb}
 use Rattle.counting.proofs.Prelude.{lt-leb, leb-false, not-false}
 use native.Mathlib.Decide.{ℕ_discrete}
 use Rattle.specification.specs.Count.{indicator, choose}

@@ -8,7 +8,8 @@ use Rattle.specification.specs.Checks.{Content, edges_of, floor_at, nothing}
 use Rattle.specification.specs.Layout.{layout_of}
 use Rattle.specification.specs.declared.Fields.{Fields}
 use Rattle.specification.specs.declared.Layout.TheVariants.{Good, Bad}
-use Rattle.specification.specs.Chart.{plan_of, tail_of, head_of, floor_of, kind_between, transitive_edge?, vertex_entry, edge_entry, bundle_entry}
+use Rattle.specification.specs.Chart.{plan_of, tail_of, head_of, floor_of, kind_between, transitive_edge?, vertex_entry, edge_entry}
+use Rattle.specification.specs.Chart.{bundle_entry}
 use Rattle.specification.specs.declared.Kind.{Kind}
 use Rattle.specification.specs.declared.VertexEntry.{VertexEntry}
 use Rattle.specification.specs.Drawn.{chart_refusal, Drawn, graph_content, graph_drawn, short?, lent, refused_by}

@@ -59,7 +59,8 @@ module _ (c : Content) (s : Sound c) where
 
   module _ (u v : ℕ) (hu : u < n) (hv : v < n) (edge : edge? c.tails c.heads u v ≡ true) (rise : row_of c u < row_of c v) where
     -- of neighbours the head stands later, since rows rise
-    next : channel_of ls u ≡ channel_of ls v → adjacent? (position_of ls u) (position_of ls v) ≡ true → position_of ls v ≡ position_of ls u + 1
+    next : channel_of ls u ≡ channel_of ls v → adjacent? (position_of ls u) (position_of ls v) ≡ true
+        → position_of ls v ≡ position_of ls u + 1
     unfolding adjacent?
     next e a = ⊎_elim
         (λ q. sym (eqb-true _ _ q))
@@ -101,7 +102,8 @@ module _ (c : Content) (s : Sound c) where
   unfolding edge_entry
   chart_clear i l =
       let b = s.ends i l in
-      drawn-clear n (place_of c p) (channel_of ls) (position_of ls) (own_column (widths p)) (widths p) chart_placement (tail_of c i) (head_of c i)
+      drawn-clear n (place_of c p) (channel_of ls) (position_of ls) (own_column (widths p)) (widths p) chart_placement (tail_of c i)
+      (head_of c i)
       _ b.0 b.1
       (edge_rises c s i l)
       (edge_drawn (tail_of c i) (head_of c i) b.0 b.1 (edge_there c s i l) (edge_rises c s i l))

@@ -11,7 +11,8 @@ use Rattle.specification.specs.Marks.{transitive?}
 use Rattle.specification.specs.Checks.{Content, edges_of, connection_in}
 use Rattle.specification.specs.Bundles.{bundle_of, adjacent?}
 use Rattle.specification.specs.Geometry.{Point, point, is_hit, is_blocked, own_column, course_of}
-use Rattle.specification.specs.Chart.{plan_of, row_count, widths, column_in, place_of, tail_of, head_of, crossing, transitive_edge?, kind_between}
+use Rattle.specification.specs.Chart.{plan_of, row_count, widths, column_in, place_of, tail_of, head_of, crossing, transitive_edge?}
+use Rattle.specification.specs.Chart.{kind_between}
 use Rattle.specification.specs.Chart.{floor_of, vertex_entry, bundle_entry}
 use Rattle.specification.specs.declared.Kind.{Kind}
 use Rattle.specification.specs.declared.Kind.TheVariants.{Path, PathTransitive}

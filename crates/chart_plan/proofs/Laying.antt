@@ -11,7 +11,8 @@ use Rattle.specification.specs.Connection.{longer?}
 use Rattle.specification.specs.Bundles.{Bundle, side?, apart?, bundles_of, empty}
 use Rattle.specification.specs.Tracks.{tracks}
 use Rattle.specification.specs.Geometry.{even_gaps, block_start, own_column}
-use Rattle.specification.specs.Chart.{leads?, channels_of, plan_of, floor_of, row_of, row_count, descendants_of, tracks_in, column_in, width_of}
+use Rattle.specification.specs.Chart.{leads?, channels_of, plan_of, floor_of, row_of, row_count, descendants_of, tracks_in, column_in}
+use Rattle.specification.specs.Chart.{width_of}
 use Rattle.specification.specs.Chart.{widths}
 use Rattle.specification.specs.Drawn.{graph_content}
 use Rattle.specification.specs.Chart as chart
@@ -228,7 +229,8 @@ module _ {n : ℕ} {k : Checked} {e p spans number used column : List ℕ} (x : 
           rising.used i h
           ∙ above_ext q _ (λ j. eqb (get_or (plan_of c).bundles j empty).channel i) _ (λ j. get_or (plan_of c).tracks j 0)
           (λ j w. ap (λ (y : ℕ). eqb y i) (bundles-laid.channel j)) (λ j w z. ap (λ (y : List ℕ). get_or y j 0) tracks_same)
-          ∙ ap (λ (m : ℕ). above m (λ j. eqb (get_or (plan_of c).bundles j empty).channel i) (λ j. get_or (plan_of c).tracks j 0)) total_same
+          ∙ ap (λ (m : ℕ). above m (λ j. eqb (get_or (plan_of c).bundles j empty).channel i) (λ j. get_or (plan_of c).tracks j 0))
+          total_same
 
       -- ---- columns
 
@@ -241,7 +243,8 @@ module _ {n : ℕ} {k : Checked} {e p spans number used column : List ℕ} (x : 
       width_same : block_start (even_gaps count) m ≡ width_of (plan_of c)
       unfolding width_of plan_of chart.bundled chart.tracked
       width_same =
-          start-same count (tracks_in (plan_of c)) m count_same ∙ ap (block_start (even_gaps (tracks_in (plan_of c)))) (known ∙ arranged.counted)
+          start-same count (tracks_in (plan_of c)) m count_same
+          ∙ ap (block_start (even_gaps (tracks_in (plan_of c)))) (known ∙ arranged.counted)
 
       pub spaceable : Spaceable n m p used' column
       spaceable = record {

@@ -8,7 +8,8 @@ use Rattle.specification.specs.Channels.{given_lines, channel_of, position_of}
 use Rattle.specification.specs.Checks.{Content, content, edges_of, floor_at, connection_in, nothing}
 use Rattle.specification.specs.Bundles.{bundle_of, adjacent?}
 use Rattle.specification.specs.Geometry.{point, course_of}
-use Rattle.specification.specs.Chart.{leads?, descendants_of, tail_of, head_of, floor_of, row_of, row_count, transitive_edge?, reduced_edges, Plan}
+use Rattle.specification.specs.Chart.{leads?, descendants_of, tail_of, head_of, floor_of, row_of, row_count, transitive_edge?}
+use Rattle.specification.specs.Chart.{reduced_edges, Plan}
 use Rattle.specification.specs.Chart.{channels_of, bundled, plan_of, column_in, crossing, kind_between, vertex_entry, edge_entry}
 use Rattle.specification.specs.Drawn.{judged, short?, refused_by, lent}
 use Rattle.specification.specs.Lent.{Filled}

@@ -150,7 +150,8 @@ module _ (vs vs' : List VertexEntry) (es es' : List EdgeEntry) (bs bs' : List Bu
 
     -- the list of edges and the count as states of one pass, edge by edge (5.2)
     pub record_marking : r.refusal ≡ 0 → Marking as_entries (said b) (plan_of (said b)) es es' r.firm
-    record_marking z = marked.entries_marking (record_drawn b) vs vs' es es' bs bs' r (said b) h z (said-drawn b _ _ _ r entries of_record z)
+    record_marking z = marked.entries_marking (record_drawn b) vs vs' es es' bs bs' r (said b) h z
+        (said-drawn b _ _ _ r entries of_record z)
 
   -- of a graph: n vertices, the bytes of the edges' ends, those of the given channels, if any are given, and the floors, if there are any
   module _ (n : ℕ) (ends : List ℕ) (given : Bool) (field : List ℕ) (floored : Bool) (floors : List ℕ)
@@ -252,7 +253,8 @@ module _ (ws ws' es es' bs bs' : List ℕ) (r : ChartCounts) where
     -- words next to each other in a line, the editor's or a planned one, never answer 0 'not at all', and 2 'by longer routes only' where
     -- no arrow goes from one to the next (15.5)
     pub exported_neighbours : r.refusal ≡ 0 → (u v : ℕ) → u < (said b).vertices → v < (said b).vertices
-        → number_at word_numbers ws' u 0 ≡ number_at word_numbers ws' v 0 → number_at word_numbers ws' v 1 ≡ suc (number_at word_numbers ws' u 1)
+        → number_at word_numbers ws' u 0 ≡ number_at word_numbers ws' v 0
+        → number_at word_numbers ws' v 1 ≡ suc (number_at word_numbers ws' u 1)
         → (a : Leading) → a ≡ leading_of (asked b u v)
         → (a.leads ≢ 0) × ((Edge (said b).tails (said b).heads u v → ⊥) → a.leads ≡ 2)
     unfolding vertex_from
@@ -269,7 +271,8 @@ module _ (ws ws' es es' bs bs' : List ℕ) (r : ChartCounts) where
     abbrev drawn : Content
     drawn = graph_content n ends given field floored floors
 
-    numbers : Handed (length ws / word_numbers) (length es / arrow_numbers) (length bs / bundle_numbers) (judged (chart_refusal drawn) drawn)
+    numbers : Handed (length ws / word_numbers) (length es / arrow_numbers) (length bs / bundle_numbers)
+        (judged (chart_refusal drawn) drawn)
         r read
     unfolding graph_drawn
     numbers = handed-numbers (graph_drawn n ends given field floored floors) ws ws' es es' bs bs' r h

@@ -20,7 +20,8 @@ use Rattle.demands.proofs.Drafts.{drawn-written}
 
 module _ (n : ℕ) (tails heads f k : List ℕ) (none : lines_of f ≡ []) where
   empty-refusal : chart_refusal (content n tails heads true f false []) ≡ chart_refusal (content n tails heads false k false [])
-  unfolding chart_refusal first_of loose_checks later_checks chart_checks size? floor? stranger? double? ring? repeated? unled? broad? unknown?
+  unfolding chart_refusal first_of loose_checks later_checks chart_checks size? floor? stranger? double? ring? repeated? unled? broad?
+      unknown?
       repeats? broken? every flatten channels_of leads? given_lines
   empty-refusal = rw none refl
 

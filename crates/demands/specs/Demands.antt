@@ -10,7 +10,8 @@ use Rattle.specification.specs.Connection.{Means}
 use Rattle.specification.specs.Writing.{Draft}
 use Rattle.specification.specs.Marks.{reduced_link}
 use Rattle.specification.specs.Geometry.{Point, Clear}
-use Rattle.specification.specs.Chart.{tail_of, head_of, floor_of, row_of, channels_of, plan_of, bundle_in, track_in, vertex_entry, edge_entry}
+use Rattle.specification.specs.Chart.{tail_of, head_of, floor_of, row_of, channels_of, plan_of, bundle_in, track_in, vertex_entry}
+use Rattle.specification.specs.Chart.{edge_entry}
 use Rattle.specification.specs.Chart.{bundle_entry, point_at, polyline_of, OnPage}
 use Rattle.specification.specs.declared.Kind.TheVariants.{Path}
 use Rattle.specification.specs.declared.VertexEntry.{VertexEntry}

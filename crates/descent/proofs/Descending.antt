@@ -36,7 +36,8 @@ stored_law s u a b h =
       low = get_or-set_other r (2 * u + 1) (2 * u) b 0 (λ e. omega arith) ∙ get_or-set_same s (2 * u) a 0 (omega arith);
       high = get_or-set_same r (2 * u + 1) b 0 (omega arith);
       low_other =
-          λ w d. get_or-set_other r (2 * u + 1) (2 * w) b 0 (λ e. omega arith) ∙ get_or-set_other s (2 * u) (2 * w) a 0 (λ e. d (omega arith));
+          λ w d. get_or-set_other r (2 * u + 1) (2 * w) b 0 (λ e. omega arith)
+          ∙ get_or-set_other s (2 * u) (2 * w) a 0 (λ e. d (omega arith));
       high_other =
           λ w d. get_or-set_other r (2 * u + 1) (2 * w + 1) b 0 (λ e. d (omega arith))
           ∙ get_or-set_other s (2 * u) (2 * w + 1) a 0 (λ e. omega arith);
@@ -51,7 +52,8 @@ pub stored_at : (s : List ℕ) (u a b : ℕ) (s' : List ℕ) → Stored s u a b 
 stored_at s u a b s' o v h = sym (pair_at s' u v h) ∙ ap₂ (λ (x y : ℕ). in_pair x y v) o.low o.high
 
 -- where two masks are the same, so are the bits
-pub same_bits : (s s' : List ℕ) (u : ℕ) → get_or s' (2 * u) 0 ≡ get_or s (2 * u) 0 → get_or s' (2 * u + 1) 0 ≡ get_or s (2 * u + 1) 0 → (v : ℕ)
+pub same_bits : (s s' : List ℕ) (u : ℕ) → get_or s' (2 * u) 0 ≡ get_or s (2 * u) 0 → get_or s' (2 * u + 1) 0 ≡ get_or s (2 * u + 1) 0
+    → (v : ℕ)
     → v < 128 → at 2 s' u v ≡ at 2 s u v
 same_bits s s' u p q v h = sym (pair_at s' u v h) ∙ ap₂ (λ (x y : ℕ). in_pair x y v) p q ∙ pair_at s u v h
 

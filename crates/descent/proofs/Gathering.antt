@@ -36,7 +36,8 @@ Held t base a b j = (v : ℕ) → v < 128 → at 2 t (base + j) v ≡ 1 → in_p
 pub record Gathering (t : List ℕ) (mask base c d a b x : ℕ) : Type 0 where
   pub members : Visited mask x (Held t base a b)
   pub kept : (v : ℕ) → v < 128 → in_pair c d v ≡ 1 → in_pair a b v ≡ 1
-  pub only : (v : ℕ) → v < 128 → in_pair a b v ≡ 1 → (in_pair c d v ≡ 1) ⊎ ((j : ℕ) × (j < 64) × (bit mask j ≡ 1) × (at 2 t (base + j) v ≡ 1))
+  pub only : (v : ℕ) → v < 128 → in_pair a b v ≡ 1
+      → (in_pair c d v ≡ 1) ⊎ ((j : ℕ) × (j < 64) × (bit mask j ≡ 1) × (at 2 t (base + j) v ≡ 1))
 
 module _ (t : List ℕ) (mask base c d : ℕ) where
   pub gathering_none : mask < 2 ^ 64 → Gathering t mask base c d c d mask

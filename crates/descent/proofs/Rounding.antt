@@ -80,7 +80,8 @@ pub record Round (e : List ℕ) (n r low high : ℕ) (places s below : List ℕ)
   pub rest : (k v : ℕ) → k < 4 → (k ≡ 2 → n ≤ v) → quad k s v ≡ quad k places v
   pub sets : (k v : ℕ) → k ≤ r → v < 128 → at 2 below k v ≡ 1 ↔ ((v < n) × (level_within (has? 2 e) n r v < k))
 
-pub round_none : (e : List ℕ) (n low high : ℕ) (places below : List ℕ) → 0 < n → Below n low high → get_or below 0 0 ≡ 0 → get_or below 1 0 ≡ 0
+pub round_none : (e : List ℕ) (n low high : ℕ) (places below : List ℕ) → 0 < n → Below n low high → get_or below 0 0 ≡ 0
+    → get_or below 1 0 ≡ 0
     → Round e n 0 low high places places below
 unfolding level_within
 round_none e n low high places below pos b z z' = record {
@@ -259,45 +260,46 @@ module _ (e : List ℕ) (n : ℕ) (small : n ≤ 128) (r low high first second p
     })
 
     -- none grows on: the rows are those of the rule
-    module _ (inside : Inside e n) (hr : r < n) (z : bit_or a b ≡ 0) (was : List ℕ) (sets_past : KeptFrom (2 * (r + 1) + 2) was below') where
-      low_rows : (v : ℕ) → v < n → level_within (has? 2 e) n (suc r) v < suc r
-      low_rows v h =
-          let hv : v < 128 = omega arith in
-          ⊎_elim (λ l. l) (λ l. absurd (let g = (grows v hv).1 (h, l) in let y = pair_none a b v z hv in omega arith))
-          (lt-or-le (level_within (has? 2 e) n (suc r) v) (suc r))
+    module _ (inside : Inside e n) (hr : r < n) (z : bit_or a b ≡ 0) (was : List ℕ) (sets_past : KeptFrom (2 * (r + 1) + 2) was below')
+      where
+        low_rows : (v : ℕ) → v < n → level_within (has? 2 e) n (suc r) v < suc r
+        low_rows v h =
+            let hv : v < 128 = omega arith in
+            ⊎_elim (λ l. l) (λ l. absurd (let g = (grows v hv).1 (h, l) in let y = pair_none a b v z hv in omega arith))
+            (lt-or-le (level_within (has? 2 e) n (suc r) v) (suc r))
 
-      last-rows : (v : ℕ) → v < n → level (has? 2 e) n v < suc r
-      last-rows v h = (below_last (has? 2 e) n (suc r) (suc r) v (omega arith) (omega arith)).0 (low_rows v h)
+        last-rows : (v : ℕ) → v < n → level (has? 2 e) n v < suc r
+        last-rows v h = (below_last (has? 2 e) n (suc r) (suc r) v (omega arith) (omega arith)).0 (low_rows v h)
 
-      highest : r < levels_used (has? 2 e) n
-      highest =
-          let v = o.alive in
-          let g = (o.growing v.0 v.1).0 v.2 in
-          let k = above_each n (λ x. true) (level (has? 2 e) n) v.0 g.0 refl in
-          let l = g.1 in
-          ⊎_elim
-          (λ y. absurd (let w = settled (has? 2 e) n r 128 v.0 (omega arith) (inl y) in omega arith))
-          (λ y. omega arith)
-          (lt-or-le (level (has? 2 e) n v.0) r)
+        highest : r < levels_used (has? 2 e) n
+        highest =
+            let v = o.alive in
+            let g = (o.growing v.0 v.1).0 v.2 in
+            let k = above_each n (λ x. true) (level (has? 2 e) n) v.0 g.0 refl in
+            let l = g.1 in
+            ⊎_elim
+            (λ y. absurd (let w = settled (has? 2 e) n r 128 v.0 (omega arith) (inl y) in omega arith))
+            (λ y. omega arith)
+            (lt-or-le (level (has? 2 e) n v.0) r)
 
-      pub round-over : Laid e n (r + 1) places s'' was below'
-      round-over = record {
-        cyclic = λ y. absurd (omega arith);
-        acyclic = λ y. no_cycle e n inside (λ v h. let l = last-rows v h in omega arith);
-        used = λ y. let k = highest in let l = above-le n (λ v. true) (level (has? 2 e) n) (suc r) (λ v h t. last-rows v h) in omega arith;
-        rule = λ y v h. next-rule v h (low_rows v h) ∙ sym (settled (has? 2 e) n (suc r) 128 v (omega arith) (inr (low_rows v h)));
-        prefixes = λ y. record {
-          few = omega arith;
-          members = λ k v hk hv.
-              let old = next_sets k v (omega arith) hv in
-              let f = below_last (has? 2 e) n (suc r) k v (omega arith) (omega arith) in
-              ((λ i. let x = old.0 i in (x.0, f.0 x.1)), λ i. old.1 (i.0, f.1 i.1));
-          all = λ v h. let l = last-rows v h in omega arith;
-        };
-        sets_past = λ _. sets_past;
-        refused = λ y. absurd (omega arith);
-        rest = next-rest;
-      }
+        pub round-over : Laid e n (r + 1) places s'' was below'
+        round-over = record {
+          cyclic = λ y. absurd (omega arith);
+          acyclic = λ y. no_cycle e n inside (λ v h. let l = last-rows v h in omega arith);
+          used = λ y. let k = highest in let l = above-le n (λ v. true) (level (has? 2 e) n) (suc r) (λ v h t. last-rows v h) in omega arith;
+          rule = λ y v h. next-rule v h (low_rows v h) ∙ sym (settled (has? 2 e) n (suc r) 128 v (omega arith) (inr (low_rows v h)));
+          prefixes = λ y. record {
+            few = omega arith;
+            members = λ k v hk hv.
+                let old = next_sets k v (omega arith) hv in
+                let f = below_last (has? 2 e) n (suc r) k v (omega arith) (omega arith) in
+                ((λ i. let x = old.0 i in (x.0, f.0 x.1)), λ i. old.1 (i.0, f.1 i.1));
+            all = λ v h. let l = last-rows v h in omega arith;
+          };
+          sets_past = λ _. sets_past;
+          refused = λ y. absurd (omega arith);
+          rest = next-rest;
+        }
 
 -- the vertices that still grow have their masks in a table of 2 n
 pub round_long : (e : List ℕ) (n r low high : ℕ) (places s below : List ℕ) → Round e n r low high places s below → 2 * n ≤ length e

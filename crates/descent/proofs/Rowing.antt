@@ -25,7 +25,8 @@ module _ (mask base r : ℕ) (p : List ℕ) where
   pub writing_none : mask < 2 ^ 64 → Writing mask base r p p mask
   writing_none h = record { members = visited_none mask (λ j. quad 2 p (base + j) ≡ r) h; others = λ k v l o. refl }
 
-  pub writing_more : (s : List ℕ) (x v : ℕ) → Writing mask base r p s x → x ≢ 0 → v ≡ base + count_trailing_zeros 64 x → 4 * v + 2 < length s
+  pub writing_more : (s : List ℕ) (x v : ℕ) → Writing mask base r p s x → x ≢ 0 → v ≡ base + count_trailing_zeros 64 x
+      → 4 * v + 2 < length s
       → Writing mask base r p (set s (4 * v + 2) r) (clear x)
   writing_more s x v g ne ev hv = record {
     members = visited_more mask x (λ j. quad 2 s (base + j) ≡ r) g.members ne (λ j. quad 2 (set s (4 * v + 2) r) (base + j) ≡ r)

@@ -28,7 +28,8 @@ module _ (t : List ℕ) (low high : ℕ) (n : Nested t low high) where
         (max_split (in_pair a b x) (at 2 t w x) (pair_lt a b x) (at_lt 2 t w x) (sym (whole x hx) ∙ i)));
   }
     where
-      whole : (v : ℕ) → v < 128 → in_pair (bit_or a (get_or t (2 * w) 0)) (bit_or b (get_or t (2 * w + 1) 0)) v ≡ max (in_pair a b v) (at 2 t w v)
+      whole : (v : ℕ) → v < 128
+          → in_pair (bit_or a (get_or t (2 * w) 0)) (bit_or b (get_or t (2 * w + 1) 0)) v ≡ max (in_pair a b v) (at 2 t w v)
       whole v h = pair_or a b _ _ v h ∙ ap (max (in_pair a b v)) (pair_at t w v h)
 
       into : (v : ℕ) → v < 128 → (in_pair a b v ≡ 1) ⊎ (at 2 t w v ≡ 1)
@@ -66,7 +67,8 @@ module _ (t : List ℕ) (low high : ℕ) (n : Nested t low high) where
                 v.inner (base + j) u (omega arith) hu (part j h (g.members.left j e)) (same j h ∙ z) i
 
     -- one member more, and what the union then has is left out
-    pub skipping_more : (a b x w : ℕ) → Gathering t mask base c d a b x → Covered t low high a b → x ≢ 0 → w ≡ base + count_trailing_zeros 64 x
+    pub skipping_more : (a b x w : ℕ) → Gathering t mask base c d a b x → Covered t low high a b → x ≢ 0
+        → w ≡ base + count_trailing_zeros 64 x
         → Gathering t mask base c d (bit_or a (get_or t (2 * w) 0)) (bit_or b (get_or t (2 * w + 1) 0)) (clear x)
         × Covered t low high (bit_or a (get_or t (2 * w) 0)) (bit_or b (get_or t (2 * w + 1) 0))
     skipping_more a b x w g v ne ew =
@@ -149,7 +151,8 @@ module _ (t : List ℕ) (mask : ℕ) (n : Nested t 0 mask) where
   }
 
   pub second_more : ((i : ℕ) → get_or t i 0 < 2 ^ 64) → (c d a b x : ℕ) → Second t mask c d a b x → x ≢ 0
-      → Second t mask c d (bit_or a (get_or t (2 * (64 + count_trailing_zeros 64 x)) 0)) (bit_or b (get_or t (2 * (64 + count_trailing_zeros 64 x) + 1) 0))
+      → Second t mask c d (bit_or a (get_or t (2 * (64 + count_trailing_zeros 64 x)) 0))
+      (bit_or b (get_or t (2 * (64 + count_trailing_zeros 64 x) + 1) 0))
       (without (clear x) (bit_or b (get_or t (2 * (64 + count_trailing_zeros 64 x) + 1) 0)))
   second_more fit c d a b x g ne =
       let w : ℕ = 64 + count_trailing_zeros 64 x in

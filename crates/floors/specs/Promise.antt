@@ -56,7 +56,8 @@ pub record Raises (n : ℕ) (ends : List ℕ) (floored : Bool) (floors e b t l p
     pub sets_past : r.refusal ≡ 0 → KeptFrom (2 * r.used + 2) b b'
     pub left : Roomy n floored e b t l p → edges_refusal n (tails_of ends) (heads_of ends) ≢ 0
         → Left (edges_refusal n (tails_of ends) (heads_of ends)) n ends e b t l p e' b' t' l' p'
-    pub flat : Roomy n floored e b t l p → edges_refusal n (tails_of ends) (heads_of ends) ≡ 0 → r.refusal ≢ 0 → Flat n ends b e' b' t' l' p'
+    pub flat : Roomy n floored e b t l p → edges_refusal n (tails_of ends) (heads_of ends) ≡ 0 → r.refusal ≢ 0
+        → Flat n ends b e' b' t' l' p'
     pub kept : (k v : ℕ) → k < 2 → quad k p' v ≡ quad k p v
     pub past : (k v : ℕ) → k < 4 → n ≤ v → quad k p' v ≡ quad k p v
     pub long : (length e' ≡ length e) × (length b' ≡ length b) × (length t' ≡ length t) × (length l' ≡ length l) × (length p' ≡ length p)

@@ -6,7 +6,8 @@ use Rattle.counting.proofs.Truth.{lt-or-le, same_truth, and_intro, and_elim}
 use Rattle.counting.proofs.Somes.{some_found, some_which, some_ext}
 use Rattle.specification.specs.Sets.{bit, member}
 use Rattle.specification.specs.declared.Course.TheVariants.{Straight}
-use Rattle.specification.specs.Geometry.{Point, Hit, BlockedAmong, Decides, is_hit, is_blocked, is_blocked_among, bend_row, bend_beside, course_of}
+use Rattle.specification.specs.Geometry.{Point, Hit, BlockedAmong, Decides, is_hit, is_blocked, is_blocked_among, bend_row, bend_beside}
+use Rattle.specification.specs.Geometry.{course_of}
 use Rattle.specification.specs.Geometry.{course_among}
 use Rattle.masks.specs.Pairs.{in_pair}
 use Rattle.masks.proofs.Bits.{bit_high, bit_of_zero}
@@ -66,7 +67,8 @@ module _ (candidate : ℕ → Bool) (at : ℕ → Point) (n u v : ℕ) where
   among-low l = among_free ((no_rise l).fails refl)
 
   -- with every vertex a candidate that lies strictly inside, the course is the edge's
-  pub among_enough : ((w : ℕ) → w < n → Hit (at u) (at v) (at w) → candidate w ≡ true) → course_among candidate at n u v ≡ course_of at n u v
+  pub among_enough : ((w : ℕ) → w < n → Hit (at u) (at v) (at w) → candidate w ≡ true)
+      → course_among candidate at n u v ≡ course_of at n u v
   unfolding course_among course_of is_blocked_among is_blocked
   among_enough f = rw (some_ext n (λ w. candidate w && is_hit (at u) (at v) (at w)) (λ w. is_hit (at u) (at v) (at w)) same) refl
     where

@@ -17,7 +17,13 @@ module _ (W : Widths) where
   unfolding block_start
   start_past c d h =
       let whole : d ≡ c + 1 + (d - (c + 1)) = omega arith in
-      omega (arith, ap (λ (k : ℕ). sum k (block_width W)) whole, sum_split (c + 1) (d - (c + 1)) (block_width W), sum_more c (block_width W))
+      omega (
+        arith,
+        ap (λ (k : ℕ). sum k (block_width W)) whole,
+        sum_split (c + 1) (d - (c + 1)) (block_width W),
+        sum_more c
+            (block_width W),
+      )
 
   -- between two own columns stand the gaps and the later channel's tracks
   pub own-apart : (c d : ℕ) → c < d → own_column W c + 1 + W.right_gap c + W.tracks d + W.left_gap d ≤ own_column W d

@@ -2,7 +2,8 @@
 use Rattle.counting.proofs.Prelude.{◌≡◌, refl, sym, ap, ◌∙◌, ◌≢◌, ◌⊎◌, inl, inr, ⊎_elim, List, [], ◌∷◌, ℕ, ◌+◌, ◌-◌, ◌≤◌, ◌<◌, arith}
 use native.Mathlib.Decide.{ℕ_discrete}
 use Rattle.counting.proofs.Truth.{lt-or-le}
-use Rattle.specification.specs.Geometry.{Point, point, On, Meets, here, later, Blocked, Widths, track_at, Clear, straight, bend_row, by_track}
+use Rattle.specification.specs.Geometry.{Point, point, On, Meets, here, later, Blocked, Widths, track_at, Clear, straight, bend_row}
+use Rattle.specification.specs.Geometry.{by_track}
 use Rattle.geometry.specs.Placement.{Placement}
 use Rattle.geometry.specs.Polylines.{bent, Drawn, path, track, cross, bend_right, bend_left}
 use Rattle.geometry.proofs.Segments.{Between, column_between, on_swap, row_low, row-high, column_low, column_high, row-level}
@@ -101,7 +102,8 @@ module _ (n : ℕ) (at : ℕ → Point) (channel position own : ℕ → ℕ) (W 
         first w hw nu o (yes e) = nu (same_point u w hu hw (at_column o (λ z. beside (sym z)) e))
         first w hw nu o (no e) = free w hw e (column_between o)
 
-        second : (w : ℕ) → w < n → w ≢ v → On (point x (bend_row (at v))) (at v) (at w) → bend_row (at v) ≤ (at w).row → (at w).row ≤ (at v).row
+        second : (w : ℕ) → w < n → w ≢ v → On (point x (bend_row (at v))) (at v) (at w) → bend_row (at v) ≤ (at w).row
+            → (at w).row ≤ (at v).row
             → Dec ((at w).row ≡ (at v).row) → ⊥
         second w hw nv o l h (yes e) = nv (same_point v w hv hw (at_row (on_swap o) (λ z. omega arith) e))
         second w hw nv o l h (no e) =

@@ -37,7 +37,8 @@ bits_without x y hx hy = each (two_cases x hx) (two_cases y hy)
 
 module _ (below left : List ℕ) (fb : (x : ℕ) → get_or below x 0 < 2 ^ 64) (fl : (x : ℕ) → get_or left x 0 < 2 ^ 64) where
   strictly_pair : (t : List ℕ) → ((x : ℕ) → get_or t x 0 < 2 ^ 64) → (a b w : ℕ) → w < 128
-      → in_pair (without (get_or t (2 * b) 0) (get_or t (2 * (a + 1)) 0)) (without (get_or t (2 * b + 1) 0) (get_or t (2 * (a + 1) + 1) 0)) w
+      → in_pair (without (get_or t (2 * b) 0) (get_or t (2 * (a + 1)) 0)) (without (get_or t (2 * b + 1) 0) (get_or t (2 * (a + 1) + 1) 0))
+      w
       ≡ min (at 2 t b w) (1 - at 2 t (a + 1) w)
   strictly_pair t f a b w l =
       pair_without _ _ _ _ w l (f (2 * (a + 1))) (f (2 * (a + 1) + 1))
@@ -48,7 +49,8 @@ module _ (below left : List ℕ) (fb : (x : ℕ) → get_or below x 0 < 2 ^ 64) 
   Masked a b x y first second =
       (first ≡ between (get_or below (2 * b) 0) (get_or below (2 * (a + 1)) 0) (get_or left (2 * y) 0) (get_or left (2 * (x + 1)) 0))
       × (second
-      ≡ between (get_or below (2 * b + 1) 0) (get_or below (2 * (a + 1) + 1) 0) (get_or left (2 * y + 1) 0) (get_or left (2 * (x + 1) + 1) 0))
+      ≡ between (get_or below (2 * b + 1) 0) (get_or below (2 * (a + 1) + 1) 0) (get_or left (2 * y + 1) 0)
+      (get_or left (2 * (x + 1) + 1) 0))
 
   module _ (a b x y first second : ℕ) (masked : Masked a b x y first second) where
     masked_low : (w : ℕ) → w < 128 → eqb (in_pair first second w) 1 ≡ (strictly? below a b w && strictly? left x y w)
@@ -76,7 +78,8 @@ pub course-masked : (below left : List ℕ) → ((x : ℕ) → get_or below x 0 
     → (a b c d ra rb x y first second : ℕ) → ra ≡ a → rb ≡ b → x ≡ min c d → y ≡ max c d
     → first ≡ between (get_or below (2 * rb) 0) (get_or below (2 * (ra + 1)) 0) (get_or left (2 * y) 0) (get_or left (2 * (x + 1)) 0)
     → second
-    ≡ between (get_or below (2 * rb + 1) 0) (get_or below (2 * (ra + 1) + 1) 0) (get_or left (2 * y + 1) 0) (get_or left (2 * (x + 1) + 1) 0)
+    ≡ between (get_or below (2 * rb + 1) 0) (get_or below (2 * (ra + 1) + 1) 0) (get_or left (2 * y + 1) 0)
+    (get_or left (2 * (x + 1) + 1) 0)
     → (at : ℕ → Point) (n u v : ℕ)
     → course_among (λ w. eqb (in_pair first second w) 1) at n u v ≡ course_among (candidate? below left a b c d) at n u v
 course-masked below left fb fl a b c d ra rb x y first second ea eb ex ey p q at n u v =

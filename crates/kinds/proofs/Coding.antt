@@ -40,7 +40,8 @@ module _ (c d p q into out_of : ℕ) (columns places below left : List ℕ) (u v
 
   abbrev course : Course
   course =
-      course_among (candidate? below left (quad 2 places u) (quad 2 places v) c d) (point_of columns places) (vertex_count columns places) u v
+      course_among (candidate? below left (quad 2 places u) (quad 2 places v) c d) (point_of columns places) (vertex_count columns places)
+      u v
 
   between-path : c ≡ d → adjacent? p q ≡ true → kind ≡ Path
   unfolding kind_among

@@ -306,7 +306,8 @@ module _ (leads : ℕ → ℕ → Bool) (n : ℕ) (given : List (List ℕ)) wher
 
     -- a division into channels
     pub given-channelled :
-        Channelled leads n (length (with_given leads n given)) (channel_of (with_given leads n given)) (position_of (with_given leads n given))
+        Channelled leads n (length (with_given leads n given)) (channel_of (with_given leads n given))
+        (position_of (with_given leads n given))
     given-channelled = channelled leads n o (with_given leads n given) given_covers
 
     -- in which each given channel is a whole part

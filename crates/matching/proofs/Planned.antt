@@ -158,12 +158,14 @@ module _ (leads : ℕ → ℕ → Bool) (n : ℕ) (held : List Held) where
         each u m (no p) = omega (arith, ap indicator (ne_eqb a u p), indicator_mono (leads u a) (leads u b) (λ t. o.trans u a b m l k t e))
 
     -- back from w, each time to a vertex that fewer lead to, until one has no predecessor
-    reached : (k w : ℕ) → w < n → before w < k → (a : ℕ) × (a < n) × (predecessor_of held a ≡ none) × (0 < times w (chain n held k (some a)))
+    reached : (k w : ℕ) → w < n → before w < k → (a : ℕ) × (a < n) × (predecessor_of held a ≡ none)
+        × (0 < times w (chain n held k (some a)))
     reached zero w l b = absurd (not-suc-le-zero b)
     reached (suc k) w l b = go (predecessor_of held w) refl (λ p m. reached k p m)
       where
         go : (m : Option ℕ) → predecessor_of held w ≡ m
-            → ((p : ℕ) → p < n → before p < k → (a : ℕ) × (a < n) × (predecessor_of held a ≡ none) × (0 < times p (chain n held k (some a))))
+            → ((p : ℕ) → p < n → before p < k → (a : ℕ) × (a < n) × (predecessor_of held a ≡ none)
+            × (0 < times p (chain n held k (some a))))
             → (a : ℕ) × (a < n) × (predecessor_of held a ≡ none) × (0 < times w (chain n held (suc k) (some a)))
         go none e ih = (w, l, e, omega (arith, ap (times w) (chain-some n held k w), times-here w (chain n held k (successor n held w))))
         go (some p) e ih =

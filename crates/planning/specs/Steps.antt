@@ -15,7 +15,8 @@ placed v c q p = set (set p (4 * v) c) (4 * v + 1) q
 -- the predecessors of the first n vertices by a table of bytes, in which 255 stands for none
 unfoldable pub held_in : ℕ → List ℕ → List Held
 held_in zero P = []
-held_in (suc v) P = choose (eqb (get_or P v 0) 255) (λ _. held_in v P) (λ _. record { vertex = v; predecessor = get_or P v 0 } ∷ held_in v P)
+held_in (suc v) P = choose (eqb (get_or P v 0) 255) (λ _. held_in v P)
+    (λ _. record { vertex = v; predecessor = get_or P v 0 } ∷ held_in v P)
 
 -- the channels that they make, of those that begin below v
 abbrev pub channels_in : ℕ → List ℕ → ℕ → List (List ℕ)

@@ -11,7 +11,8 @@ use Rattle.specification.specs.Channels.{times, has, front, lines, filled, lines
 use Rattle.specification.specs.Given.{Whole}
 use Rattle.specification.specs.declared.Fields.{Fields}
 use Rattle.specification.specs.declared.Layout.TheVariants.{Good}
-use Rattle.specification.specs.Layout.{bare_fields, lined_fields, size_at, field_at, lined, after_lines, with_lines, after_edges, with_edges}
+use Rattle.specification.specs.Layout.{bare_fields, lined_fields, size_at, field_at, lined, after_lines, with_lines, after_edges}
+use Rattle.specification.specs.Layout.{with_edges}
 use Rattle.specification.specs.Layout.{with_vertices, layout_of}
 use Rattle.specification.specs.Checks.{Content, content, content_of, record_refusal, said, given_of, Leads, Sound}
 use Rattle.specification.specs.Checks.{GivenKnown, Once, Led}

@@ -7,7 +7,8 @@ use Rattle.specification.specs.Graph.{Reaches, one, more, edge_count, Edge, outs
 use Rattle.specification.specs.Graph.{alike?, duplicate?, unsized?}
 use Rattle.specification.specs.declared.Fields.{Fields}
 use Rattle.specification.specs.declared.Layout.TheVariants.{Good}
-use Rattle.specification.specs.Layout.{bare_fields, size_at, field_at, after_lines, with_lines, after_edges, with_edges, with_vertices, layout_of}
+use Rattle.specification.specs.Layout.{bare_fields, size_at, field_at, after_lines, with_lines, after_edges, with_edges, with_vertices}
+use Rattle.specification.specs.Layout.{layout_of}
 use Rattle.specification.specs.Checks.{content, edges_of, size?, unfloored?, floor?, stranger?, double?, ring?, repeated?, unled?}
 use Rattle.specification.specs.Checks.{loose_checks}
 use Rattle.specification.specs.Checks.{later_checks, first_of, refusal_of, content_of, record_refusal, said}
@@ -185,5 +186,6 @@ one_more =
 pub more_arrows : Refused record_with_one_more 2
 unfolding record_with_one_more
 more_arrows =
-    refused-size record_with_one_more fields_more (laid_out_more (0 ∷ 1 ∷ bytes) (ap (λ k. suc (suc k)) (pairs_long full_tail full_head 4096 0)))
+    refused-size record_with_one_more fields_more
+    (laid_out_more (0 ∷ 1 ∷ bytes) (ap (λ k. suc (suc k)) (pairs_long full_tail full_head 4096 0)))
     (table.more_arrows _ one_more)

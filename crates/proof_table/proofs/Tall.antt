@@ -8,7 +8,8 @@ use Rattle.specification.specs.Graph.{Reaches, one, more, edge_count, Edge, edge
 use Rattle.specification.specs.Channels.{given_lines}
 use Rattle.specification.specs.declared.Fields.{Fields}
 use Rattle.specification.specs.declared.Layout.TheVariants.{Good}
-use Rattle.specification.specs.Layout.{bare_fields, floored_fields, size_at, field_at, with_floors, after_lines, with_lines, after_edges, with_edges}
+use Rattle.specification.specs.Layout.{bare_fields, floored_fields, size_at, field_at, with_floors, after_lines, with_lines, after_edges}
+use Rattle.specification.specs.Layout.{with_edges}
 use Rattle.specification.specs.Layout.{with_vertices, layout_of}
 use Rattle.specification.specs.Checks.{Content, content_of, Sound}
 use Rattle.specification.specs.Chart.{floor_of, row_of, row_count}
@@ -123,7 +124,8 @@ abbrev fields : Fields
 fields = floored_fields (bare_fields 128 7 127) 264 128
 
 laid : layout_of tall_record ≡ Good fields
-unfolding layout_of with_vertices with_edges after_edges with_lines after_lines with_floors field_at size_at tall_record pairs chain_floors values
+unfolding layout_of with_vertices with_edges after_edges with_lines after_lines with_floors field_at size_at tall_record pairs chain_floors
+    values
 laid = refl
 
 says : content_of tall_record fields ≡ tall

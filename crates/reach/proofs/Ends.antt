@@ -1,5 +1,6 @@
 -- The edges of bytes, two an edge. Assumes nothing.
-use Rattle.counting.proofs.Prelude.{◌≡◌, refl, ap, ◌∙◌, List, [], ◌∷◌, ℕ, zero, suc, ◌+◌, ◌*◌, ◌/◌, arith, length, get_or, drop, length-drop}
+use Rattle.counting.proofs.Prelude.{◌≡◌, refl, ap, ◌∙◌, List, [], ◌∷◌, ℕ, zero, suc, ◌+◌, ◌*◌, ◌/◌, arith, length, get_or, drop}
+use Rattle.counting.proofs.Prelude.{length-drop}
 use lib.Seq.{get_or-drop}
 use Rattle.specification.specs.Graph.{edge_count, alternate, tails_of, heads_of}
 
@@ -26,7 +27,8 @@ module _ (s : List ℕ) (i : ℕ) where
   pub head_at : get_or (heads_of s) i 0 ≡ get_or s (2 * i + 1) 0
   unfolding heads_of
   head_at =
-      alternate-at (drop 1 s) i ∙ get_or-drop 1 s (2 * i) 0 ∙ ap (λ (j : ℕ). get_or s j 0) (let e : 1 + 2 * i ≡ 2 * i + 1 = omega arith in e)
+      alternate-at (drop 1 s) i ∙ get_or-drop 1 s (2 * i) 0
+      ∙ ap (λ (j : ℕ). get_or s j 0) (let e : 1 + 2 * i ≡ 2 * i + 1 = omega arith in e)
 
 -- half as many edges as bytes; a last byte alone is none
 pub ends-counted : (s : List ℕ) → edge_count (tails_of s) (heads_of s) ≡ length s / 2

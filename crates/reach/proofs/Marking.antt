@@ -8,7 +8,8 @@ use Rattle.specification.specs.Graph.{edge_count, Edge}
 use Rattle.reach.specs.Steps.{Marked, Within}
 
 module _ (w : ℕ) (tails heads : List ℕ) where
-  pub marked_more : (i : ℕ) (t s : List ℕ) → ((j : ℕ) → j < i + 1 → get_or heads j 0 < w * 64) → Put w t (get_or tails i 0) (get_or heads i 0) s
+  pub marked_more : (i : ℕ) (t s : List ℕ) → ((j : ℕ) → j < i + 1 → get_or heads j 0 < w * 64)
+      → Put w t (get_or tails i 0) (get_or heads i 0) s
       → Marked w tails heads i t → Marked w tails heads (i + 1) s
   marked_more i t s fit p m = record {
     only = λ u v h e. old u v h e (ℕ_discrete (get_or tails i 0) u) (ℕ_discrete (get_or heads i 0) v);

@@ -130,8 +130,10 @@ module _ (n : ℕ) (ends : List ℕ) where
       strange : strange? n tails heads i ≡ true
       strange =
           ⊎_elim
-          (λ h. or_left (leb n (get_or tails i 0)) (leb n (get_or heads i 0)) (le-leb _ _ (subst (λ (x : ℕ). n ≤ x) (sym (tail_at ends i)) h)))
-          (λ h. or_right (leb n (get_or tails i 0)) (leb n (get_or heads i 0)) (le-leb _ _ (subst (λ (x : ℕ). n ≤ x) (sym (head_at ends i)) h)))
+          (λ h. or_left (leb n (get_or tails i 0)) (leb n (get_or heads i 0))
+          (le-leb _ _ (subst (λ (x : ℕ). n ≤ x) (sym (tail_at ends i)) h)))
+          (λ h. or_right (leb n (get_or tails i 0)) (leb n (get_or heads i 0))
+          (le-leb _ _ (subst (λ (x : ℕ). n ≤ x) (sym (head_at ends i)) h)))
           o
 
   -- all of them

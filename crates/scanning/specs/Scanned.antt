@@ -33,6 +33,7 @@ pub record Scanned (n : ℕ) (ends t : List ℕ) (r : ℕ) : Type 0 where
 -- changed; else it is 3, 4 or 0, and e' is the table after it
 pub record Scans (n : ℕ) (ends e : List ℕ) (r : ℕ) (e' : List ℕ) : Type 0 where
   pub short : length e < 2 * min n most_vertices → (r ≡ 8) × Untouched e e'
-  pub outsized : 2 * min n most_vertices ≤ length e → outsized? n (edge_count (tails_of ends) (heads_of ends)) ≡ true → (r ≡ 2) × Untouched e e'
+  pub outsized : 2 * min n most_vertices ≤ length e → outsized? n (edge_count (tails_of ends) (heads_of ends)) ≡ true → (r ≡ 2)
+      × Untouched e e'
   pub checked : 2 * min n most_vertices ≤ length e → outsized? n (edge_count (tails_of ends) (heads_of ends)) ≡ false → Scanned n ends e' r
   pub long : length e' ≡ length e

@@ -1,5 +1,6 @@
 -- A name matched byte by byte: it is matched whole exactly when the part is the name. Assumes nothing.
-use Rattle.counting.proofs.Prelude.{◌≡◌, refl, ◌∙◌, Bool, true, false, ◌&&◌, List, [], ◌∷◌, ℕ, ◌+◌, ◌≤◌, ◌<◌, arith, eqb, ltb, length, get_or}
+use Rattle.counting.proofs.Prelude.{◌≡◌, refl, ◌∙◌, Bool, true, false, ◌&&◌, List, [], ◌∷◌, ℕ, ◌+◌, ◌≤◌, ◌<◌, arith, eqb, ltb, length}
+use Rattle.counting.proofs.Prelude.{get_or}
 use Rattle.counting.proofs.Prelude.{drop, drop_of_length-le, eq-eqb, ne_eqb, lt-ltb, le-ltb}
 use native.Mathlib.Decide.{dec_lt}
 use native.Mathlib.Numerals.{add-one}

@@ -1,6 +1,7 @@
 -- The steps over the tables are the rule's: the same searches leave the same predecessors. Assumes nothing.
 use Rattle.counting.proofs.Prelude.{◌≡◌, refl, sym, ap, ◌∙◌, subst, Bool, true, false, not, ◌&&◌, List, [], ℕ, zero, suc, ◌+◌, ◌≤◌, ◌<◌}
-use Rattle.counting.proofs.Prelude.{arith, eqb, length, get_or, set, replicate, length-set, length-replicate, get_or-replicate, eq-eqb, ne_eqb}
+use Rattle.counting.proofs.Prelude.{arith, eqb, length, get_or, set, replicate, length-set, length-replicate, get_or-replicate, eq-eqb}
+use Rattle.counting.proofs.Prelude.{ne_eqb}
 use native.Mathlib.Decide.{ℕ_discrete}
 use lib.Seq.{get_or-set_same, get_or-set_other}
 use mathlib.Core.Option.{none, some, some-injective, none-ne-some}
@@ -124,7 +125,8 @@ module _ (n : ℕ) (small : n ≤ 128) where
 
         codes_stuck : (again p (marked v s)).found ≡ false → (x : State) → Q j (suc v) (again p (marked v s)) x → Q (suc j) v s x
         codes_stuck y x ih c l g =
-            rw (steps.scan_stuck leads n code h j v c (may c l g) (other c l g) ((asked c l g).found ∙ y)) (ih _ (omega arith) (asked c l g))
+            rw (steps.scan_stuck leads n code h j v c (may c l g) (other c l g) ((asked c l g).found ∙ y))
+            (ih _ (omega arith) (asked c l g))
 
       scan_codes : (j v : ℕ) (s : State) → Q j v s (scan leads n again h j v s)
       scan_codes = scan_ind leads n again h Q (record {

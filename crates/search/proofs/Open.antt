@@ -69,7 +69,8 @@ module _ (x y : ℕ) where
           found = λ a. (
             omega arith,
             in_high (64 + count_trailing_zeros 64 y) (omega arith) (omega arith)
-                ∙ ap (bit y) (let q : 64 + count_trailing_zeros 64 y - 64 ≡ count_trailing_zeros 64 y = omega arith in q) ∙ trailing_at 64 y l,
+                ∙ ap (bit y) (let q : 64 + count_trailing_zeros 64 y - 64 ≡ count_trailing_zeros 64 y = omega arith in q)
+                ∙ trailing_at 64 y l,
           );
         }
 

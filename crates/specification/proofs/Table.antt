@@ -25,7 +25,8 @@ use Rattle.specification.specs.Tracks.{lowest_free, earlier, meet, blocks, busy,
 use Rattle.specification.specs.Geometry.{is_hit, is_blocked, block_start, own_column, bend_beside, course_of}
 use Rattle.specification.specs.Chart.{leads?, descendants_of, floor_of, row_of, row_count, transitive_edge?, reduced_edges, channels_of}
 use Rattle.specification.specs.Chart.{tracked}
-use Rattle.specification.specs.Chart.{bundled, plan_of, tracks_in, column_in, width_of, kind_between, vertex_entry, edge_entry, bundle_entry}
+use Rattle.specification.specs.Chart.{bundled, plan_of, tracks_in, column_in, width_of, kind_between, vertex_entry, edge_entry}
+use Rattle.specification.specs.Chart.{bundle_entry}
 use Rattle.specification.specs.Chart.{polyline_of}
 use Rattle.specification.specs.Table.{graph1, graph5, housed, graph6, graph7, graph8, chain3, graph11, graph12, moving, meeting}
 use Rattle.specification.specs.Numbers.{code_of, arrow_number}
@@ -58,18 +59,21 @@ more_arrows c m = outsized_refused c (or_right (unsized? c.vertices) (ltb 4096 (
 -- ---- the table
 
 pub table : Table
-unfolding leads? descendants_of floor_of row_of row_count transitive_edge? reduced_edges channels_of tracked bundled plan_of tracks_in column_in
+unfolding leads? descendants_of floor_of row_of row_count transitive_edge? reduced_edges channels_of tracked bundled plan_of tracks_in
+    column_in
     width_of
     kind_between vertex_entry edge_entry bundle_entry polyline_of graph1 graph5 housed graph6 graph7 graph8 chain3 graph11 graph12 lifted
     raised moving meeting
     touching detour early alone early_after after next stored code_of arrow_number record1 record5 record6 record7 record8 record9 record10
     record11 chained longer? connects connection_in sum count some edge? reaches? outsized? unsized?
     strange? verdict refusal reachable? predecessor_of none? is? candidate marked taken answered freed scan augment asks matching_to
-    successor_from successor chain begins begun planned_to planned has place_from linked every channel_from channel_of position_of front lines
+    successor_from successor chain begins begun planned_to planned has place_from linked every channel_from channel_of position_of front
+    lines
     filled lines_of unknown? repeats? broken? flatten given_lines held_in masked unheld without beside with_given size_at field_at lined
     with_floors after_lines with_lines after_edges with_edges with_vertices layout_of alternate tails_of heads_of alike? duplicate? size?
     unfloored? floor? stranger? double? ring?
-    repeated? unled? loose_checks later_checks first_of refusal_of content_of record_refusal said above row_within transitive? reduced_count alike
+    repeated? unled? loose_checks later_checks first_of refusal_of content_of record_refusal said above row_within transitive?
+    reduced_count alike
     gathers takes bundling.taken bundle_of joined waits waits_at load before best made rounds bundles adjacent? apart? side? bundles_of
     lowest_free earlier meet blocks busy placed in_row in_rows tracks is_hit is_blocked block_start own_column bend_beside course_of
     passing pairs_to field end_bytes line_bytes channel_field floor_field written raised? fixed_form rewritten output_of record_output

@@ -237,7 +237,8 @@ module _ (b : List ℕ) (bytes : Bytes b) (f : Fields) where
 -- ---- the theorem
 
 -- a field that may be left out
-channel-bytes : (given : Bool) (ls : List (List ℕ)) → Lines ls → length (channel_field given ls) ≤ most_bytes → Bytes (channel_field given ls)
+channel-bytes : (given : Bool) (ls : List (List ℕ)) → Lines ls → length (channel_field given ls) ≤ most_bytes
+    → Bytes (channel_field given ls)
 unfolding channel_field field
 channel-bytes true ls w h = bytes-field 3 (line_bytes ls) (omega arith) (omega (arith, h)) (bytes-lines ls w)
 channel-bytes false ls w h = bytes_none

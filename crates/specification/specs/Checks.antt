@@ -1,5 +1,6 @@
 -- The checks of a graph and of a record in their order, and what is sound (SPECIFICATION.md, 1 and 13). Assumes nothing.
-use Rattle.std.specs.Prelude.{Bool, ◌&&◌, ◌||◌, not, false, true, List, [], ◌∷◌, ℕ, ◌*◌, ◌<◌, suc, ◌≤◌, ◌≡◌, eqb, ltb, length, take, drop, get_or}
+use Rattle.std.specs.Prelude.{Bool, ◌&&◌, ◌||◌, not, false, true, List, [], ◌∷◌, ℕ, ◌*◌, ◌<◌, suc, ◌≤◌, ◌≡◌, eqb, ltb, length, take, drop}
+use Rattle.std.specs.Prelude.{get_or}
 use Rattle.specification.specs.Count.{choose, some}
 use Rattle.specification.specs.Graph.{edge_count, outsized?, strange?, duplicate?, edge?, reachable?, tails_of, heads_of, Reaches, Edge}
 use Rattle.specification.specs.Connection.{connects}

@@ -55,7 +55,8 @@ graph_output room c = output_of room (refusal_of c) c
 unfoldable pub record_output : ℕ → List ℕ → Output
 record_output room b = output_of room (record_refusal b) (said b)
 
--- a graph as an app lends it: the bytes of its edges' ends, of its given channels and of its floors, where no byte means that there are none
+-- a graph as an app lends it: the bytes of its edges' ends, of its given channels and of its floors, where no byte means that there are
+-- none
 unfoldable pub lent_content : ℕ → List ℕ → List ℕ → List ℕ → Content
 lent_content n ends lines floors = graph_content n ends (filled? lines) lines (filled? floors) floors
 

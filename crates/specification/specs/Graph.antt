@@ -1,5 +1,6 @@
 -- Edges (arrows) between vertices (words), which vertex reaches which (descent), and sizes (SPECIFICATION.md, 1 and 2). Assumes nothing.
-use Rattle.std.specs.Prelude.{◌≡◌, Bool, false, ◌||◌, ◌&&◌, true, List, [], ◌∷◌, ℕ, zero, suc, ◌<◌, min, eqb, leb, ltb, length, get_or, drop}
+use Rattle.std.specs.Prelude.{◌≡◌, Bool, false, ◌||◌, ◌&&◌, true, List, [], ◌∷◌, ℕ, zero, suc, ◌<◌, min, eqb, leb, ltb, length, get_or}
+use Rattle.std.specs.Prelude.{drop}
 use Rattle.specification.specs.Count.{some, choose}
 use Rattle.specification.specs.Limits.{most_vertices, most_edges}
 

@@ -1,5 +1,6 @@
 -- How the bytes of a record stand (SPECIFICATION.md, 1). Assumes nothing.
-use Rattle.std.specs.Prelude.{Bool, true, false, ◌&&◌, List, [], ◌∷◌, ℕ, zero, suc, ◌+◌, ◌*◌, ◌/◌, ◌%◌, eqb, leb, length, get_or, take, drop}
+use Rattle.std.specs.Prelude.{Bool, true, false, ◌&&◌, List, [], ◌∷◌, ℕ, zero, suc, ◌+◌, ◌*◌, ◌/◌, ◌%◌, eqb, leb, length, get_or, take}
+use Rattle.std.specs.Prelude.{drop}
 use Rattle.specification.specs.Count.{choose}
 use Rattle.specification.specs.Limits.{most_bytes}
 use Rattle.specification.specs.declared.Field.{Field}

@@ -15,6 +15,17 @@ use Rattle.chart_numbers.proofs.recorded.Goals as goal
 abbrev After-struct_known-1 : Type 0
 After-struct_known-1 = lts.After-struct_known tie.the-claims reads.Pre reads.Post
 
+-- the places that facts are read from
+abbrev after-struct_known-1_of : goal.After-graphed-arg-1 → After-struct_known-1
+after-struct_known-1_of c = c.before.before.before.before
+
+abbrev after-struct_known-1_of-2 : goal.After-graphed-arg-2-1 → After-struct_known-1
+after-struct_known-1_of-2 c = c.before.before.before.before.before
+
+abbrev after-struct_known-1_of-3 : goal.After-slice_known-8-1 → After-struct_known-1
+after-struct_known-1_of-3 c =
+    c.before.before.before.before.before.before.before.before.before.before.before.before.before.before.before.before.before.before.before
+
 -- the fields that were found stand as they must
 good : (c : After-struct_known-1) → layout_of c.args.bytes.now ≡ Good c.in-Good.f
 good c =
@@ -46,14 +57,14 @@ pub slice_bounds-graphed-end : goal.slice_bounds-graphed-end
 slice_bounds-graphed-end c = let k = laid c.before.before.before in omega arith
 
 pub slice_bounds-graphed-end-2 : goal.slice_bounds-graphed-end-2
-slice_bounds-graphed-end-2 c = let k = laid c.before.before.before.before in omega arith
+slice_bounds-graphed-end-2 c = let k = laid (after-struct_known-1_of c) in omega arith
 
 pub slice_bounds-graphed-end-3 : goal.slice_bounds-graphed-end-3
-slice_bounds-graphed-end-3 c = let k = laid c.before.before.before.before.before in omega arith
+slice_bounds-graphed-end-3 c = let k = laid (after-struct_known-1_of-2 c) in omega arith
 
 pub graphed-requires : goal.graphed-requires
 graphed-requires c = cleared-length 0 _ 128 c.requires
 
 pub returns : goal.returns
 returns c =
-    record_left _ _ (good c.before.before.before.before.before.before.before.before.before.before.before.before.before.before.before.before.before.before.before) _ _ _ _ _ _ _ c.graphed.ensures
+    record_left _ _ (good (after-struct_known-1_of-3 c)) _ _ _ _ _ _ _ c.graphed.ensures

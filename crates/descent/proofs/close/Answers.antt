@@ -9,6 +9,20 @@ use Rattle.descent.proofs.close.Goals as goal
 abbrev In-loop-r : Type 0
 In-loop-r = lts.In-loop tie.the-claims reads.Pre reads.Post goal.the-invariant-loop-r goal.the-decreases-loop-r
 
+-- the places that facts are read from
+abbrev in-loop-r_of : goal.After-close_row-arg-in-loop-r-2-1 → In-loop-r
+in-loop-r_of c = c.before.before.before.before.before.before.before.before
+
+abbrev in-loop-r_of-2 : goal.After-close_row-arg-in-loop-r-5-1 → In-loop-r
+in-loop-r_of-2 c =
+    let d = c.before.before.before.before.before.before.before.before.before.before.before.before.before.before in
+    d.before.before.before.before
+
+abbrev in-loop-r_of-3 : goal.After-slice_known-in-loop-r-6-1 → In-loop-r
+in-loop-r_of-3 c =
+    let d = c.before.before.before.before.before.before.before.before.before.before.before.before.before.before in
+    d.before.before.before.before.before.before.before.before.before.before.before
+
 pub loop-r-init : goal.loop-r-init
 loop-r-init c =
     let a = c.args in
@@ -44,7 +58,7 @@ close_row-requires c =
       inside_ample a.edges.now l.table a.n pre.5 room,
       ready_low a.edges.now a.n a.top a.below.now pre.5 pre.6 (l.r - 1) _ _ _ _ hr refl refl refl refl
           (known (2 * (l.r - 1))).fits (known (2 * (l.r - 1) + 1)).fits
-          a.table.now a.longer.now a.places.now l.table l.longer l.places (so_far c.before.before.before.before.before.before.before.before),
+          a.table.now a.longer.now a.places.now l.table l.longer l.places (so_far (in-loop-r_of c)),
     )
 
 pub close_row-requires-in-loop-r : goal.close_row-requires-in-loop-r
@@ -67,7 +81,7 @@ close_row-requires-in-loop-r c =
       inside_ample a.edges.now first.new.table a.n pre.5 room,
       ready_high a.edges.now a.n a.top a.below.now pre.5 pre.6 (l.r - 1) _ _ _ _ hr refl refl refl refl
           (known (2 * (l.r - 1))).fits (known (2 * (l.r - 1) + 1)).fits
-          a.table.now a.longer.now a.places.now l.table l.longer l.places (so_far c.before.before.before.before.before.before.before.before.before.before.before.before.before.before.before.before.before.before) _ _ _ first.ensures,
+          a.table.now a.longer.now a.places.now l.table l.longer l.places (so_far (in-loop-r_of-2 c)) _ _ _ first.ensures,
     )
 
 pub loop-r-preserved : goal.loop-r-preserved
@@ -88,7 +102,7 @@ loop-r-preserved c =
       second.auto.places ∙ first.auto.places ∙ l.invariant.6,
       descended_more a.edges.now a.n a.top a.below.now pre.5 pre.6 (l.r - 1) _ _ _ _ hr refl refl refl refl
           (known (2 * (l.r - 1))).fits (known (2 * (l.r - 1) + 1)).fits
-          a.table.now a.longer.now a.places.now l.table l.longer l.places (so_far c.before.before.before.before.before.before.before.before.before.before.before.before.before.before.before.before.before.before.before.before.before.before.before.before.before) _ _ _ first.ensures _ _ _
+          a.table.now a.longer.now a.places.now l.table l.longer l.places (so_far (in-loop-r_of-3 c)) _ _ _ first.ensures _ _ _
           second.ensures,
     )
 

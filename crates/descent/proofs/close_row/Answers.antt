@@ -10,6 +10,10 @@ use Rattle.descent.proofs.close_row.Goals as goal
 abbrev In-loop-x : Type 0
 In-loop-x = lts.In-loop tie.the-claims reads.Pre reads.Post goal.the-invariant-loop-x goal.the-decreases-loop-x
 
+-- the places that facts are read from
+abbrev in-loop-x_of : goal.After-close_vertex-arg-in-loop-x-2-1 → In-loop-x
+in-loop-x_of c = c.before.before.before.before
+
 pub loop-x-init : goal.loop-x-init
 loop-x-init c =
     let a = c.args in
@@ -30,7 +34,7 @@ overflow_add-u c = omega (arith, small c.before, c.requires.0)
 pub close_vertex-requires : goal.close_vertex-requires
 close_vertex-requires c =
     let l = c.loop-x in
-    let k = small c.before.before.before.before in
+    let k = small (in-loop-x_of c) in
     let base = c.requires.0 in
     let inside = lowest_in _ l.x _ l.invariant.3.members c.loop-x-test.true in
     let e = c.requires.1.room _ k inside in

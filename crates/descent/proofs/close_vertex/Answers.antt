@@ -46,4 +46,5 @@ returns c =
     pre.0 refl refl p.ensures pre.6 _ _ _ (stored_law a.table.now a.u _ _ (omega arith))
     (stored_law a.longer.now a.u _ _ (omega arith))
     (quad-same a.places.now a.u 3 _ (omega arith) ∙ c.members.ensures)
-    (λ i v h o. quad_other a.places.now v i a.u 3 _ h (omega arith) (λ e f. o f e)) (first_fits c.before.before) (second_fits c.before.before)
+    (λ i v h o. quad_other a.places.now v i a.u 3 _ h (omega arith) (λ e f. o f e)) (first_fits c.before.before)
+    (second_fits c.before.before)

@@ -36,7 +36,14 @@ pub returns-then-longer-least : goal.returns-then-longer-least
 unfolding fits?
 returns-then-longer-least c =
     let same = c.room-least.ensures in
-    simp (sym same, le-leb _ _ c.if-edges-least.false, le-leb _ _ (roomy c.before.before), le-leb _ _ c.if-table-least.false, lt-leb _ _ c.if-longer-least.true)
+    simp (
+      sym same,
+      le-leb _ _ c.if-edges-least.false,
+      le-leb _ _ (roomy c.before.before),
+      le-leb _ _ c.if-table-least.false,
+      lt-leb _ _
+          c.if-longer-least.true,
+    )
 
 pub overflow_mul-result : goal.overflow_mul-result
 overflow_mul-result c = omega (arith, c.room-least.ensures)

@@ -7,7 +7,8 @@ use Rattle.descent.proofs.set_rows.Given as goal
 
 abbrev pub invariant-loop-x : goal.invariant-loop-x
 invariant-loop-x l =
-    (l.base ≤ 64) × (length l.places ≡ length l.initial.places) × Long 4 l.initial.places l.mask l.base × Writing l.mask l.base l.r l.initial.places l.places l.x
+    (l.base ≤ 64) × (length l.places ≡ length l.initial.places) × Long 4 l.initial.places l.mask l.base
+    × Writing l.mask l.base l.r l.initial.places l.places l.x
 
 abbrev pub decreases-loop-x : goal.decreases-loop-x
 decreases-loop-x l = l.x

@@ -37,7 +37,11 @@ overflow_mul-tail c = omega (arith, (ends c.before.before).1)
 
 pub returns-then-contains : goal.returns-then-contains
 unfolding refusal_of at has?
-returns-then-contains c = record { value = sym (verdict_duplicate _ _ _ _ (ends c.before.before.before.before).0 (sym c.contains.ensures ∙ c.if-contains.true)); tail_bound = λ e. absurd (omega arith) }
+returns-then-contains c =
+    record {
+      value = sym (verdict_duplicate _ _ _ _ (ends c.before.before.before.before).0 (sym c.contains.ensures ∙ c.if-contains.true));
+      tail_bound = λ e. absurd (omega arith);
+    }
 
 pub comes-requires : goal.comes-requires
 comes-requires c = (ends c.before.before.before.before.before.before).2
@@ -49,13 +53,19 @@ new c = sym c.contains.ensures ∙ c.if-contains.false
 
 pub returns-then-comes : goal.returns-then-comes
 unfolding refusal_of
-returns-then-comes c = record { value = sym (verdict-cycle _ _ _ _ (ends c.before.before.before.before.before.before.before.before).0 (new c.before.before.before.before) (sym c.comes.ensures ∙ c.if-comes.true)); tail_bound = λ e. absurd (omega arith) }
+returns-then-comes c =
+    record {
+      value = sym (verdict-cycle _ _ _ _ (ends c.before.before.before.before.before.before.before.before).0
+          (new c.before.before.before.before) (sym c.comes.ensures ∙ c.if-comes.true));
+      tail_bound = λ e. absurd (omega arith);
+    }
 
 pub returns-then-s-ge-MOST_EDGES : goal.returns-then-s-ge-MOST_EDGES
 unfolding refusal_of
 returns-then-s-ge-MOST_EDGES c = record {
   value = sym
-      (verdict-full _ _ _ _ (ends c.before.before.before.before.before.before.before.before.before.before).0 (new c.before.before.before.before.before.before) (sym c.comes.ensures ∙ c.if-comes.false)
+      (verdict-full _ _ _ _ (ends c.before.before.before.before.before.before.before.before.before.before).0
+      (new c.before.before.before.before.before.before) (sym c.comes.ensures ∙ c.if-comes.false)
       (le-leb 4096 _ c.if-s-ge-MOST_EDGES.true));
   tail_bound = λ e. absurd (omega arith);
 }
@@ -63,4 +73,9 @@ returns-then-s-ge-MOST_EDGES c = record {
 pub returns : goal.returns
 unfolding refusal_of
 returns c =
-    let k = ends c.before.before.before.before.before.before.before.before.before.before in record { value = sym (verdict_none _ _ _ _ k.0 (new c.before.before.before.before.before.before) (sym c.comes.ensures ∙ c.if-comes.false) (lt-leb 4096 _ c.if-s-ge-MOST_EDGES.false)); tail_bound = λ e. (k.1, k.2, c.if-s-ge-MOST_EDGES.false) }
+    let k = ends c.before.before.before.before.before.before.before.before.before.before in
+    record {
+      value = sym (verdict_none _ _ _ _ k.0 (new c.before.before.before.before.before.before) (sym c.comes.ensures
+          ∙ c.if-comes.false) (lt-leb 4096 _ c.if-s-ge-MOST_EDGES.false));
+      tail_bound = λ e. (k.1, k.2, c.if-s-ge-MOST_EDGES.false);
+    }

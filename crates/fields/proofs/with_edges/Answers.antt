@@ -33,7 +33,8 @@ pub returns-then-size-ne0 : goal.returns-then-size-ne0
 unfolding with_edges
 returns-then-size-ne0 c =
     let a = c.args in
-    let bad : Bad ≡ with_edges a.b.now a.n (Found c.in-Found.start c.in-Found.size) = simp (ne_eqb (c.in-Found.size % 2) 0 c.if-size-ne0.true) in
+    let bad : Bad ≡ with_edges a.b.now a.n (Found c.in-Found.start c.in-Found.size) =
+    simp (ne_eqb (c.in-Found.size % 2) 0 c.if-size-ne0.true) in
     bad ∙ ap (with_edges a.b.now a.n) (sym (found c.before.before))
 
 pub overflow_add-start : goal.overflow_add-start

@@ -44,6 +44,7 @@ pub returns : goal.returns
 unfolding with_floors
 returns c =
     let a = c.args in
-    let good : Good (floored_fields a.f c.in-Found.start c.in-Found.size) ≡ with_floors a.b.now a.f (Found c.in-Found.start c.in-Found.size) =
+    let good : Good (floored_fields a.f c.in-Found.start c.in-Found.size) ≡ with_floors a.b.now a.f
+    (Found c.in-Found.start c.in-Found.size) =
     simp (eq-eqb _ _ c.if-end-b.false) in
     good ∙ ap (with_floors a.b.now a.f) (sym (found c.before.before))

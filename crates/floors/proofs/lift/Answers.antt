@@ -13,6 +13,13 @@ use Rattle.floors.proofs.lift.Goals as goal
 abbrev In-loop-r : Type 0
 In-loop-r = lts.In-loop tie.the-claims reads.Pre reads.Post goal.the-invariant-loop-r goal.the-decreases-loop-r
 
+-- the places that facts are read from
+abbrev in-loop-r_of : goal.After-push_members-arg-1 → In-loop-r
+in-loop-r_of c = c.before.before.before.before.before.before
+
+abbrev in-loop-r_of-2 : goal.After-push_members-arg-in-loop-r-1 → In-loop-r
+in-loop-r_of-2 c = c.before.before.before.before.before.before.before.before.before.before
+
 pub loop-r-init : goal.loop-r-init
 loop-r-init c =
     let a = c.args in
@@ -46,14 +53,14 @@ pub push_members-requires : goal.push_members-requires
 push_members-requires c =
     let l = c.loop-r in let ok = c.requires in
     let room : 4 * c.args.n ≤ length l.places = omega (arith, ok.room, l.invariant.3) in
-    (zero-le, (longs c.before.before.before.before.before.before 2 _ ok.edges).0, (longs c.before.before.before.before.before.before 4 _ room).0, ample c.before.before.before.before.before.before _ room)
+    (zero-le, (longs (in-loop-r_of c) 2 _ ok.edges).0, (longs (in-loop-r_of c) 4 _ room).0, ample (in-loop-r_of c) _ room)
 
 pub push_members-requires-in-loop-r : goal.push_members-requires-in-loop-r
 push_members-requires-in-loop-r c =
     let l = c.loop-r in let ok = c.requires in
     let room : 4 * c.args.n ≤ length c.push_members.new.places =
     omega (arith, ok.room, l.invariant.3, c.push_members.auto.places) in
-    (omega arith, (longs c.before.before.before.before.before.before.before.before.before.before 2 _ ok.edges).1, (longs c.before.before.before.before.before.before.before.before.before.before 4 _ room).1, ample c.before.before.before.before.before.before.before.before.before.before _ room)
+    (omega arith, (longs (in-loop-r_of-2 c) 2 _ ok.edges).1, (longs (in-loop-r_of-2 c) 4 _ room).1, ample (in-loop-r_of-2 c) _ room)
 
 pub loop-r-preserved : goal.loop-r-preserved
 loop-r-preserved c =

@@ -13,6 +13,22 @@ use Rattle.floors.proofs.raised.Goals as goal
 abbrev Else-not-floored : Type 0
 Else-not-floored = lts.Else2 tie.the-claims reads.Pre reads.Post
 
+-- the places that facts are read from
+abbrev else-not-floored_of : goal.Then-d → Else-not-floored
+else-not-floored_of c = c.before.before.before.before
+
+abbrev else-not-floored_of-2 : goal.After-refused-then-is_unfloored → Else-not-floored
+else-not-floored_of-2 c = c.before.before.before.before.before.before.before
+
+abbrev else-not-floored_of-3 : goal.Then-d-ne0 → Else-not-floored
+else-not-floored_of-3 c = c.before.before.before.before.before.before.before.before
+
+abbrev else-not-floored_of-4 : goal.After-settled-arg-2-1 → Else-not-floored
+else-not-floored_of-4 c = c.before.before.before.before.before.before.before.before.before.before.before
+
+abbrev else-not-floored_of-5 : goal.After-slice_known-12-1 → Else-not-floored
+else-not-floored_of-5 c = c.before.before.before.before.before.before.before.before.before.before.before.before.before.before.before.before
+
 pub returns-then-is_cramped : goal.returns-then-is_cramped
 returns-then-is_cramped c =
     let a = c.args in
@@ -47,26 +63,26 @@ neither k e = let n = or_neither (eqb k 8) (eqb k 2) e in (eqb-false _ _ n.0, eq
 pub returns-then-d : goal.returns-then-d
 returns-then-d c =
     let a = c.args in
-    raises_as _ true (raising c.before.before.before.before)
+    raises_as _ true (raising (else-not-floored_of c))
     (raises_first a.n a.ends.now a.edges.now a.below.now a.table.now a.longer.now a.places.now _ _ _ _ _ _
-    c.descend-d.ensures a.floors.now (spread-fits c.before.before.before.before) (first _ c.if-d.true))
+    c.descend-d.ensures a.floors.now (spread-fits (else-not-floored_of c)) (first _ c.if-d.true))
 
 pub returns-then-is_unfloored : goal.returns-then-is_unfloored
 returns-then-is_unfloored c =
     let a = c.args in
     let n = neither _ c.if-d.false in
-    raises_as _ true (raising c.before.before.before.before.before.before.before)
+    raises_as _ true (raising (else-not-floored_of-2 c))
     (raises_unfloored a.n a.ends.now a.edges.now a.below.now a.table.now a.longer.now a.places.now _ _ _ _ _ _
-    c.descend-d.ensures a.floors.now (spread-fits c.before.before.before.before.before.before.before) n.0 n.1 _ c.refused-then-is_unfloored.ensures
+    c.descend-d.ensures a.floors.now (spread-fits (else-not-floored_of-2 c)) n.0 n.1 _ c.refused-then-is_unfloored.ensures
     (sym c.is_unfloored.ensures ∙ c.if-is_unfloored.true))
 
 pub returns-then-d-ne0 : goal.returns-then-d-ne0
 returns-then-d-ne0 c =
     let a = c.args in
     let n = neither _ c.if-d.false in
-    raises_as _ true (raising c.before.before.before.before.before.before.before.before)
+    raises_as _ true (raising (else-not-floored_of-3 c))
     (raises_edges a.n a.ends.now a.edges.now a.below.now a.table.now a.longer.now a.places.now _ _ _ _ _ _
-    c.descend-d.ensures a.floors.now (spread-fits c.before.before.before.before.before.before.before.before) n.0 n.1
+    c.descend-d.ensures a.floors.now (spread-fits (else-not-floored_of-3 c)) n.0 n.1
     (sym c.is_unfloored.ensures ∙ c.if-is_unfloored.false) c.if-d-ne0.true)
 
 pub settled-requires : goal.settled-requires
@@ -75,13 +91,13 @@ settled-requires c =
     let n = neither _ c.if-d.false in
     let u = sym c.is_unfloored.ensures ∙ c.if-is_unfloored.false in
     let ok = liftable a.n a.ends.now a.edges.now a.below.now a.table.now a.longer.now a.places.now _ _ _ _ _ _
-    c.descend-d.ensures a.floors.now (spread-fits c.before.before.before.before.before.before.before.before.before.before.before) n.0 n.1 u c.if-d-ne0.false in (
+    c.descend-d.ensures a.floors.now (spread-fits (else-not-floored_of-4 c)) n.0 n.1 u c.if-d-ne0.false in (
       subst (λ (x : ℕ). Liftable c.descend-d.new.edges c.descend-d.new.below a.n x (length c.descend-d.new.places))
           (sym c.wide.ensures.0)
           ok,
       u,
       wide_enough a.n a.ends.now a.edges.now a.below.now a.table.now a.longer.now a.places.now _ _ _ _ _ _
-          c.descend-d.ensures a.floors.now (spread-fits c.before.before.before.before.before.before.before.before.before.before.before) n.0 n.1 u c.if-d-ne0.false,
+          c.descend-d.ensures a.floors.now (spread-fits (else-not-floored_of-4 c)) n.0 n.1 u c.if-d-ne0.false,
     )
 
 pub returns : goal.returns
@@ -89,7 +105,7 @@ returns c =
     let a = c.args in
     let n = neither _ c.if-d.false in
     let u = sym c.is_unfloored.ensures ∙ c.if-is_unfloored.false in
-    raises_as _ true (raising c.before.before.before.before.before.before.before.before.before.before.before.before.before.before.before.before)
+    raises_as _ true (raising (else-not-floored_of-5 c))
     (raises_settled a.n a.ends.now a.edges.now a.below.now a.table.now a.longer.now a.places.now _ _ _ _ _ _
-    c.descend-d.ensures a.floors.now (spread-fits c.before.before.before.before.before.before.before.before.before.before.before.before.before.before.before.before) n.0 n.1 u c.if-d-ne0.false _ _ _ c.settled.ensures
+    c.descend-d.ensures a.floors.now (spread-fits (else-not-floored_of-5 c)) n.0 n.1 u c.if-d-ne0.false _ _ _ c.settled.ensures
     c.settled.auto.below c.settled.auto.places)

@@ -12,6 +12,13 @@ After-lift = lts.After-lift tie.the-claims reads.Pre reads.Post
 abbrev After-rows_used-used : Type 0
 After-rows_used-used = lts.After-rows_used tie.the-claims reads.Pre reads.Post
 
+-- the places that facts are read from
+abbrev after-rows_used-used_of : goal.After-slice_known-5-1 → After-rows_used-used
+after-rows_used-used_of c = c.before.before.before.before.before
+
+abbrev after-lift_of : goal.After-slice_known-5-1 → After-lift
+after-lift_of c = c.before.before.before.before.before.before.before.before
+
 pub set_floors-requires : goal.set_floors-requires
 set_floors-requires c =
     (c.requires.0.inside.small, omega (arith, (floors_good _ _ c.requires.1).0), c.requires.0.room)
@@ -37,7 +44,7 @@ few c =
 
 pub overflow_cast-result : goal.overflow_cast-result
 overflow_cast-result c =
-    omega (arith, few c.before.before.before.before.before, c.requires.0.inside.small)
+    omega (arith, few (after-rows_used-used_of c), c.requires.0.inside.small)
 
 pub returns : goal.returns
 returns c =
@@ -47,4 +54,4 @@ returns c =
     let long : 4 * a.n ≤ length c.lift.new.places =
     omega (arith, c.lift.auto.places, c.set_floors.auto.places, c.requires.0.room) in
     settle _ _ _ _ _ c.requires.0 a.floors.now (floors_good _ _ c.requires.1).1 a.places.now _ _ c.set_floors.ensures
-    (came c.before.before.before.before.before.before.before.before) _ _ _ _ c.rows_used-used.ensures wide long (omega (arith, made.0, made.2)) made.1 made.3
+    (came (after-lift_of c)) _ _ _ _ c.rows_used-used.ensures wide long (omega (arith, made.0, made.2)) made.1 made.3

@@ -13,6 +13,16 @@ use Rattle.geometry.proofs.course_among.Goals as goal
 abbrev Then-blocked_among : Type 0
 Then-blocked_among = lts.Then1 tie.the-claims reads.Pre reads.Post
 
+-- the places that facts are read from
+abbrev then-blocked_among_of : goal.After-shared_slice_known-then-blocked_among-3-1 → Then-blocked_among
+then-blocked_among_of c = c.before.before.before.before
+
+abbrev then-blocked_among_of-2 : goal.After-bend_beside → Then-blocked_among
+then-blocked_among_of-2 c = c.before.before.before.before.before
+
+abbrev then-blocked_among_of-3 : goal.After-shared_slice_known-then-blocked_among-3-1-unread → Then-blocked_among
+then-blocked_among_of-3 c = c.before.before.before.before
+
 -- `geometry::course_among` meets its contract. Assumes nothing.
 -- past the test a candidate is in the way
 known : (c : Then-blocked_among) →
@@ -22,10 +32,10 @@ known : (c : Then-blocked_among) →
 known c = c.blocked_among.ensures.holds c.if-blocked_among.true
 
 pub overflow_sub-places : goal.overflow_sub-places
-overflow_sub-places c = omega (arith, hit_rise (known c.before.before.before.before).blocked.hit)
+overflow_sub-places c = omega (arith, hit_rise (known (then-blocked_among_of c)).blocked.hit)
 
 pub returns-then-blocked_among : goal.returns-then-blocked_among
-returns-then-blocked_among c = ap course_code (c.bend_beside.ensures ∙ sym (among_blocked _ _ _ _ _ (known c.before.before.before.before.before)))
+returns-then-blocked_among c = ap course_code (c.bend_beside.ensures ∙ sym (among_blocked _ _ _ _ _ (known (then-blocked_among_of-2 c))))
 
 pub returns : goal.returns
 returns c = ap course_code (sym (among_free _ _ _ _ _ (c.blocked_among.ensures.fails c.if-blocked_among.false)))
@@ -49,4 +59,4 @@ pub overflow_add-head : goal.overflow_add-head
 overflow_add-head c = let b = (known c.before.before.before).blocked in omega arith
 
 pub bounds-places-head : goal.bounds-places-head
-bounds-places-head c = let b = (known c.before.before.before.before).blocked in omega arith
+bounds-places-head c = let b = (known (then-blocked_among_of-3 c)).blocked in omega arith

@@ -16,6 +16,10 @@ After-off_page-3 = lts.After-off_page3 tie.the-claims reads.Pre reads.Post
 abbrev Else-off_page : Type 0
 Else-off_page = lts.Else1 tie.the-claims reads.Pre reads.Post
 
+-- the places that facts are read from
+abbrev start_of : Else-off_page → Start
+start_of c = c.before.before.before.before
+
 -- `page::bent` meets its contract: the test fails where every cell is on the page, and then `point_at` gives its points. Assumes nothing.
 abbrev cells : Start → List Cell
 cells s = s.args.a ∷ s.args.b ∷ s.args.c ∷ []
@@ -30,9 +34,9 @@ tested c =
     c.off_page-2.ensures)
     c.off_page-3.ensures)
 
-on : (c : Else-off_page) → AllOn (cells c.before.before.before.before)
+on : (c : Else-off_page) → AllOn (cells (start_of c))
 on c =
-    clear (cells c.before.before.before.before) (tested c.before ∙ c.if-off_page.false)
+    clear (cells (start_of c)) (tested c.before ∙ c.if-off_page.false)
 
 pub returns-then-off_page : goal.returns-then-off_page
 returns-then-off_page c = refuse _ (tested c.before ∙ c.if-off_page.true)

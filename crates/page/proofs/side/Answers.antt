@@ -16,13 +16,20 @@ After-off_page-4 = lts.After-off_page4 tie.the-claims reads.Pre reads.Post
 abbrev Else-off_page : Type 0
 Else-off_page = lts.Else1 tie.the-claims reads.Pre reads.Post
 
+-- the places that facts are read from
+abbrev start_of : After-off_page-4 → Start
+start_of c = c.before.before.before.before
+
+abbrev start_of-2 : Else-off_page → Start
+start_of-2 c = c.before.before.before.before.before
+
 -- `page::side` meets its contract: the test fails where every cell is on the page, and then `point_at` gives its points. Assumes nothing.
 abbrev cells : Start → List Cell
 cells s = s.args.a ∷ s.args.b ∷ s.args.c ∷ s.args.d ∷ []
 
 -- the code's test is that of the cells
 tested : (c : After-off_page-4)
-    → test (cells c.before.before.before.before)
+    → test (cells (start_of c))
     ≡ (c.off_page.result || c.off_page-2.result || c.off_page-3.result
     || c.off_page-4.result)
 tested c =
@@ -32,9 +39,9 @@ tested c =
     c.off_page-3.ensures)
     c.off_page-4.ensures)
 
-on : (c : Else-off_page) → AllOn (cells c.before.before.before.before.before)
+on : (c : Else-off_page) → AllOn (cells (start_of-2 c))
 on c =
-    clear (cells c.before.before.before.before.before) (tested c.before ∙ c.if-off_page.false)
+    clear (cells (start_of-2 c)) (tested c.before ∙ c.if-off_page.false)
 
 pub returns-then-off_page : goal.returns-then-off_page
 returns-then-off_page c = refuse _ (tested c.before ∙ c.if-off_page.true)

@@ -14,7 +14,8 @@ returns-then-first-ge-MOST c =
     let s = c.if-first-ge-MOST.true in
     let l = c.if-places-most.false in
     let m = c.capped-most.ensures in
-    beside-refused _ _ _ _ _ _ 2 (λ e. omega arith) (λ _ l. omega arith) (λ l. absurd (omega arith)) (λ _ _. refl) c.empty-then-first-ge-MOST.ensures
+    beside-refused _ _ _ _ _ _ 2 (λ e. omega arith) (λ _ l. omega arith) (λ l. absurd (omega arith)) (λ _ _. refl)
+    c.empty-then-first-ge-MOST.ensures
 
 pub without-requires : goal.without-requires
 without-requires c = (omega (arith, c.capped-most.ensures), refl)

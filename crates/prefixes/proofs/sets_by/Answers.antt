@@ -48,8 +48,11 @@ put-requires c =
 
 pub loop-v-preserved-then-k-last : goal.loop-v-preserved-then-k-last
 loop-v-preserved-then-k-last c =
-    let l = c.loop-v in
-    (omega arith, put-more _ _ _ _ _ _ (few c.before.before.before.before.before.before) (key_here c.before.before.before.before.before.before) l.invariant.1 _ c.if-k-last.true c.put.ensures)
+    let l = c.loop-v in (
+      omega arith,
+      put-more _ _ _ _ _ _ (few c.before.before.before.before.before.before)
+          (key_here c.before.before.before.before.before.before) l.invariant.1 _ c.if-k-last.true c.put.ensures,
+    )
 
 pub loop-v-preserved : goal.loop-v-preserved
 loop-v-preserved c =
@@ -75,5 +78,6 @@ returns c =
       c.last_set-last.ensures,
       subst (λ (x : ℕ). Prefixes 2 x key c.last_set-last.result c.join.new.sets) full (made.0 l.v key l.invariant.1.stage),
       shape_of-sets c,
-      λ i h. made.1 i h ∙ l.invariant.1.kept i h ∙ (cleared c.before.before.before.before.before.before.before.before.before).kept i 0 (omega arith),
+      λ i h. made.1 i h ∙ l.invariant.1.kept i h
+          ∙ (cleared c.before.before.before.before.before.before.before.before.before).kept i 0 (omega arith),
     )

@@ -43,5 +43,6 @@ scan-requires c =
 pub returns : goal.returns
 returns c =
     let a = c.args in
-    scans_checked a.n a.ends.now a.edges.now (roomy c.before.before.before.before.before.before.before.before.before.before.before) (within c.before.before.before.before.before.before.before.before.before) _ _ c.scan.ensures
+    scans_checked a.n a.ends.now a.edges.now (roomy c.before.before.before.before.before.before.before.before.before.before.before)
+    (within c.before.before.before.before.before.before.before.before.before) _ _ c.scan.ensures
     (c.scan.auto.edges ∙ c.clear.auto.masks)

@@ -23,6 +23,7 @@ pub record Worked : Type 0 where
   pub numbers : (bundle_of p5 0 2 ≡ 1) × (bundle_of p5 0 3 ≡ 0) × (bundle_of p5 1 3 ≡ 0)
 
 pub worked : Worked
-unfolding p5 bundles_of bundles rounds made best before load waits_at waits taken takes gathers alike bundle_of joined side? apart? adjacent?
+unfolding p5 bundles_of bundles rounds made best before load waits_at waits taken takes gathers alike bundle_of joined side? apart?
+    adjacent?
     edge? count sum tails heads
 worked = record { two = refl; numbers = (refl, refl, refl) }

@@ -72,7 +72,8 @@ pub record Worked : Type 0 where
 
 pub worked : Worked
 unfolding planned planned_to begun begins chain successor successor_from matching matching_to asks augment scan freed candidate marked taken
-    answered predecessor_of none? is? has channel_from channel_of position_of place_from p2 keep arrows routes lower all ring round once related
+    answered predecessor_of none? is? has channel_from channel_of position_of place_from p2 keep arrows routes lower all ring round once
+    related
     among
 worked = record {
   tried-once = (refl, refl, refl);

@@ -16,10 +16,12 @@ overflow_cast-places-in-loop-v c =
     let fit = (c.shared_slice_known-in-loop-v-2-1.given (4 * c.loop-v.v + 1)).fits in record { fits = omega arith }
 
 pub overflow_cast-places-in-loop-v-2 : goal.overflow_cast-places-in-loop-v-2
-overflow_cast-places-in-loop-v-2 c = let fit = (c.shared_slice_known-in-loop-v-4-1.given (4 * c.loop-v.v + 2)).fits in record { fits = omega arith }
+overflow_cast-places-in-loop-v-2 c = let fit = (c.shared_slice_known-in-loop-v-4-1.given (4 * c.loop-v.v + 2)).fits in
+    record { fits = omega arith }
 
 pub overflow_cast-places-in-loop-v-3 : goal.overflow_cast-places-in-loop-v-3
-overflow_cast-places-in-loop-v-3 c = let fit = (c.shared_slice_known-in-loop-v-5-1.given (4 * c.loop-v.v + 3)).fits in record { fits = omega arith }
+overflow_cast-places-in-loop-v-3 c = let fit = (c.shared_slice_known-in-loop-v-5-1.given (4 * c.loop-v.v + 3)).fits in
+    record { fits = omega arith }
 
 pub put_six-requires : goal.put_six-requires
 put_six-requires c = omega (arith, entered_long _ _ _ _ _ c.loop-v.invariant.1)

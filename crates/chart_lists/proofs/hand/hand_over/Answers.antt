@@ -19,6 +19,35 @@ Start = lts.Start tie.the-claims reads.Pre reads.Post
 abbrev Else-k-ne0 : Type 0
 Else-k-ne0 = lts.Else1 tie.the-claims reads.Pre reads.Post
 
+-- the places that facts are read from
+abbrev start_of : Else-k-ne0 → Start
+start_of c = c.before.before.before.before.before.before.before.before.before.before.before.before.before.before.before
+
+abbrev start_of-2 : goal.After-refused → Start
+start_of-2 c =
+    let d = c.before.before.before.before.before.before.before.before.before.before.before.before.before.before in
+    d.before.before.before.before.before.before.before
+
+abbrev else-k-ne0_of : goal.After-put_words-arg-1 → Else-k-ne0
+else-k-ne0_of c = c.before.before.before.before.before.before.before
+
+abbrev else-k-ne0_of-2 : goal.After-put_arrows-arg-1 → Else-k-ne0
+else-k-ne0_of-2 c = c.before.before.before.before.before.before.before.before.before.before.before
+
+abbrev else-k-ne0_of-3 : goal.After-put_bundles-arg-1 → Else-k-ne0
+else-k-ne0_of-3 c = c.before.before.before.before.before.before.before.before.before.before.before.before.before.before.before
+
+abbrev else-k-ne0_of-4 : goal.After-slice_known-9-1 → Else-k-ne0
+else-k-ne0_of-4 c =
+    let d = c.before.before.before.before.before.before.before.before.before.before.before.before.before.before in
+    d.before.before.before.before
+
+abbrev start_of-3 : goal.After-slice_known-9-1 → Start
+start_of-3 c =
+    let d = c.before.before.before.before.before.before.before.before.before.before.before.before.before.before in
+    let e = d.before.before.before.before.before.before.before.before.before.before.before.before.before.before in
+    e.before.before.before.before.before
+
 -- the lists of the plan, with the two that are not read
 abbrev planned : Start → List ℕ → List ℕ → Lists
 planned st edges table =
@@ -35,7 +64,7 @@ whole c =
 
 laid : (c : Else-k-ne0) → let a = c.args in let q = c.requires in
     Laid (graph_content a.n a.ends.now q.given q.field a.floored a.floors.now) a.p
-    (planned c.before.before.before.before.before.before.before.before.before.before.before.before.before.before.before q.edges q.table)
+    (planned (start_of c) q.edges q.table)
 laid c = c.requires.laid (whole c).0
 
 words-ready : (c : Else-k-ne0) → let a = c.args in
@@ -48,7 +77,7 @@ returns-then-k-ne0 c =
     let a = c.args in
     record {
       drawn = λ given field q.
-          call_refused a.n a.ends.now given field a.floored a.floors.now a.p (planned c.before.before.before.before.before.before.before.before.before.before.before.before.before.before.before.before.before.before.before.before.before q.edges q.table) q.answer
+          call_refused a.n a.ends.now given field a.floored a.floors.now a.p (planned (start_of-2 c) q.edges q.table) q.answer
           q.laid a.words.now a.arrows.now a.bundles.now _ c.refusal_of-k.ensures c.if-k-ne0.true _ _
           c.refused.ensures (ap (take 128) c.clear.ensures ∙ zeros_cut 128 (length a.used.now) q.columns);
       refused = λ ne. (
@@ -63,17 +92,17 @@ returns-then-k-ne0 c =
 
 pub put_words-requires : goal.put_words-requires
 put_words-requires c =
-    let f = words-ready c.before.before.before.before.before.before.before in
-    (omega (arith, (whole c.before.before.before.before.before.before.before).1), f.0, f.1, f.2)
+    let f = words-ready (else-k-ne0_of c) in
+    (omega (arith, (whole (else-k-ne0_of c)).1), f.0, f.1, f.2)
 
 pub put_arrows-firm-requires : goal.put_arrows-firm-requires
 put_arrows-firm-requires c =
-    (omega (arith, (whole c.before.before.before.before.before.before.before.before.before.before.before).2), ready _ _ _ _ _ _ _ _ (laid c.before.before.before.before.before.before.before.before.before.before.before) _)
+    (omega (arith, (whole (else-k-ne0_of-2 c)).2), ready _ _ _ _ _ _ _ _ (laid (else-k-ne0_of-2 c)) _)
 
 pub put_bundles-requires : goal.put_bundles-requires
 put_bundles-requires c =
-    let f = bundles_fit _ _ _ _ _ _ _ _ (laid c.before.before.before.before.before.before.before.before.before.before.before.before.before.before.before) in
-    (f.0, omega (arith, (whole c.before.before.before.before.before.before.before.before.before.before.before.before.before.before.before).3), f.1)
+    let f = bundles_fit _ _ _ _ _ _ _ _ (laid (else-k-ne0_of-3 c)) in
+    (f.0, omega (arith, (whole (else-k-ne0_of-3 c)).3), f.1)
 
 pub returns : goal.returns
 returns c =
@@ -81,18 +110,18 @@ returns c =
     let left = subst (λ (k : ℕ). LeftFor a.n k a.places.now (length a.left.now) c.make_left.new.left)
     c.wide.ensures.0 c.make_left.ensures.0 in
     record {
-      refused = λ ne. absurd (ne (whole c.before.before.before.before.before.before.before.before.before.before.before.before.before.before.before.before.before.before).0);
+      refused = λ ne. absurd (ne (whole (else-k-ne0_of-4 c)).0);
       drawn = λ given field q.
-          let t : Lists = planned c.before.before.before.before.before.before.before.before.before.before.before.before.before.before.before.before.before.before.before.before.before.before.before.before.before.before.before.before.before.before.before.before.before q.edges q.table in
+          let t : Lists = planned (start_of-3 c) q.edges q.table in
           call_left a.n a.ends.now given field a.floored a.floors.now a.p t q.answer q.laid a.words.now
           a.arrows.now a.bundles.now _
           c.refusal_of-k.ensures c.if-k-ne0.false _ _ _ _ refl
-          (charted a.n a.ends.now given field a.floored a.floors.now a.p t (q.laid (whole c.before.before.before.before.before.before.before.before.before.before.before.before.before.before.before.before.before.before).0) _ (length a.left.now)
-          (c.requires.left_room (whole c.before.before.before.before.before.before.before.before.before.before.before.before.before.before.before.before.before.before).0) left
+          (charted a.n a.ends.now given field a.floored a.floors.now a.p t (q.laid (whole (else-k-ne0_of-4 c)).0) _ (length a.left.now)
+          (c.requires.left_room (whole (else-k-ne0_of-4 c)).0) left
           a.words.now a.arrows.now a.bundles.now _ _ _ _ q.columns c.put_words.ensures
-          (passed a.n a.ends.now given field a.floored a.floors.now a.p t (q.laid (whole c.before.before.before.before.before.before.before.before.before.before.before.before.before.before.before.before.before.before).0) _ (length a.left.now)
-          (c.requires.left_room (whole c.before.before.before.before.before.before.before.before.before.before.before.before.before.before.before.before.before.before).0) left
-          a.arrows.now _ _ (omega (arith, (whole c.before.before.before.before.before.before.before.before.before.before.before.before.before.before.before.before.before.before).2)) c.put_arrows-firm.ensures) c.put_bundles.ensures);
+          (passed a.n a.ends.now given field a.floored a.floors.now a.p t (q.laid (whole (else-k-ne0_of-4 c)).0) _ (length a.left.now)
+          (c.requires.left_room (whole (else-k-ne0_of-4 c)).0) left
+          a.arrows.now _ _ (omega (arith, (whole (else-k-ne0_of-4 c)).2)) c.put_arrows-firm.ensures) c.put_bundles.ensures);
     }
 
 pub refusal_of-k-requires : goal.refusal_of-k-requires
@@ -114,7 +143,7 @@ pub make_left-requires : goal.make_left-requires
 make_left-requires c = tt
 
 pub slice_bounds-put_arrows-end : goal.slice_bounds-put_arrows-end
-slice_bounds-put_arrows-end c = sym (length-take-le _ _ (words-ready c.before.before.before.before.before.before.before.before.before.before.before).2)
+slice_bounds-put_arrows-end c = sym (length-take-le _ _ (words-ready (else-k-ne0_of-2 c)).2)
 
 pub shape_of-words : goal.shape_of-words
 shape_of-words c = c.put_words.ensures.as_long

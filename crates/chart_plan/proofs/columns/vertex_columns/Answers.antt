@@ -10,6 +10,10 @@ use Rattle.chart_plan.proofs.columns.vertex_columns.Goals as goal
 abbrev In-loop-v : Type 0
 In-loop-v = lts.In-loop tie.the-claims reads.Pre reads.Post goal.the-invariant-loop-v goal.the-decreases-loop-v
 
+-- the places that facts are read from
+abbrev in-loop-v_of : goal.After-shared_slice_known-in-loop-v-2-1 → In-loop-v
+in-loop-v_of c = c.before.before.before.before
+
 pub loop-v-init : goal.loop-v-init
 loop-v-init c = (zero-le, tabled_none _ _)
 
@@ -20,7 +24,7 @@ known c = c.requires.4 c.loop-v.v c.loop-v-test.true
 pub bounds-own-wide : goal.bounds-own-wide
 bounds-own-wide c =
     let g = c.requires in
-    omega (arith, known c.before.before.before.before, c.wide.ensures.0)
+    omega (arith, known (in-loop-v_of c), c.wide.ensures.0)
 
 pub bounds-columns-v : goal.bounds-columns-v
 bounds-columns-v c =

@@ -13,6 +13,26 @@ use Rattle.record.proofs.reading.judge.Goals as goal
 abbrev In-Good : Type 0
 In-Good = lts.Past-After-known_told tie.the-claims reads.Pre reads.Post
 
+-- the places that facts are read from
+abbrev in-Good_of : goal.After-struct_known-3-1 → In-Good
+in-Good_of c = c.before.before.before.before
+
+abbrev in-Good_of-2 : goal.After-check-arg-1 → In-Good
+in-Good_of-2 c = c.before.before.before.before.before
+
+abbrev in-Good_of-3 : goal.After-check-arg-2-1 → In-Good
+in-Good_of-3 c = c.before.before.before.before.before.before
+
+abbrev in-Good_of-4 : goal.Then-checked-ne0 → In-Good
+in-Good_of-4 c =
+    let d = c.before.before.before.before.before.before.before.before.before.before.before.before.before.before in
+    d.before.before.before.before.before.before.before.before.before
+
+abbrev in-Good_of-5 : goal.Else-checked-ne0 → In-Good
+in-Good_of-5 c =
+    let d = c.before.before.before.before.before.before.before.before.before.before.before.before.before.before in
+    d.before.before.before.before.before.before.before.before.before
+
 -- the fields that were found stand as they must
 good : (c : In-Good) → layout_of c.args.b.now ≡ Good c.in-Good.fields
 good c = case_layout _ _ _ c.layout_of-layout.ensures c.in-Good.is
@@ -35,21 +55,21 @@ pub overflow_add-end : goal.overflow_add-end
 overflow_add-end c = omega (arith, (laid c.before.before.before).lines)
 
 pub overflow_add-high : goal.overflow_add-high
-overflow_add-high c = omega (arith, (laid c.before.before.before.before).floors)
+overflow_add-high c = omega (arith, (laid (in-Good_of c)).floors)
 
 pub slice_bounds-check-end : goal.slice_bounds-check-end
-slice_bounds-check-end c = omega (arith, (laid c.before.before.before.before).edges)
+slice_bounds-check-end c = omega (arith, (laid (in-Good_of c)).edges)
 
 pub slice_bounds-check-end-2 : goal.slice_bounds-check-end-2
-slice_bounds-check-end-2 c = omega (arith, (laid c.before.before.before.before.before).lines)
+slice_bounds-check-end-2 c = omega (arith, (laid (in-Good_of-2 c)).lines)
 
 pub slice_bounds-check-end-3 : goal.slice_bounds-check-end-3
-slice_bounds-check-end-3 c = omega (arith, (laid c.before.before.before.before.before.before).floors)
+slice_bounds-check-end-3 c = omega (arith, (laid (in-Good_of-3 c)).floors)
 
 pub returns-then-checked-ne0 : goal.returns-then-checked-ne0
 returns-then-checked-ne0 c =
-    judge-refused _ _ (good c.before.before.before.before.before.before.before.before.before.before.before.before.before.before.before.before.before.before.before.before.before.before.before) _ _ _ _ _ _ _ _ _ c.requires c.check-checked.ensures c.if-checked-ne0.true _ refl refl
+    judge-refused _ _ (good (in-Good_of-4 c)) _ _ _ _ _ _ _ _ _ c.requires c.check-checked.ensures c.if-checked-ne0.true _ refl refl
 
 pub returns : goal.returns
 returns c =
-    judge-passed _ _ (good c.before.before.before.before.before.before.before.before.before.before.before.before.before.before.before.before.before.before.before.before.before.before.before) _ _ _ _ _ _ _ _ _ c.requires c.check-checked.ensures c.if-checked-ne0.false _ refl refl
+    judge-passed _ _ (good (in-Good_of-5 c)) _ _ _ _ _ _ _ _ _ c.requires c.check-checked.ensures c.if-checked-ne0.false _ refl refl
