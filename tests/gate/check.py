@@ -28,7 +28,7 @@ LENT = re.compile(r"(\w+)\s*:\s*&\s*(?:'\w+\s+)?mut\b")
 
 BREAKS = re.compile(r'^# breaks: (\S+), (\S+): \S', re.M)
 TRIED = re.compile(r'^rt: must-fail (\w+/[\w.-]+)\.edit: (.*)')
-REFUSED = re.compile(r'refused, as it must be(?: \((only [^:]*)\))?: (?:\./)?(.*)')
+REFUSED = re.compile(r'refused, as it must be(?: \((only .*?)\))?: (?:\./)?(.*)')
 ERROR = re.compile(r'^(\S+)\.(?:antt|rt)(?::(\d+):\d+)?: error: (?:`([^`]+)`: )?(.*)')
 # a goal without an answer; rt cuts a long line off
 UNPROVED = re.compile(r'^note: (?:\./)?src/(\S+)\.rt:(\d+):\d+: it is not proved .*?\(`([^`]+)(`?)')

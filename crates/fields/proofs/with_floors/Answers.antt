@@ -37,7 +37,7 @@ unfolding with_floors
 returns-then-end-b c =
     let a = c.args in
     let bad : Bad ≡ with_floors a.b.now a.f (Found c.in-Found.start c.in-Found.size) =
-    simp (ne_eqb (c.in-Found.start + c.in-Found.size) (length a.b.now) c.if-end-b.true) in
+    simp (ne_eqb (c.in-Found.start + c.in-Found.size) (length a.b.now) (omega arith)) in
     bad ∙ ap (with_floors a.b.now a.f) (sym (found c.before.before))
 
 pub returns : goal.returns
