@@ -1,4 +1,4 @@
-use Rattle.counting.proofs.Prelude.{◌≡◌, refl, sym, arith, rules}
+use Rattle.counting.proofs.Prelude.{◌≡◌, refl, sym, arith}
 use Rattle.specification.specs.declared.Layout.TheVariants.{Good}
 use Rattle.specification.specs.Layout.{layout_of}
 use Rattle.specification.proofs.Cases.{case_layout}
