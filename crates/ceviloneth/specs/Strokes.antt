@@ -3,7 +3,7 @@ use Rattle.std.specs.Prelude.{◌≡◌, List}
 use Rattle.specification.specs.Page.{answer_for, AllAt}
 use Rattle.specification.specs.declared.Cell.{Cell}
 use Rattle.specification.specs.declared.Stroke.{Stroke}
-use Rattle.specification.specs.Strokes.{cell, stroke_for}
+use Rattle.specification.specs.Strokes.{stroke_for}
 
 -- r is the stroke through these cells: 10 where one of them is off the page, else each point exactly at its cell
 pub record Drawn (cs : List Cell) (r : Stroke) : Type 0 where

@@ -7,7 +7,7 @@ use Rattle.specification.specs.Bundles.{bundle_of, adjacent?}
 use Rattle.specification.specs.Geometry.{gap_width, track_at, course_of}
 use Rattle.specification.specs.declared.Course.{Course}
 use Rattle.specification.specs.declared.Kind.{Kind}
-use Rattle.specification.specs.declared.Kind.TheVariants.{Path, PathTransitive, Bent}
+use Rattle.specification.specs.declared.Kind.TheVariants.{Path, PathTransitive}
 use Rattle.specification.specs.Chart.{tail_of, head_of, Plan, channels_of, plan_of, column_in, place_of, crossing, kind_between}
 use Rattle.specification.specs.Chart.{vertex_entry}
 use Rattle.specification.specs.Chart.{edge_entry, bundle_entry, polyline_of, OnPage, none, more}

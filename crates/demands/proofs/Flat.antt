@@ -1,14 +1,14 @@
 -- Floors of 0 count as none (SPECIFICATION.md, 4.2): a record with them is answered as the one without the field, and rows without
 -- floors are levels, which go by the edges alone. Assumes nothing.
-use Rattle.counting.proofs.Prelude.{◌≡◌, refl, sym, ap, ◌∙◌, ◌↔◌, Bool, true, false, not, ◌||◌, List, [], ℕ, ◌≤◌, ◌<◌, arith, eqb, ltb}
+use Rattle.counting.proofs.Prelude.{◌≡◌, refl, sym, ap, ◌∙◌, ◌↔◌, Bool, true, false, not, List, [], ℕ, ◌<◌, arith, ltb}
 use Rattle.counting.proofs.Prelude.{length}
 use Rattle.counting.proofs.Prelude.{get_or, eq-eqb, le-ltb}
-use mathlib.Core.List.{map, flatten}
+use mathlib.Core.List.{map}
 use Rattle.counting.proofs.Falsity.{neither}
 use Rattle.counting.proofs.Somes.{some_none}
-use Rattle.specification.specs.Count.{choose, some}
+use Rattle.specification.specs.Count.{choose}
 use Rattle.specification.specs.Graph.{edge?}
-use Rattle.specification.specs.Channels.{lines_of, given_lines, every, unknown?, repeats?, broken?}
+use Rattle.specification.specs.Channels.{lines_of, given_lines}
 use Rattle.specification.specs.Checks.{Content, content, unfloored?, floor_at, size?, floor?, stranger?, double?, ring?, repeated?, unled?}
 use Rattle.specification.specs.Checks.{loose_checks, later_checks, first_of, connection_in}
 use Rattle.specification.specs.Writing.{Draft, floor_field, written, Writable}

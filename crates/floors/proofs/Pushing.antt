@@ -1,14 +1,11 @@
 -- The successors of a vertex are lifted above it, and those of the members of a mask. Assumes nothing.
 use Rattle.counting.proofs.Prelude.{◌≡◌, refl, sym, ap, ◌∙◌, subst, ◌≢◌, ⊎_elim, List, ℕ, ◌+◌, ◌-◌, ◌*◌, ◌^◌, ◌≤◌, ◌<◌, min, max, arith}
 use Rattle.counting.proofs.Prelude.{length, get_or, eq-eqb}
-use native.Mathlib.Decide.{ℕ_discrete}
 use lib.Count.{count_trailing_zeros}
 use Rattle.counting.specs.Quads.{quad}
 use Rattle.counting.proofs.Truth.{lt-or-le, two_cases}
 use Rattle.counting.proofs.Above.{above_each}
-use Rattle.specification.specs.Count.{above}
 use Rattle.specification.specs.Sets.{bit, at, has?}
-use Rattle.masks.specs.Pairs.{in_pair}
 use Rattle.masks.proofs.Clearing.{clear}
 use Rattle.masks.proofs.Tables.{at_lt}
 use Rattle.masks.proofs.Pairing.{pair_low, pair_high, pair_at}

@@ -1,5 +1,5 @@
 -- Level by level all vertices come from their floors to their rows. Assumes nothing.
-use Rattle.counting.proofs.Prelude.{◌≡◌, sym, ap, ◌∙◌, subst, ⊎_elim, true, List, ℕ, ◌+◌, ◌-◌, ◌*◌, ◌^◌, ◌≤◌, ◌<◌, arith, length, get_or}
+use Rattle.counting.proofs.Prelude.{◌≡◌, ap, ◌∙◌, subst, ⊎_elim, true, List, ℕ, ◌+◌, ◌-◌, ◌*◌, ◌^◌, ◌≤◌, ◌<◌, arith, get_or}
 use Rattle.counting.proofs.Prelude.{eqb-true}
 use Rattle.counting.specs.Quads.{quad}
 use Rattle.counting.proofs.Truth.{lt-or-le}
@@ -9,7 +9,7 @@ use Rattle.masks.proofs.Bits.{without}
 use Rattle.rows.specs.Levels.{level}
 use Rattle.descent.specs.Steps.Closed.{Arc}
 use Rattle.descent.proofs.Ranking.{arc_rises, low-row, high-row}
-use Rattle.floors.specs.Steps.{row_in, Slope, Rising, Over, Stands, Risen, Above, Arrived, Liftable}
+use Rattle.floors.specs.Steps.{row_in, Slope, Over, Stands, Risen, Above, Arrived, Liftable}
 use Rattle.floors.proofs.Pushing.{risen_none, risen_both, over-kept, stands_kept}
 
 -- the vertices of lower levels have lifted their successors

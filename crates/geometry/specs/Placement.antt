@@ -1,5 +1,5 @@
 -- Where vertices stand: what the theorem about polylines asks. Columns by blocks are so (proofs/Blocks).
-use Rattle.std.specs.Prelude.{◌≡◌, ℕ, ◌+◌, ◌-◌, ◌≤◌, ◌<◌}
+use Rattle.std.specs.Prelude.{◌≡◌, ℕ, ◌+◌, ◌≤◌, ◌<◌}
 use Rattle.specification.specs.Geometry.{Point, Widths, track_at}
 
 -- n vertices at their points, each in a channel at a position; `own c` is channel c's column.

@@ -1,5 +1,5 @@
 -- The kind of an edge by its ends' places and bundles. Assumes nothing.
-use Rattle.std.specs.Prelude.{Bool, not, ◌&&◌, List, ℕ, ◌+◌, ◌-◌, min, max, eqb, ltb}
+use Rattle.std.specs.Prelude.{Bool, not, ◌&&◌, List, ℕ, ◌+◌, min, max, eqb, ltb}
 use Rattle.counting.specs.Quads.{quad}
 use Rattle.specification.specs.Count.{choose}
 use Rattle.specification.specs.Sets.{has?}
@@ -9,7 +9,6 @@ use Rattle.specification.specs.Bundles.{adjacent?}
 use Rattle.specification.specs.Chart.{crossing}
 use Rattle.specification.specs.declared.Kind.{Kind}
 use Rattle.specification.specs.declared.Kind.TheVariants.{Path, PathTransitive}
-use Rattle.kinds.specs.Steps.{between}
 
 -- the kind of the edge from u, in channel c at position p, to v, in channel d at position q; `into` is the bundle of the edges into v, and
 -- `out_of` that of those out of u. Of four numbers a vertex in `places` the third is its row

@@ -1,5 +1,5 @@
 -- The answers of the public calls, and channels planned beside given ones. Assumes nothing.
-use Rattle.counting.proofs.Prelude.{◌≡◌, refl, sym, ap, ◌∙◌, subst, ◌≢◌, Bool, true, false, List, [], ℕ, suc, ◌+◌, ◌*◌, ◌≤◌, ◌<◌}
+use Rattle.counting.proofs.Prelude.{◌≡◌, refl, sym, ap, ◌∙◌, subst, ◌≢◌, Bool, true, List, [], ℕ, suc, ◌+◌, ◌*◌, ◌≤◌, ◌<◌}
 use Rattle.counting.proofs.Prelude.{min, arith, length, replicate}
 use mathlib.Core.Path.{fun_ext}
 use mathlib.Core.Option.{some, none-ne-some}

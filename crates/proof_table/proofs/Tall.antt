@@ -1,9 +1,8 @@
 -- The tallest chart: 128 vertices in a row of edges, from the highest floor. Assumes nothing.
-use Rattle.counting.proofs.Prelude.{◌≡◌, refl, sym, ap, ap₂, ◌∙◌, subst, ◌≢◌, ◌⊎◌, inl, inr, ⊎_elim, true, false, true≢false, List, ℕ, zero}
+use Rattle.counting.proofs.Prelude.{◌≡◌, refl, sym, ap, subst, inl, inr, ⊎_elim, true, true≢false, List, ℕ, zero}
 use Rattle.counting.proofs.Prelude.{suc, ◌+◌, ◌-◌, ◌≤◌, ◌<◌, arith, length, get_or, get_or-eq_default}
 use Rattle.counting.proofs.Truth.{lt-or-le}
 use Rattle.counting.proofs.Above.{above_each, above-le}
-use Rattle.specification.specs.Count.{above}
 use Rattle.specification.specs.Graph.{Reaches, one, more, edge_count, Edge, edge?, alternate, tails_of, heads_of}
 use Rattle.specification.specs.Channels.{given_lines}
 use Rattle.specification.specs.declared.Fields.{Fields}
@@ -11,7 +10,7 @@ use Rattle.specification.specs.declared.Layout.TheVariants.{Good}
 use Rattle.specification.specs.Layout.{bare_fields, floored_fields, size_at, field_at, with_floors, after_lines, with_lines, after_edges}
 use Rattle.specification.specs.Layout.{with_edges}
 use Rattle.specification.specs.Layout.{with_vertices, layout_of}
-use Rattle.specification.specs.Checks.{Content, content_of, Sound}
+use Rattle.specification.specs.Checks.{content_of, Sound}
 use Rattle.specification.specs.Chart.{floor_of, row_of, row_count}
 use Rattle.reach.proofs.Decide.{edge_decided}
 use Rattle.matching.proofs.Beside.{none_whole}

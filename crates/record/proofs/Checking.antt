@@ -14,7 +14,7 @@ use Rattle.specification.specs.Connection.{connects}
 use Rattle.reach.specs.Closure.{connection_by}
 use Rattle.reach.proofs.Connecting as connecting
 use Rattle.descent.specs.Promise.{edges_refusal}
-use Rattle.floors.specs.Promise.{Roomy, raised_refusal, Raised, Raises}
+use Rattle.floors.specs.Promise.{Roomy, Raised, Raises}
 use Rattle.descent.specs.declared.Descent.{Descent}
 use Rattle.specification.specs.Sets.{has?}
 use Rattle.channels.specs.Promise.{Answers, Plans, Gives}

@@ -1,5 +1,5 @@
 -- The sound records are accepted, and no others. Assumes nothing.
-use Rattle.counting.proofs.Prelude.{◌≡◌, refl, sym, ap, ◌∙◌, subst, ◌↔◌, ◌⊎◌, ⊎_elim, ◌≢◌, Bool, true, false, true≢false, not, ◌&&◌}
+use Rattle.counting.proofs.Prelude.{◌≡◌, refl, sym, ap, ◌∙◌, subst, ◌↔◌, ⊎_elim, ◌≢◌, Bool, true, false, true≢false, not, ◌&&◌}
 use Rattle.counting.proofs.Prelude.{List, [], ◌∷◌, ℕ, zero, suc, ◌≤◌, ◌<◌, arith, eqb, leb, ltb, length, get_or, eq-eqb, eqb-true, le-ltb}
 use Rattle.counting.proofs.Prelude.{lt-leb, leb-false, ltb-false, not-false, get_or-eq_default}
 use Rattle.specification.specs.Count.{choose, some}

@@ -10,7 +10,6 @@ use Rattle.specification.specs.declared.Code.{Code}
 use Rattle.specification.specs.declared.Connection.{Connection}
 use Rattle.specification.specs.declared.Connection.TheVariants.{Unreached, EdgeOnly, LongerOnly, Both}
 use Rattle.specification.specs.Connection.{connection_number, numbered}
-use Prim.Native.Nat.{ℕ}
 use Rattle.specification.specs.Layout.{LayoutAnswer, layout_answer}
 use Rattle.specification.specs.Numbers.{code_of, course_code}
 

@@ -1,4 +1,4 @@
-use Rattle.counting.proofs.Prelude.{ap, ◌∙◌, rules}
+use Rattle.counting.proofs.Prelude.{ap, ◌∙◌}
 use Rattle.specification.specs.Asked.{leading_of}
 use Rattle.ceviloneth.proofs.ceviloneth_leads.Goals as goal
 

@@ -1,4 +1,4 @@
-use Rattle.counting.proofs.Prelude.{refl, rules}
+use Rattle.counting.proofs.Prelude.{refl}
 use Rattle.ceviloneth.proofs.Changing.{tells_short, tells}
 use Rattle.ceviloneth.proofs.ceviloneth_session_leads.Goals as goal
 

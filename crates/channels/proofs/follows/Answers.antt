@@ -1,4 +1,4 @@
-use Rattle.counting.proofs.Prelude.{sym, ap, ◌∙◌, rules}
+use Rattle.counting.proofs.Prelude.{sym, ap, ◌∙◌}
 use Rattle.specification.specs.Sets.{at, has?}
 use Rattle.specification.specs.Connection.{leading?}
 use Rattle.specification.specs.declared.Connection.{Connection}

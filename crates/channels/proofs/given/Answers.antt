@@ -1,4 +1,4 @@
-use Rattle.counting.proofs.Prelude.{refl, sym, ap, ◌∙◌, arith, rules}
+use Rattle.counting.proofs.Prelude.{refl, sym, ap, ◌∙◌, arith}
 use Rattle.counting.proofs.Sizes.{sized}
 use Rattle.planning.specs.declared.Channels.{Channels}
 use Rattle.planning.proofs.Laying.{kept_wider, kept_on, none_upto}

@@ -1,4 +1,4 @@
-use Rattle.counting.proofs.Prelude.{refl, arith, length-set, rules}
+use Rattle.counting.proofs.Prelude.{refl, arith, length-set}
 use Rattle.planning.proofs.Laying.{kept_same, kept-placed}
 use Rattle.channels.proofs.lay.Goals as goal
 

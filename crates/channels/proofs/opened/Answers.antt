@@ -1,4 +1,4 @@
-use Rattle.counting.proofs.Prelude.{arith, rules}
+use Rattle.counting.proofs.Prelude.{arith}
 use Rattle.channels.proofs.Laying.{opened-first, opened_later}
 use Rattle.channels.proofs.opened.Goals as goal
 

@@ -1,4 +1,4 @@
-use Rattle.counting.proofs.Prelude.{refl, rules}
+use Rattle.counting.proofs.Prelude.{refl}
 use Rattle.counting.proofs.Sizes.{sized}
 use Rattle.channels.proofs.Answers.{answers-sized, plan-answers}
 use Rattle.channels.proofs.plan.Goals as goal

@@ -1,4 +1,4 @@
-use Rattle.counting.proofs.Prelude.{sym, arith, rules}
+use Rattle.counting.proofs.Prelude.{sym, arith}
 use Rattle.counting.proofs.Sizes.{none_unsized, many_unsized, size-refused, size-taken, sized}
 use Rattle.channels.proofs.sized.Goals as goal
 

@@ -1,5 +1,5 @@
-use Rattle.counting.proofs.Prelude.{sym, ◌-◌, ◌≤◌, arith, length, rules}
-use Rattle.channels.proofs.Checks.{Known, known_none, known_length, known_found, known_more, known_all}
+use Rattle.counting.proofs.Prelude.{sym, arith}
+use Rattle.channels.proofs.Checks.{known_none, known_length, known_found, known_more, known_all}
 use Rattle.channels.proofs.unknown.Goals as goal
 
 pub loop-i-init : goal.loop-i-init

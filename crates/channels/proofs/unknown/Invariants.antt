@@ -1,5 +1,5 @@
-use Rattle.counting.proofs.Prelude.{sym, ◌-◌, ◌≤◌, arith, length, rules}
-use Rattle.channels.proofs.Checks.{Known, known_none, known_length, known_found, known_more, known_all}
+use Rattle.counting.proofs.Prelude.{◌-◌, ◌≤◌, length}
+use Rattle.channels.proofs.Checks.{Known}
 use Rattle.channels.proofs.unknown.Given as goal
 
 abbrev pub invariant-loop-i : goal.invariant-loop-i

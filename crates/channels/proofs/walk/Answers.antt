@@ -1,9 +1,7 @@
-use Rattle.counting.proofs.Prelude.{refl, ◌∙◌, ◌-◌, ◌≤◌, arith, length, rules}
-use Rattle.reach.specs.Closure.{connection_by}
-use Rattle.planning.specs.Arranged.{Kept}
+use Rattle.counting.proofs.Prelude.{refl, ◌∙◌, arith}
 use Rattle.planning.proofs.Laying.{kept_same, kept_on}
-use Rattle.channels.proofs.Walking.{Walking, walking_none, walking_length, walked_unknown, walking_more}
-use Rattle.channels.proofs.Tabling.{Tabling, tabling_none, tabling_length, tabling_more, walks_refused, walks_all}
+use Rattle.channels.proofs.Walking.{walking_none, walking_length, walked_unknown, walking_more}
+use Rattle.channels.proofs.Tabling.{tabling_none, tabling_length, tabling_more, walks_refused, walks_all}
 use Rattle.channels.proofs.walk.Goals as goal
 
 pub loop-i-init : goal.loop-i-init

@@ -1,9 +1,8 @@
-use Rattle.counting.proofs.Prelude.{refl, ◌∙◌, ◌-◌, ◌≤◌, arith, length, rules}
+use Rattle.counting.proofs.Prelude.{◌-◌, ◌≤◌, length}
 use Rattle.reach.specs.Closure.{connection_by}
 use Rattle.planning.specs.Arranged.{Kept}
-use Rattle.planning.proofs.Laying.{kept_same, kept_on}
-use Rattle.channels.proofs.Walking.{Walking, walking_none, walking_length, walked_unknown, walking_more}
-use Rattle.channels.proofs.Tabling.{Tabling, tabling_none, tabling_length, tabling_more, walks_refused, walks_all}
+use Rattle.channels.proofs.Walking.{Walking}
+use Rattle.channels.proofs.Tabling.{Tabling}
 use Rattle.channels.proofs.walk.Given as goal
 
 abbrev pub invariant-loop-i : goal.invariant-loop-i

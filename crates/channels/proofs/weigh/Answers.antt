@@ -1,4 +1,4 @@
-use Rattle.counting.proofs.Prelude.{sym, ◌∙◌, true≢false, rules}
+use Rattle.counting.proofs.Prelude.{sym, ◌∙◌, true≢false}
 use Rattle.channels.proofs.Walking.{weighed_again, weighed-kept, weighed_led, weighed-cut}
 use Rattle.channels.proofs.weigh.Goals as goal
 

@@ -1,4 +1,4 @@
-use Rattle.counting.proofs.Prelude.{sym, ◌∙◌, true≢false, arith, rules}
+use Rattle.counting.proofs.Prelude.{sym, ◌∙◌, true≢false, arith}
 use Rattle.chart_numbers.proofs.level.Goals as goal
 
 -- `chart_numbers::level` meets its contract: without floors there are no more rows than vertices. Assumes nothing.

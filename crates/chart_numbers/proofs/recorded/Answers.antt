@@ -1,4 +1,4 @@
-use Rattle.counting.proofs.Prelude.{◌≡◌, arith, rules}
+use Rattle.counting.proofs.Prelude.{◌≡◌, arith}
 use Rattle.counting.proofs.Clearing.{cleared-length}
 use Rattle.specification.specs.declared.Layout.TheVariants.{Good}
 use Rattle.specification.specs.Layout.{layout_of}

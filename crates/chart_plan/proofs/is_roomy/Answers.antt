@@ -1,4 +1,4 @@
-use Rattle.counting.proofs.Prelude.{◌≡◌, ℕ, ◌*◌, ◌≤◌, leb, lt-leb, le-leb, rules}
+use Rattle.counting.proofs.Prelude.{◌≡◌, ℕ, ◌*◌, ◌≤◌, leb, lt-leb, le-leb}
 use Rattle.chart_plan.specs.Steps.{roomy?}
 use Rattle.chart_plan.proofs.is_roomy.Goals as goal
 

@@ -1,4 +1,4 @@
-use Rattle.counting.proofs.Prelude.{◌≡◌, true, not-true, not-false, arith, rules}
+use Rattle.counting.proofs.Prelude.{◌≡◌, true, arith}
 use Rattle.chart_plan.specs.Laid.{Lists, lists}
 use Rattle.chart_plan.proofs.Planning.{tested, tested_so, cramped_plan, refused-plan, passed, broad_plan, laid-plan}
 use Rattle.chart_plan.proofs.planned.Lts as lts

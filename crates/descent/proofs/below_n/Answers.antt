@@ -1,4 +1,4 @@
-use Rattle.counting.proofs.Prelude.{◌≡◌, refl, sym, ap, subst, ℕ, ◌-◌, ◌*◌, ◌%◌, ◌^◌, ◌≤◌, ◌<◌, arith, rules}
+use Rattle.counting.proofs.Prelude.{◌≡◌, refl, sym, ap, subst, ℕ, ◌-◌, ◌*◌, ◌%◌, ◌^◌, ◌≤◌, ◌<◌, arith}
 use native.Mathlib.Nat.{lt_of_lt_of_le}
 use lib.Pow.{pow_pos, pow_mono}
 use Rattle.masks.proofs.Bits.{one_shl}

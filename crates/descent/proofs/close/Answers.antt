@@ -1,4 +1,4 @@
-use Rattle.counting.proofs.Prelude.{◌≡◌, refl, ◌∙◌, subst, ℕ, ◌+◌, ◌-◌, ◌*◌, ◌≤◌, ◌<◌, zero-le, arith, length, rules}
+use Rattle.counting.proofs.Prelude.{◌≡◌, refl, ◌∙◌, subst, ℕ, ◌+◌, ◌-◌, ◌*◌, ◌≤◌, ◌<◌, zero-le, arith, length}
 use Rattle.descent.proofs.Ranking.{inside_ample, row_long, ready_low, ready_high}
 use Rattle.descent.proofs.Ranking.{Descended, descended_none, descended_more, descended_all}
 use Rattle.descent.proofs.close.Lts as lts

@@ -1,6 +1,5 @@
-use Rattle.counting.proofs.Prelude.{◌≡◌, refl, ◌∙◌, subst, ℕ, ◌+◌, ◌-◌, ◌*◌, ◌≤◌, ◌<◌, zero-le, arith, length, rules}
-use Rattle.descent.proofs.Ranking.{inside_ample, row_long, ready_low, ready_high}
-use Rattle.descent.proofs.Ranking.{Descended, descended_none, descended_more, descended_all}
+use Rattle.counting.proofs.Prelude.{◌≡◌, ◌+◌, ◌*◌, ◌≤◌, length}
+use Rattle.descent.proofs.Ranking.{Descended}
 use Rattle.descent.proofs.close.Given as goal
 
 abbrev pub invariant-loop-r : goal.invariant-loop-r

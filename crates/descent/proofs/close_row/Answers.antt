@@ -1,7 +1,7 @@
-use Rattle.counting.proofs.Prelude.{◌≡◌, refl, ◌∙◌, ◌<◌, arith, length, rules}
+use Rattle.counting.proofs.Prelude.{refl, ◌∙◌, ◌<◌, arith}
 use lib.Count.{count_trailing_zeros}
 use Rattle.masks.proofs.Visiting.{lowest-lt, lowest_in, visited_less}
-use Rattle.descent.proofs.Rowing.{ample_same, Closing, closing_none, closing_more, closing_all}
+use Rattle.descent.proofs.Rowing.{ample_same, closing_none, closing_more, closing_all}
 use Rattle.descent.proofs.close_row.Lts as lts
 use Rattle.descent.proofs.close_row.Reads as reads
 use Rattle.descent.proofs.close_row.Tie as tie

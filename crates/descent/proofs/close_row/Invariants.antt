@@ -1,7 +1,5 @@
-use Rattle.counting.proofs.Prelude.{◌≡◌, refl, ◌∙◌, ◌<◌, arith, length, rules}
-use lib.Count.{count_trailing_zeros}
-use Rattle.masks.proofs.Visiting.{lowest-lt, lowest_in, visited_less}
-use Rattle.descent.proofs.Rowing.{ample_same, Closing, closing_none, closing_more, closing_all}
+use Rattle.counting.proofs.Prelude.{◌≡◌, length}
+use Rattle.descent.proofs.Rowing.{Closing}
 use Rattle.descent.proofs.close_row.Given as goal
 
 abbrev pub invariant-loop-x : goal.invariant-loop-x

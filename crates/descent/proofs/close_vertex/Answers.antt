@@ -1,4 +1,4 @@
-use Rattle.counting.proofs.Prelude.{refl, ◌∙◌, ◌+◌, ◌*◌, ◌^◌, ◌<◌, arith, get_or, length-set, rules}
+use Rattle.counting.proofs.Prelude.{refl, ◌∙◌, ◌+◌, ◌*◌, ◌^◌, ◌<◌, arith, get_or, length-set}
 use lib.Bits.{bit_or, or_lt}
 use Rattle.counting.proofs.Quads.{quad-same, quad_other}
 use Rattle.descent.proofs.Descending.{stored_law, long_law, nested_law, vertex_law}

@@ -1,4 +1,4 @@
-use Rattle.counting.proofs.Prelude.{sym, ◌∙◌, not-true, not-false, rules}
+use Rattle.counting.proofs.Prelude.{sym, ◌∙◌}
 use Rattle.descent.specs.Promise.{Sized}
 use Rattle.descent.proofs.Answering.{fits_sized, descends_misfit, descends_ends, descends_ready, descends_ranked}
 use Rattle.descent.proofs.descend.Lts as lts

@@ -1,8 +1,6 @@
-use Rattle.counting.proofs.Prelude.{refl, ◌+◌, ◌*◌, ◌≤◌, ◌<◌, arith, length, rules}
-use lib.Count.{count_trailing_zeros}
-use Rattle.masks.proofs.Visiting.{lowest-lt, lowest_in, visited_less}
+use Rattle.counting.proofs.Prelude.{◌≤◌}
 use Rattle.descent.specs.Steps.Members.{Long}
-use Rattle.descent.proofs.Gathering.{Gathering, gathering_none, gathering_more, gathering_all}
+use Rattle.descent.proofs.Gathering.{Gathering}
 use Rattle.descent.proofs.gather.Given as goal
 
 abbrev pub invariant-loop-x : goal.invariant-loop-x

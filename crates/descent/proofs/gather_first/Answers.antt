@@ -1,8 +1,7 @@
-use Rattle.counting.proofs.Prelude.{◌≡◌, refl, ℕ, ◌+◌, ◌*◌, ◌≤◌, ◌<◌, arith, length, get_or, rules}
+use Rattle.counting.proofs.Prelude.{◌≡◌, refl, ◌+◌, ◌*◌, ◌≤◌, ◌<◌, arith, length}
 use lib.Count.{count_trailing_zeros}
 use Rattle.masks.proofs.Visiting.{lowest-lt, lowest_in, visited_less}
-use Rattle.descent.specs.Steps.Members.{Long}
-use Rattle.descent.proofs.Gathering.{Gathering, gathering_none, gathering_more, gathering_all}
+use Rattle.descent.proofs.Gathering.{gathering_none, gathering_more, gathering_all}
 use Rattle.descent.proofs.gather_first.Lts as lts
 use Rattle.descent.proofs.gather_first.Reads as reads
 use Rattle.descent.proofs.gather_first.Goals as goal

@@ -1,6 +1,4 @@
-use Rattle.counting.proofs.Prelude.{◌≡◌, refl, ◌∙◌, subst, ℕ, ◌+◌, ◌-◌, ◌*◌, ◌≤◌, zero-le, arith, length, length-set, rules}
-use Rattle.descent.specs.Steps.Members.{Below}
-use Rattle.specification.specs.Lent.{KeptFrom}
+use Rattle.counting.proofs.Prelude.{◌≡◌, refl, ◌∙◌, subst, ℕ, ◌+◌, zero-le, arith, length-set}
 use Rattle.descent.proofs.Descending.{stored_law, stored_past}
 use Rattle.descent.proofs.Rounding.{Round, round_none, round_long, round_room, round-more, round-over, round-refused}
 use Rattle.descent.proofs.grown.Goals as goal

@@ -1,4 +1,4 @@
-use Rattle.counting.proofs.Prelude.{◌≡◌, sym, ℕ, ◌+◌, ◌*◌, ◌≤◌, ◌<◌, min, arith, leb, lt-leb, le-leb, rules}
+use Rattle.counting.proofs.Prelude.{◌≡◌, sym, ℕ, ◌+◌, ◌*◌, ◌≤◌, ◌<◌, min, arith, leb, lt-leb, le-leb}
 use Rattle.descent.specs.Steps.Closed.{fits?}
 use Rattle.descent.proofs.is_fit.Lts as lts
 use Rattle.descent.proofs.is_fit.Reads as reads

@@ -1,4 +1,4 @@
-use Rattle.counting.proofs.Prelude.{◌≡◌, ap, ℕ, ◌+◌, arith, rules}
+use Rattle.counting.proofs.Prelude.{◌≡◌, ap, ℕ, ◌+◌, arith}
 use lib.Count.{ones, ones-le}
 use Rattle.descent.proofs.members.Goals as goal
 

@@ -1,4 +1,4 @@
-use Rattle.counting.proofs.Prelude.{arith, rules}
+use Rattle.counting.proofs.Prelude.{arith}
 use Rattle.descent.proofs.Answering.{ranked_cyclic, ranked-made}
 use Rattle.descent.proofs.ranked.Goals as goal
 

@@ -1,9 +1,8 @@
-use Rattle.counting.proofs.Prelude.{◌+◌, ◌*◌, ◌≤◌, ◌<◌, arith, length, rules}
+use Rattle.counting.proofs.Prelude.{◌+◌, ◌*◌, ◌≤◌, ◌<◌, arith, length}
 use lib.Count.{count_trailing_zeros}
 use Rattle.masks.proofs.Visiting.{lowest-lt, lowest_in}
-use Rattle.descent.specs.Steps.Members.{Long}
 use Rattle.descent.proofs.Gathering.{gathering_all, pictured_both}
-use Rattle.descent.proofs.Skipping.{First, first_none, first_more, nested_second, covered_second, skip_less}
+use Rattle.descent.proofs.Skipping.{first_none, first_more, nested_second, covered_second, skip_less}
 use Rattle.descent.proofs.reached.Lts as lts
 use Rattle.descent.proofs.reached.Reads as reads
 use Rattle.descent.proofs.reached.Tie as tie

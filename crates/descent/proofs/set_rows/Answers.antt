@@ -1,8 +1,7 @@
-use Rattle.counting.proofs.Prelude.{◌≡◌, refl, ◌∙◌, ◌+◌, ◌*◌, ◌≤◌, ◌<◌, arith, length, length-set, rules}
+use Rattle.counting.proofs.Prelude.{refl, ◌∙◌, ◌+◌, ◌*◌, ◌<◌, arith, length, length-set}
 use lib.Count.{count_trailing_zeros}
 use Rattle.masks.proofs.Visiting.{lowest-lt, lowest_in, visited_less}
-use Rattle.descent.specs.Steps.Members.{Long}
-use Rattle.descent.proofs.Rowing.{Writing, writing_none, writing_more, writing_all}
+use Rattle.descent.proofs.Rowing.{writing_none, writing_more, writing_all}
 use Rattle.descent.proofs.set_rows.Lts as lts
 use Rattle.descent.proofs.set_rows.Reads as reads
 use Rattle.descent.proofs.set_rows.Goals as goal

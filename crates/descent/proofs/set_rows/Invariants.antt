@@ -1,8 +1,6 @@
-use Rattle.counting.proofs.Prelude.{◌≡◌, refl, ◌∙◌, ◌+◌, ◌*◌, ◌≤◌, ◌<◌, arith, length, length-set, rules}
-use lib.Count.{count_trailing_zeros}
-use Rattle.masks.proofs.Visiting.{lowest-lt, lowest_in, visited_less}
+use Rattle.counting.proofs.Prelude.{◌≡◌, ◌≤◌, length}
 use Rattle.descent.specs.Steps.Members.{Long}
-use Rattle.descent.proofs.Rowing.{Writing, writing_none, writing_more, writing_all}
+use Rattle.descent.proofs.Rowing.{Writing}
 use Rattle.descent.proofs.set_rows.Given as goal
 
 abbrev pub invariant-loop-x : goal.invariant-loop-x

@@ -1,9 +1,8 @@
-use Rattle.counting.proofs.Prelude.{◌+◌, ◌*◌, ◌≤◌, ◌<◌, arith, length, rules}
+use Rattle.counting.proofs.Prelude.{◌+◌, ◌*◌, ◌≤◌, ◌<◌, arith, length}
 use lib.Count.{count_trailing_zeros}
 use Rattle.masks.proofs.Visiting.{lowest-lt, lowest_in}
-use Rattle.descent.specs.Steps.Members.{Long}
 use Rattle.descent.proofs.Gathering.{gathering_all}
-use Rattle.descent.proofs.Skipping.{Second, second_none, second_more, skip_less}
+use Rattle.descent.proofs.Skipping.{second_none, second_more, skip_less}
 use Rattle.descent.proofs.with_second.Lts as lts
 use Rattle.descent.proofs.with_second.Reads as reads
 use Rattle.descent.proofs.with_second.Goals as goal

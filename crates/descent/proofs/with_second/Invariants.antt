@@ -1,9 +1,5 @@
-use Rattle.counting.proofs.Prelude.{◌+◌, ◌*◌, ◌≤◌, ◌<◌, arith, length, rules}
-use lib.Count.{count_trailing_zeros}
-use Rattle.masks.proofs.Visiting.{lowest-lt, lowest_in}
 use Rattle.descent.specs.Steps.Members.{Long}
-use Rattle.descent.proofs.Gathering.{gathering_all}
-use Rattle.descent.proofs.Skipping.{Second, second_none, second_more, skip_less}
+use Rattle.descent.proofs.Skipping.{Second}
 use Rattle.descent.proofs.with_second.Given as goal
 
 abbrev pub invariant-loop-x : goal.invariant-loop-x

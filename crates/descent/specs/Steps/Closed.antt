@@ -3,7 +3,7 @@
 use Rattle.std.specs.Prelude.{◌≡◌, ◌≢◌, ◌↔◌, Bool, ◌&&◌, List, ℕ, ◌+◌, ◌*◌, ◌≤◌, ◌<◌, min, ltb, leb, length, get_or}
 use Rattle.specification.specs.Count.{sum, count}
 use Rattle.specification.specs.Sets.{bit, at, has?}
-use Rattle.specification.specs.Graph.{Reaches, Longer, reaches?, refusal}
+use Rattle.specification.specs.Graph.{Reaches, Longer, reaches?}
 use Rattle.rows.specs.Levels.{level, levels_used}
 use Rattle.counting.specs.Quads.{quad}
 use Rattle.masks.specs.Sets.{Blank}

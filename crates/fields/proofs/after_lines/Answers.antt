@@ -1,4 +1,4 @@
-use Rattle.counting.proofs.Prelude.{eq-eqb, ne_eqb, rules}
+use Rattle.counting.proofs.Prelude.{eq-eqb, ne_eqb}
 use Rattle.specification.specs.Layout.{after_lines}
 use Rattle.fields.proofs.after_lines.Goals as goal
 

@@ -1,4 +1,4 @@
-use Rattle.counting.proofs.Prelude.{◌≡◌, ap, ap₂, true, false, ℕ, ◌+◌, ◌*◌, arith, leb, length, le-leb, lt-leb, eq-eqb, ne_eqb, rules}
+use Rattle.counting.proofs.Prelude.{◌≡◌, ap, ap₂, true, false, ℕ, ◌+◌, ◌*◌, arith, leb, length, le-leb, lt-leb, eq-eqb, ne_eqb}
 use Rattle.specification.specs.declared.Field.TheVariants.{Found}
 use Rattle.specification.specs.Layout.{size_at, field_at}
 use Rattle.fields.proofs.field_at.Lts as lts

@@ -1,4 +1,4 @@
-use Rattle.counting.proofs.Prelude.{◌≡◌, refl, sym, ap, ◌∙◌, ℕ, ◌+◌, ◌-◌, ◌≤◌, ◌<◌, zero-le, arith, length, drop, rules}
+use Rattle.counting.proofs.Prelude.{refl, sym, ap, ◌∙◌, ℕ, ◌+◌, zero-le, arith, drop}
 use Rattle.specification.specs.Layout.{lined}
 use Rattle.fields.proofs.Lining.{lined-empty, lined-begins, lined_goes, lined-ends}
 use Rattle.fields.proofs.is_lined.Goals as goal

@@ -1,6 +1,5 @@
-use Rattle.counting.proofs.Prelude.{◌≡◌, refl, sym, ap, ◌∙◌, ℕ, ◌+◌, ◌-◌, ◌≤◌, ◌<◌, zero-le, arith, length, drop, rules}
+use Rattle.counting.proofs.Prelude.{◌≡◌, ◌-◌, ◌≤◌, ◌<◌, length, drop}
 use Rattle.specification.specs.Layout.{lined}
-use Rattle.fields.proofs.Lining.{lined-empty, lined-begins, lined_goes, lined-ends}
 use Rattle.fields.proofs.is_lined.Given as goal
 
 abbrev pub invariant-loop-i : goal.invariant-loop-i

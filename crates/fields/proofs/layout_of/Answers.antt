@@ -1,4 +1,4 @@
-use Rattle.counting.proofs.Prelude.{◌≡◌, sym, ap, ◌∙◌, ℕ, ◌+◌, arith, length, get_or, eq-eqb, ne_eqb, le-leb, lt-leb, rules}
+use Rattle.counting.proofs.Prelude.{◌≡◌, sym, ap, ◌∙◌, ℕ, ◌+◌, arith, length, get_or, eq-eqb, ne_eqb, le-leb, lt-leb}
 use Rattle.specification.specs.declared.Field.TheVariants.{Found}
 use Rattle.specification.specs.declared.Layout.TheVariants.{Bad}
 use Rattle.specification.specs.Limits.{most_bytes}

@@ -1,4 +1,4 @@
-use Rattle.counting.proofs.Prelude.{◌≡◌, sym, ap, ◌∙◌, ◌+◌, arith, length, eq-eqb, ne_eqb, rules}
+use Rattle.counting.proofs.Prelude.{◌≡◌, sym, ap, ◌∙◌, ◌+◌, arith, length, eq-eqb, ne_eqb}
 use Rattle.specification.specs.declared.Field.TheVariants.{Found}
 use Rattle.specification.specs.declared.Layout.TheVariants.{Good, Bad}
 use Rattle.specification.specs.Layout.{field_at, floored_fields, with_floors}

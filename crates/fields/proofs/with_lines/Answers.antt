@@ -1,4 +1,4 @@
-use Rattle.counting.proofs.Prelude.{◌≡◌, sym, ap, ◌∙◌, Bool, true, false, ℕ, ◌+◌, ◌-◌, arith, take, drop, rules}
+use Rattle.counting.proofs.Prelude.{◌≡◌, sym, ap, ◌∙◌, Bool, true, false, ℕ, ◌+◌, ◌-◌, arith, take, drop}
 use Rattle.specification.specs.declared.Field.TheVariants.{Found}
 use Rattle.specification.specs.declared.Layout.TheVariants.{Bad}
 use Rattle.specification.specs.Layout.{field_at, lined, with_lines}

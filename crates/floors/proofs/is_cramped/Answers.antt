@@ -1,4 +1,4 @@
-use Rattle.counting.proofs.Prelude.{sym, ap, ◌∙◌, Bool, ◌&&◌, ltb, rules}
+use Rattle.counting.proofs.Prelude.{sym, ap, ◌∙◌, Bool, ◌&&◌, ltb}
 use Rattle.floors.specs.Promise.{spread}
 use Rattle.floors.proofs.is_cramped.Goals as goal
 

@@ -1,4 +1,4 @@
-use Rattle.counting.proofs.Prelude.{◌≡◌, refl, sym, false, ℕ, ◌-◌, ◌≤◌, ◌<◌, arith, length, get_or, ltb, le-ltb, lt-ltb, rules}
+use Rattle.counting.proofs.Prelude.{refl, sym, ◌≤◌, arith, get_or, le-ltb, lt-ltb}
 use native.Mathlib.Nat.{not-suc-le-zero}
 use borrow.Author.Count.{below_more}
 use Rattle.counting.proofs.Somes.{some_found, some_none}

@@ -1,8 +1,4 @@
-use Rattle.counting.proofs.Prelude.{◌≡◌, refl, sym, false, ℕ, ◌-◌, ◌≤◌, ◌<◌, arith, length, get_or, ltb, le-ltb, lt-ltb, rules}
-use native.Mathlib.Nat.{not-suc-le-zero}
-use borrow.Author.Count.{below_more}
-use Rattle.counting.proofs.Somes.{some_found, some_none}
-use Rattle.floors.specs.Steps.{too_high?}
+use Rattle.counting.proofs.Prelude.{◌≡◌, false, ℕ, ◌-◌, ◌≤◌, ◌<◌, length, get_or, ltb}
 use Rattle.floors.proofs.is_too_high.Given as goal
 
 abbrev pub invariant-loop-v : goal.invariant-loop-v

@@ -1,4 +1,4 @@
-use Rattle.counting.proofs.Prelude.{◌≡◌, sym, ap, ◌∙◌, true, false, not, ◌||◌, eqb, length, eq-eqb, ne_eqb, rules}
+use Rattle.counting.proofs.Prelude.{eq-eqb, ne_eqb}
 use Rattle.specification.specs.Checks.{unfloored?}
 use Rattle.floors.specs.Steps.{too_high?}
 use Rattle.floors.proofs.is_unfloored.Goals as goal

@@ -1,10 +1,9 @@
-use Rattle.counting.proofs.Prelude.{◌≡◌, refl, ◌∙◌, List, ℕ, ◌+◌, ◌-◌, ◌*◌, ◌≤◌, ◌<◌, zero-le, arith, length, get_or, rules}
+use Rattle.counting.proofs.Prelude.{refl, ◌∙◌, List, ℕ, ◌+◌, ◌*◌, ◌≤◌, zero-le, arith, length, get_or}
 use Rattle.masks.proofs.Bits.{without}
 use Rattle.descent.specs.Steps.Members.{Long}
-use Rattle.counting.specs.Quads.{quad}
 use Rattle.descent.proofs.Ranking.{row_long}
-use Rattle.floors.specs.Steps.{Ample, Slope}
-use Rattle.floors.proofs.Rising.{Climbing, climbing_none, climbing_more, climbing_all, stand_low, stand_high}
+use Rattle.floors.specs.Steps.{Ample}
+use Rattle.floors.proofs.Rising.{climbing_none, climbing_more, climbing_all, stand_low, stand_high}
 use Rattle.floors.proofs.lift.Lts as lts
 use Rattle.floors.proofs.lift.Reads as reads
 use Rattle.floors.proofs.lift.Tie as tie

@@ -1,10 +1,7 @@
-use Rattle.counting.proofs.Prelude.{◌≡◌, refl, ◌∙◌, List, ℕ, ◌+◌, ◌-◌, ◌*◌, ◌≤◌, ◌<◌, zero-le, arith, length, get_or, rules}
-use Rattle.masks.proofs.Bits.{without}
-use Rattle.descent.specs.Steps.Members.{Long}
+use Rattle.counting.proofs.Prelude.{◌≡◌, ℕ, ◌+◌, ◌-◌, ◌*◌, ◌≤◌, ◌<◌, length}
 use Rattle.counting.specs.Quads.{quad}
-use Rattle.descent.proofs.Ranking.{row_long}
-use Rattle.floors.specs.Steps.{Ample, Slope}
-use Rattle.floors.proofs.Rising.{Climbing, climbing_none, climbing_more, climbing_all, stand_low, stand_high}
+use Rattle.floors.specs.Steps.{Slope}
+use Rattle.floors.proofs.Rising.{Climbing}
 use Rattle.floors.proofs.lift.Given as goal
 
 abbrev pub invariant-loop-r : goal.invariant-loop-r

@@ -1,8 +1,7 @@
-use Rattle.counting.proofs.Prelude.{◌≡◌, refl, ◌∙◌, ◌+◌, ◌*◌, ◌≤◌, ◌<◌, arith, length, length-set, rules}
+use Rattle.counting.proofs.Prelude.{refl, ◌∙◌, ◌+◌, ◌*◌, ◌<◌, arith, length, length-set}
 use lib.Count.{count_trailing_zeros}
 use Rattle.masks.proofs.Visiting.{lowest-lt, lowest_in, visited_less}
-use Rattle.descent.specs.Steps.Members.{Long}
-use Rattle.floors.proofs.Members.{Lifting, lifting_none, lifting_more, lifting_all}
+use Rattle.floors.proofs.Members.{lifting_none, lifting_more, lifting_all}
 use Rattle.floors.proofs.lift_members.Lts as lts
 use Rattle.floors.proofs.lift_members.Reads as reads
 use Rattle.floors.proofs.lift_members.Tie as tie

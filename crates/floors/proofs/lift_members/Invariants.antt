@@ -1,8 +1,6 @@
-use Rattle.counting.proofs.Prelude.{◌≡◌, refl, ◌∙◌, ◌+◌, ◌*◌, ◌≤◌, ◌<◌, arith, length, length-set, rules}
-use lib.Count.{count_trailing_zeros}
-use Rattle.masks.proofs.Visiting.{lowest-lt, lowest_in, visited_less}
+use Rattle.counting.proofs.Prelude.{◌≡◌, ◌≤◌, length}
 use Rattle.descent.specs.Steps.Members.{Long}
-use Rattle.floors.proofs.Members.{Lifting, lifting_none, lifting_more, lifting_all}
+use Rattle.floors.proofs.Members.{Lifting}
 use Rattle.floors.proofs.lift_members.Given as goal
 
 abbrev pub invariant-loop-x : goal.invariant-loop-x

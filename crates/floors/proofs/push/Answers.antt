@@ -1,4 +1,4 @@
-use Rattle.counting.proofs.Prelude.{refl, ◌∙◌, zero-le, arith, rules}
+use Rattle.counting.proofs.Prelude.{refl, zero-le, arith}
 use Rattle.floors.proofs.Pushing.{low_long, high_long, pushed_both}
 use Rattle.floors.proofs.push.Goals as goal
 

@@ -1,10 +1,7 @@
-use Rattle.counting.proofs.Prelude.{◌≡◌, refl, ◌∙◌, ℕ, ◌≤◌, ◌<◌, ◌+◌, arith, length, rules}
+use Rattle.counting.proofs.Prelude.{refl, ◌∙◌, ◌<◌, arith}
 use lib.Count.{count_trailing_zeros}
-use Rattle.specification.specs.Sets.{bit}
-use Rattle.masks.proofs.Visiting.{Visited, visited_none, visited_more, lowest-lt, lowest_in, visited_less}
-use Rattle.descent.specs.Steps.Members.{Long}
-use Rattle.floors.specs.Steps.{Slope, Rising, Stands, Ample}
-use Rattle.floors.proofs.Pushing.{Pushing, pushing_none, pushing_more, pushing_all}
+use Rattle.masks.proofs.Visiting.{visited_none, visited_more, lowest-lt, lowest_in, visited_less}
+use Rattle.floors.proofs.Pushing.{pushing_none, pushing_more, pushing_all}
 use Rattle.floors.proofs.push_members.Lts as lts
 use Rattle.floors.proofs.push_members.Reads as reads
 use Rattle.floors.proofs.push_members.Tie as tie

@@ -1,10 +1,8 @@
-use Rattle.counting.proofs.Prelude.{◌≡◌, refl, ◌∙◌, ℕ, ◌≤◌, ◌<◌, ◌+◌, arith, length, rules}
-use lib.Count.{count_trailing_zeros}
+use Rattle.counting.proofs.Prelude.{◌≡◌, ℕ, ◌<◌, ◌+◌, length}
 use Rattle.specification.specs.Sets.{bit}
-use Rattle.masks.proofs.Visiting.{Visited, visited_none, visited_more, lowest-lt, lowest_in, visited_less}
-use Rattle.descent.specs.Steps.Members.{Long}
-use Rattle.floors.specs.Steps.{Slope, Rising, Stands, Ample}
-use Rattle.floors.proofs.Pushing.{Pushing, pushing_none, pushing_more, pushing_all}
+use Rattle.masks.proofs.Visiting.{Visited}
+use Rattle.floors.specs.Steps.{Slope, Rising, Stands}
+use Rattle.floors.proofs.Pushing.{Pushing}
 use Rattle.floors.proofs.push_members.Given as goal
 
 abbrev pub invariant-loop-x : goal.invariant-loop-x

@@ -1,5 +1,5 @@
 use Rattle.counting.proofs.Prelude.{◌≡◌, sym, ap, ◌∙◌, subst, ◌≢◌, ◌⊎◌, inl, inr, ⊎_elim, Bool, true, false, ◌||◌, ◌&&◌, ℕ, ◌≤◌, eqb, ltb}
-use Rattle.counting.proofs.Prelude.{length, eqb-true, eqb-false, ltb-true, ltb-false, not-true, not-false, rules}
+use Rattle.counting.proofs.Prelude.{length, eqb-true, eqb-false, ltb-true, ltb-false}
 use Rattle.counting.proofs.Truth.{and_elim, or_elim, or_neither}
 use Rattle.floors.specs.Promise.{spread}
 use Rattle.floors.specs.Steps.{Liftable}

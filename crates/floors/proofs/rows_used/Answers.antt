@@ -1,4 +1,4 @@
-use Rattle.counting.proofs.Prelude.{◌≡◌, refl, sym, ap, ◌∙◌, true, ℕ, ◌-◌, ◌≤◌, zero-le, arith, rules}
+use Rattle.counting.proofs.Prelude.{◌≡◌, refl, sym, ap, ◌∙◌, true, ℕ, zero-le, arith}
 use Rattle.specification.specs.Count.{above}
 use Rattle.counting.specs.Quads.{quad}
 use Rattle.counting.proofs.Above.{above_none, above_more}

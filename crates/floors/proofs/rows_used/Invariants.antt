@@ -1,7 +1,6 @@
-use Rattle.counting.proofs.Prelude.{◌≡◌, refl, sym, ap, ◌∙◌, true, ℕ, ◌-◌, ◌≤◌, zero-le, arith, rules}
+use Rattle.counting.proofs.Prelude.{◌≡◌, true, ◌-◌, ◌≤◌}
 use Rattle.specification.specs.Count.{above}
 use Rattle.counting.specs.Quads.{quad}
-use Rattle.counting.proofs.Above.{above_none, above_more}
 use Rattle.floors.proofs.rows_used.Given as goal
 
 abbrev pub invariant-loop-v : goal.invariant-loop-v

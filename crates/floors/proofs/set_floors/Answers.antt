@@ -1,4 +1,4 @@
-use Rattle.counting.proofs.Prelude.{◌≡◌, refl, ◌∙◌, subst, ℕ, ◌-◌, ◌≤◌, zero-le, arith, length, length-set, rules}
+use Rattle.counting.proofs.Prelude.{◌≡◌, refl, ◌∙◌, subst, ℕ, zero-le, arith, length-set}
 use Rattle.floors.specs.Steps.{Set}
 use Rattle.floors.proofs.Settling.{set_none, set_more}
 use Rattle.floors.proofs.set_floors.Goals as goal

@@ -1,6 +1,5 @@
-use Rattle.counting.proofs.Prelude.{◌≡◌, refl, ◌∙◌, subst, ℕ, ◌-◌, ◌≤◌, zero-le, arith, length, length-set, rules}
+use Rattle.counting.proofs.Prelude.{◌≡◌, ◌-◌, ◌≤◌, length}
 use Rattle.floors.specs.Steps.{Set}
-use Rattle.floors.proofs.Settling.{set_none, set_more}
 use Rattle.floors.proofs.set_floors.Given as goal
 
 abbrev pub invariant-loop-v : goal.invariant-loop-v

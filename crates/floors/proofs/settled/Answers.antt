@@ -1,4 +1,4 @@
-use Rattle.counting.proofs.Prelude.{◌+◌, ◌*◌, ◌≤◌, arith, length, get_or, rules}
+use Rattle.counting.proofs.Prelude.{◌+◌, ◌*◌, ◌≤◌, arith, length, get_or}
 use Rattle.floors.specs.Steps.{Arrived}
 use Rattle.floors.proofs.Settling.{floors_good, slope_of, used_few, settle}
 use Rattle.floors.proofs.settled.Lts as lts

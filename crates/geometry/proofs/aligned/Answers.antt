@@ -1,4 +1,4 @@
-use Rattle.counting.proofs.Prelude.{ℕ, ◌+◌, ◌*◌, ◌<◌, arith, lit<, rules}
+use Rattle.counting.proofs.Prelude.{ℕ, ◌+◌, ◌*◌, ◌<◌, arith, lit<}
 use lib.IntN.{ℤ, ◌*ℤ◌}
 use mir.Syntax.{w32}
 use mir.Val.{SFits, to_z, of_z}

@@ -1,4 +1,4 @@
-use Rattle.counting.proofs.Prelude.{sym, ap, ◌∙◌, arith, eqb, rules}
+use Rattle.counting.proofs.Prelude.{sym, ap, ◌∙◌, arith, eqb}
 use Rattle.masks.specs.Pairs.{in_pair}
 use Rattle.specification.specs.Geometry.{BlockedAmong}
 use Rattle.specification.specs.Numbers.{course_code}

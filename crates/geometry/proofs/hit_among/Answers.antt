@@ -1,8 +1,7 @@
 use Rattle.counting.proofs.Prelude.{arith, rules}
 use lib.Count.{trailing_le}
-use Rattle.geometry.specs.Segment.{point_of}
-use Rattle.masks.proofs.Visiting.{Visited, visited_none, visited_more, visited_less}
-use Rattle.geometry.proofs.Among.{Missed, struck_here, struck_none}
+use Rattle.masks.proofs.Visiting.{visited_none, visited_more, visited_less}
+use Rattle.geometry.proofs.Among.{struck_here, struck_none}
 use Rattle.geometry.proofs.hit_among.Goals as goal
 
 pub loop-x-init : goal.loop-x-init

@@ -1,8 +1,6 @@
-use Rattle.counting.proofs.Prelude.{arith, rules}
-use lib.Count.{trailing_le}
 use Rattle.geometry.specs.Segment.{point_of}
-use Rattle.masks.proofs.Visiting.{Visited, visited_none, visited_more, visited_less}
-use Rattle.geometry.proofs.Among.{Missed, struck_here, struck_none}
+use Rattle.masks.proofs.Visiting.{Visited}
+use Rattle.geometry.proofs.Among.{Missed}
 use Rattle.geometry.proofs.hit_among.Given as goal
 
 abbrev pub invariant-loop-x : goal.invariant-loop-x

@@ -1,4 +1,4 @@
-use Rattle.counting.proofs.Prelude.{arith, rules}
+use Rattle.counting.proofs.Prelude.{arith}
 use mir.Syntax.{w32}
 use Rattle.geometry.proofs.Differences.{cast_minus, cast_minus_fits}
 use Rattle.geometry.proofs.minus.Goals as goal

@@ -1,4 +1,4 @@
-use Rattle.counting.proofs.Prelude.{sym, ap₂, ◌∙◌, ℕ, ◌+◌, arith, eqb, rules}
+use Rattle.counting.proofs.Prelude.{sym, ap₂, ◌∙◌, ℕ, ◌+◌, arith, eqb}
 use Rattle.kinds.proofs.Coding.{next-adjacent, else_adjacent}
 use Rattle.kinds.proofs.adjacent.Goals as goal
 

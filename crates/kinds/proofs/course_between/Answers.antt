@@ -1,4 +1,4 @@
-use Rattle.counting.proofs.Prelude.{sym, ap₂, ◌∙◌, ◌+◌, ◌≤◌, min, max, arith, leb-true, rules}
+use Rattle.counting.proofs.Prelude.{sym, ap₂, ◌∙◌, ◌+◌, ◌≤◌, min, max, arith, leb-true}
 use Rattle.counting.specs.Quads.{quad}
 use Rattle.geometry.specs.Segment.{point_of, vertex_count}
 use Rattle.specification.specs.Geometry.{course_among}

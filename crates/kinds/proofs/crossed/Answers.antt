@@ -1,4 +1,4 @@
-use Rattle.counting.proofs.Prelude.{sym, ap, rules}
+use Rattle.counting.proofs.Prelude.{sym, ap}
 use Rattle.specification.specs.Chart.{crossing}
 use Rattle.specification.specs.Numbers.{code_of}
 use Rattle.kinds.proofs.crossed.Goals as goal

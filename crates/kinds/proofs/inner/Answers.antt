@@ -1,4 +1,4 @@
-use Rattle.counting.proofs.Prelude.{refl, rules}
+use Rattle.counting.proofs.Prelude.{refl}
 use Rattle.kinds.proofs.inner.Goals as goal
 
 -- `kinds::inner` meets its contract. Assumes nothing.

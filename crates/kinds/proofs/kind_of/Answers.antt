@@ -1,4 +1,4 @@
-use Rattle.counting.proofs.Prelude.{sym, ◌∙◌, rules}
+use Rattle.counting.proofs.Prelude.{sym, ◌∙◌}
 use Rattle.kinds.proofs.Coding.{code_path, code_bundle, code_across}
 use Rattle.kinds.proofs.kind_of.Goals as goal
 

@@ -1,4 +1,4 @@
-use Rattle.counting.proofs.Prelude.{sym, arith, get_or-eq_default, rules}
+use Rattle.counting.proofs.Prelude.{sym, arith, get_or-eq_default}
 use Rattle.kinds.proofs.mask_at.Goals as goal
 
 -- `kinds::mask_at` meets its contract. Assumes nothing.

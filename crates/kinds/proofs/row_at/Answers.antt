@@ -1,4 +1,4 @@
-use Rattle.counting.proofs.Prelude.{sym, ap, ℕ, ◌+◌, ◌*◌, arith, get_or, get_or-eq_default, rules}
+use Rattle.counting.proofs.Prelude.{sym, ap, ℕ, ◌+◌, ◌*◌, arith, get_or, get_or-eq_default}
 use Rattle.kinds.proofs.row_at.Goals as goal
 
 -- `kinds::row_at` meets its contract. Assumes nothing.

@@ -1,4 +1,4 @@
-use Rattle.counting.proofs.Prelude.{ap, ◌∙◌, ℕ, ◌/◌, ◌%◌, ◌^◌, eqb, rules}
+use Rattle.counting.proofs.Prelude.{ap, ◌∙◌, ℕ, ◌/◌, ◌%◌, ◌^◌, eqb}
 use lib.Bits.{bit_and}
 use Rattle.masks.proofs.Sets.{member-test}
 use Rattle.masks.proofs.contains.Goals as goal

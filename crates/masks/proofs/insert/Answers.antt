@@ -1,4 +1,4 @@
-use Rattle.counting.proofs.Prelude.{sym, ap, ℕ, ◌+◌, ◌/◌, ◌%◌, ◌≤◌, arith, length, get_or, set, lt-ltb, le-ltb, rules}
+use Rattle.counting.proofs.Prelude.{sym, ap, ℕ, ◌+◌, ◌/◌, ◌%◌, ◌≤◌, arith, length, get_or, set, lt-ltb, le-ltb}
 use lib.Bits.{bit_or}
 use lib.Seq.{set_out}
 use Rattle.specification.specs.Sets.{inserted}

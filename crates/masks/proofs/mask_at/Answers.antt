@@ -1,4 +1,4 @@
-use Rattle.counting.proofs.Prelude.{sym, arith, get_or-eq_default, rules}
+use Rattle.counting.proofs.Prelude.{sym, arith, get_or-eq_default}
 use Rattle.masks.proofs.mask_at.Goals as goal
 
 pub returns-then-masks-first : goal.returns-then-masks-first

@@ -1,4 +1,4 @@
-use Rattle.counting.proofs.Prelude.{◌≡◌, refl, sym, subst, true≢false, ℕ, ◌+◌, ◌-◌, ◌≤◌, ◌<◌, zero-le, arith, length, le-leb, lt-leb, rules}
+use Rattle.counting.proofs.Prelude.{◌≡◌, refl, sym, subst, true≢false, ℕ, ◌+◌, ◌<◌, zero-le, arith, length, le-leb, lt-leb}
 use Rattle.specification.specs.Sets.{United}
 use Rattle.masks.proofs.Sets.{united_none, united_more}
 use Rattle.masks.proofs.unite.Goals as goal

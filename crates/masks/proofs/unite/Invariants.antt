@@ -1,6 +1,5 @@
-use Rattle.counting.proofs.Prelude.{◌≡◌, refl, sym, subst, true≢false, ℕ, ◌+◌, ◌-◌, ◌≤◌, ◌<◌, zero-le, arith, length, le-leb, lt-leb, rules}
+use Rattle.counting.proofs.Prelude.{◌≡◌, ◌+◌, ◌-◌, ◌≤◌, length}
 use Rattle.specification.specs.Sets.{United}
-use Rattle.masks.proofs.Sets.{united_none, united_more}
 use Rattle.masks.proofs.unite.Given as goal
 
 abbrev pub invariant-loop-i : goal.invariant-loop-i

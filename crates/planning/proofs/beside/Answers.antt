@@ -1,4 +1,4 @@
-use Rattle.counting.proofs.Prelude.{refl, arith, rules}
+use Rattle.counting.proofs.Prelude.{refl, arith}
 use Rattle.planning.proofs.Answers.{found_cleared, found_apart, beside-refused, beside-all}
 use Rattle.planning.proofs.beside.Goals as goal
 

@@ -1,4 +1,4 @@
-use Rattle.counting.proofs.Prelude.{arith, rules}
+use Rattle.counting.proofs.Prelude.{arith}
 use Rattle.planning.proofs.Laying.{none_upto, kept_wider}
 use Rattle.planning.proofs.Answers.{none_found, found_apart, beside-all, chained-short, chained-all}
 use Rattle.planning.proofs.chained.Goals as goal

@@ -1,6 +1,5 @@
-use Rattle.counting.proofs.Prelude.{refl, sym, ◌∙◌, ◌-◌, arith, not-false, not-true, rules}
-use Rattle.specification.specs.Sets.{member?}
-use Rattle.planning.proofs.Following.{Begun, lay_none, lay_ready, lay_chain, lay_held, lay_pass, lay_few, lay_all}
+use Rattle.counting.proofs.Prelude.{refl, sym, ◌∙◌, arith}
+use Rattle.planning.proofs.Following.{lay_none, lay_ready, lay_chain, lay_held, lay_pass, lay_few, lay_all}
 use Rattle.planning.proofs.chains.Goals as goal
 
 pub loop-v-init : goal.loop-v-init

@@ -1,6 +1,6 @@
-use Rattle.counting.proofs.Prelude.{refl, sym, ◌∙◌, ◌-◌, arith, not-false, not-true, rules}
+use Rattle.counting.proofs.Prelude.{◌-◌}
 use Rattle.specification.specs.Sets.{member?}
-use Rattle.planning.proofs.Following.{Begun, lay_none, lay_ready, lay_chain, lay_held, lay_pass, lay_few, lay_all}
+use Rattle.planning.proofs.Following.{Begun}
 use Rattle.planning.proofs.chains.Given as goal
 
 abbrev pub invariant-loop-v : goal.invariant-loop-v

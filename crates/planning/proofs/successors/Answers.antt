@@ -1,5 +1,5 @@
-use Rattle.counting.proofs.Prelude.{arith, rules}
-use Rattle.planning.proofs.Following.{Seeking, seek_none, seek_here, seek_on, seek_all}
+use Rattle.counting.proofs.Prelude.{arith}
+use Rattle.planning.proofs.Following.{seek_none, seek_here, seek_on, seek_all}
 use Rattle.planning.proofs.successors.Goals as goal
 
 pub loop-v-init : goal.loop-v-init

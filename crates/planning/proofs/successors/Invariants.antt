@@ -1,5 +1,4 @@
-use Rattle.counting.proofs.Prelude.{arith, rules}
-use Rattle.planning.proofs.Following.{Seeking, seek_none, seek_here, seek_on, seek_all}
+use Rattle.planning.proofs.Following.{Seeking}
 use Rattle.planning.proofs.successors.Given as goal
 
 abbrev pub invariant-loop-v : goal.invariant-loop-v

@@ -1,5 +1,4 @@
-use Rattle.counting.proofs.Prelude.{refl, [], ◌-◌, ◌/◌, ◌≤◌, arith, length, length-set, rules}
-use Rattle.planning.specs.Arranged.{Arranged, Kept}
+use Rattle.counting.proofs.Prelude.{refl, arith, length-set}
 use Rattle.planning.proofs.Laying.{kept_same, kept_wider, kept-placed, none_more}
 use Rattle.planning.proofs.unplace.Goals as goal
 

@@ -1,6 +1,5 @@
-use Rattle.counting.proofs.Prelude.{refl, [], ◌-◌, ◌/◌, ◌≤◌, arith, length, length-set, rules}
+use Rattle.counting.proofs.Prelude.{[], ◌-◌, ◌/◌, ◌≤◌, length}
 use Rattle.planning.specs.Arranged.{Arranged, Kept}
-use Rattle.planning.proofs.Laying.{kept_same, kept_wider, kept-placed, none_more}
 use Rattle.planning.proofs.unplace.Given as goal
 
 abbrev pub invariant-loop-v : goal.invariant-loop-v

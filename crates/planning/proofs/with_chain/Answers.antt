@@ -1,5 +1,5 @@
-use Rattle.counting.proofs.Prelude.{suc, ◌+◌, ◌*◌, ◌-◌, ◌≤◌, ◌<◌, arith, length, length-set, rules}
-use Rattle.planning.proofs.Following.{Following, following_none, following_more, following_all, following_byte, within}
+use Rattle.counting.proofs.Prelude.{◌+◌, ◌*◌, ◌≤◌, ◌<◌, arith, length, length-set}
+use Rattle.planning.proofs.Following.{following_none, following_more, following_all, following_byte, within}
 use Rattle.planning.proofs.with_chain.Lts as lts
 use Rattle.planning.proofs.with_chain.Reads as reads
 use Rattle.planning.proofs.with_chain.Tie as tie

@@ -1,5 +1,5 @@
-use Rattle.counting.proofs.Prelude.{suc, ◌+◌, ◌*◌, ◌-◌, ◌≤◌, ◌<◌, arith, length, length-set, rules}
-use Rattle.planning.proofs.Following.{Following, following_none, following_more, following_all, following_byte, within}
+use Rattle.counting.proofs.Prelude.{suc, ◌-◌}
+use Rattle.planning.proofs.Following.{Following}
 use Rattle.planning.proofs.with_chain.Given as goal
 
 abbrev pub invariant-loop-w : goal.invariant-loop-w

@@ -1,5 +1,5 @@
-use Rattle.counting.proofs.Prelude.{sym, ◌∙◌, subst, List, ℕ, ◌-◌, arith, length, length-set, not-false, not-true, length-replicate}
-use Rattle.counting.proofs.Prelude.{ap, rules}
+use Rattle.counting.proofs.Prelude.{sym, ◌∙◌, subst, List, ℕ, arith, length, length-set, length-replicate}
+use Rattle.counting.proofs.Prelude.{ap}
 use Rattle.planning.proofs.Clearing.{Clearing, clearing_none, clearing_held, clearing_row, clearing_all}
 use Rattle.planning.proofs.without.Goals as goal
 

@@ -1,5 +1,4 @@
-use Rattle.counting.proofs.Prelude.{refl, ◌-◌, ◌≤◌, zero-le, arith, rules}
-use Rattle.specification.specs.Lent.{Filled}
+use Rattle.counting.proofs.Prelude.{refl, zero-le, arith}
 use Rattle.counting.proofs.Stores.{filled_none, filled_more, filled-all}
 use Rattle.prefixes.proofs.clear.Goals as goal
 

@@ -1,6 +1,5 @@
-use Rattle.counting.proofs.Prelude.{refl, ◌-◌, ◌≤◌, zero-le, arith, rules}
+use Rattle.counting.proofs.Prelude.{◌-◌, ◌≤◌}
 use Rattle.specification.specs.Lent.{Filled}
-use Rattle.counting.proofs.Stores.{filled_none, filled_more, filled-all}
 use Rattle.prefixes.proofs.clear.Given as goal
 
 abbrev pub invariant-loop-i : goal.invariant-loop-i

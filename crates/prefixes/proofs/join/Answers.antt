@@ -1,5 +1,4 @@
-use Rattle.counting.proofs.Prelude.{◌≡◌, refl, ◌∙◌, subst, ℕ, ◌+◌, ◌-◌, ◌*◌, ◌≤◌, zero-le, arith, length, get_or, length-set, rules}
-use Rattle.specification.specs.Lent.{KeptFrom}
+use Rattle.counting.proofs.Prelude.{◌≡◌, refl, ◌∙◌, subst, ℕ, ◌+◌, ◌*◌, zero-le, arith, get_or, length-set}
 use Rattle.prefixes.specs.Steps.{Stage}
 use Rattle.prefixes.proofs.Stages.{stage_pair, stage_all, twice-length, twice-kept}
 use Rattle.prefixes.proofs.join.Goals as goal

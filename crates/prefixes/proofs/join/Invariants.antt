@@ -1,7 +1,6 @@
-use Rattle.counting.proofs.Prelude.{◌≡◌, refl, ◌∙◌, subst, ℕ, ◌+◌, ◌-◌, ◌*◌, ◌≤◌, zero-le, arith, length, get_or, length-set, rules}
+use Rattle.counting.proofs.Prelude.{◌≡◌, ℕ, ◌+◌, ◌-◌, ◌*◌, ◌≤◌, length}
 use Rattle.specification.specs.Lent.{KeptFrom}
 use Rattle.prefixes.specs.Steps.{Stage}
-use Rattle.prefixes.proofs.Stages.{stage_pair, stage_all, twice-length, twice-kept}
 use Rattle.prefixes.proofs.join.Given as goal
 
 abbrev pub invariant-loop-k : goal.invariant-loop-k

@@ -1,4 +1,4 @@
-use Rattle.counting.proofs.Prelude.{ap, ℕ, ◌+◌, ◌*◌, ◌/◌, ◌%◌, arith, get_or, set, rules}
+use Rattle.counting.proofs.Prelude.{ap, ℕ, ◌+◌, ◌*◌, ◌/◌, ◌%◌, arith, get_or, set}
 use lib.Bits.{bit_or}
 use Rattle.specification.specs.Sets.{inserted}
 use Rattle.masks.proofs.Bits.{one_shl}

@@ -1,9 +1,9 @@
-use Rattle.counting.proofs.Prelude.{◌≡◌, sym, ap, ◌∙◌, subst, ℕ, ◌-◌, ◌*◌, ◌+◌, ◌/◌, ◌≤◌, ◌<◌, min, zero-le, arith, length, get_or, rules}
+use Rattle.counting.proofs.Prelude.{◌≡◌, sym, ap, ◌∙◌, subst, ℕ, ◌*◌, ◌+◌, ◌/◌, ◌<◌, min, zero-le, arith, length, get_or}
 use Rattle.specification.specs.Lent.{Filled}
 use Rattle.counting.specs.Quads.{quad}
 use Rattle.counting.proofs.Quads.{spot-sum}
 use Rattle.prefixes.specs.Prefixes.{Prefixes}
-use Rattle.prefixes.proofs.Stages.{Putting, put_none, put-more, put_past}
+use Rattle.prefixes.proofs.Stages.{put_none, put-more, put_past}
 use Rattle.prefixes.proofs.sets_by.Lts as lts
 use Rattle.prefixes.proofs.sets_by.Reads as reads
 use Rattle.prefixes.proofs.sets_by.Tie as tie

@@ -1,9 +1,6 @@
-use Rattle.counting.proofs.Prelude.{◌≡◌, sym, ap, ◌∙◌, subst, ℕ, ◌-◌, ◌*◌, ◌+◌, ◌/◌, ◌≤◌, ◌<◌, min, zero-le, arith, length, get_or, rules}
-use Rattle.specification.specs.Lent.{Filled}
+use Rattle.counting.proofs.Prelude.{◌-◌, ◌≤◌}
 use Rattle.counting.specs.Quads.{quad}
-use Rattle.counting.proofs.Quads.{spot-sum}
-use Rattle.prefixes.specs.Prefixes.{Prefixes}
-use Rattle.prefixes.proofs.Stages.{Putting, put_none, put-more, put_past}
+use Rattle.prefixes.proofs.Stages.{Putting}
 use Rattle.prefixes.proofs.sets_by.Given as goal
 
 abbrev pub invariant-loop-v : goal.invariant-loop-v

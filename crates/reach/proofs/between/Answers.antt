@@ -1,4 +1,4 @@
-use Rattle.counting.proofs.Prelude.{ap₂, ◌∙◌, rules}
+use Rattle.counting.proofs.Prelude.{ap₂, ◌∙◌}
 use Rattle.specification.specs.Connection.{connection}
 use Rattle.reach.proofs.between.Goals as goal
 

@@ -1,4 +1,4 @@
-use Rattle.counting.proofs.Prelude.{◌≡◌, sym, ap, ◌∙◌, rules}
+use Rattle.counting.proofs.Prelude.{◌≡◌, sym, ap, ◌∙◌}
 use Rattle.specification.specs.Count.{indicator}
 use Rattle.specification.specs.Connection.{both?}
 use Rattle.specification.specs.declared.Connection.{Connection}

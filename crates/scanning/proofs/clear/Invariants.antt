@@ -1,5 +1,5 @@
-use Rattle.counting.proofs.Prelude.{◌≡◌, refl, ◌-◌, ◌≤◌, zero-le, arith, length, rules}
-use Rattle.counting.proofs.Clearing.{Clearing, clearing_none, clearing_more, clearing_zero}
+use Rattle.counting.proofs.Prelude.{◌≡◌, ◌-◌, ◌≤◌, length}
+use Rattle.counting.proofs.Clearing.{Clearing}
 use Rattle.scanning.proofs.clear.Given as goal
 
 abbrev pub invariant-loop-i : goal.invariant-loop-i

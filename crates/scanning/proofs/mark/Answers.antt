@@ -1,4 +1,4 @@
-use Rattle.counting.proofs.Prelude.{sym, ap, ◌∙◌, ℕ, ◌+◌, ◌*◌, ◌/◌, ◌%◌, arith, get_or, set, eq-eqb, ne_eqb, rules}
+use Rattle.counting.proofs.Prelude.{sym, ap, ◌∙◌, ℕ, ◌+◌, ◌*◌, ◌/◌, ◌%◌, arith, get_or, set, eq-eqb, ne_eqb}
 use lib.Bits.{bit_or}
 use Rattle.counting.proofs.Choosing.{choose_yes, choose_no}
 use Rattle.specification.specs.Sets.{member?, inserted}

@@ -1,5 +1,5 @@
-use Rattle.counting.proofs.Prelude.{◌≡◌, refl, ◌∙◌, subst, inl, inr, ℕ, ◌+◌, ◌-◌, ◌*◌, ◌≤◌, zero-le, arith, length, get_or, rules}
-use Rattle.scanning.proofs.Scanning.{Scanning, scanning_none, scanning_more, scanned_strange, scanned_all}
+use Rattle.counting.proofs.Prelude.{◌≡◌, ◌-◌, ◌≤◌, length}
+use Rattle.scanning.proofs.Scanning.{Scanning}
 use Rattle.scanning.proofs.scan.Given as goal
 
 abbrev pub invariant-loop-i : goal.invariant-loop-i

@@ -1,4 +1,4 @@
-use Rattle.counting.proofs.Prelude.{◌≡◌, sym, ◌∙◌, false, ◌*◌, ◌/◌, ◌≤◌, min, arith, length, rules}
+use Rattle.counting.proofs.Prelude.{◌≡◌, sym, ◌∙◌, false, ◌*◌, ◌/◌, ◌≤◌, min, arith, length}
 use Rattle.counting.proofs.Sizes.{outsized_back}
 use Rattle.specification.specs.Graph.{outsized?}
 use Rattle.scanning.proofs.Scanning.{scans_short, scans_outsized, scans_checked}

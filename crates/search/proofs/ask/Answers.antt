@@ -1,4 +1,4 @@
-use Rattle.counting.proofs.Prelude.{refl, true, false, arith, length-set, rules}
+use Rattle.counting.proofs.Prelude.{refl, true, false, arith, length-set}
 use Rattle.search.proofs.Going.{going_start, gives_free, gives_moved, shut}
 use Rattle.search.proofs.ask.Goals as goal
 

@@ -1,4 +1,4 @@
-use Rattle.counting.proofs.Prelude.{arith, get_or, rules}
+use Rattle.counting.proofs.Prelude.{arith, get_or}
 use lib.Count.{trailing_le}
 use Rattle.masks.proofs.Bits.{without}
 use Rattle.search.proofs.Open.{open_low, open_high, open_none}

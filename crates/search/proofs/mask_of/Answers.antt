@@ -1,4 +1,4 @@
-use Rattle.counting.proofs.Prelude.{sym, arith, get_or-eq_default, rules}
+use Rattle.counting.proofs.Prelude.{sym, arith, get_or-eq_default}
 use Rattle.search.proofs.mask_of.Goals as goal
 
 -- `search::mask_of` meets its contract. Assumes nothing.

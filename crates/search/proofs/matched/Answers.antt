@@ -1,7 +1,5 @@
-use Rattle.counting.proofs.Prelude.{◌≡◌, refl, ◌∙◌, ◌-◌, ◌≤◌, arith, length, rules}
-use Rattle.search.specs.Steps.Coded.{asks, matching}
+use Rattle.counting.proofs.Prelude.{refl, ◌∙◌, arith}
 use Rattle.search.proofs.Asking.{ask_none, ask-more, ask-all}
-use Rattle.specification.specs.Sets.{has?}
 use Rattle.search.proofs.matched.Goals as goal
 
 pub loop-predecessor-init : goal.loop-predecessor-init

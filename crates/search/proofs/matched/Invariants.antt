@@ -1,6 +1,5 @@
-use Rattle.counting.proofs.Prelude.{◌≡◌, refl, ◌∙◌, ◌-◌, ◌≤◌, arith, length, rules}
+use Rattle.counting.proofs.Prelude.{◌≡◌, ◌-◌, ◌≤◌, length}
 use Rattle.search.specs.Steps.Coded.{asks, matching}
-use Rattle.search.proofs.Asking.{ask_none, ask-more, ask-all}
 use Rattle.specification.specs.Sets.{has?}
 use Rattle.search.proofs.matched.Given as goal
 

@@ -1,5 +1,5 @@
 -- Bundles that share a row, and bundles that do not (10.1). Assumes nothing.
-use Rattle.std.specs.Prelude.{false, ℕ, suc, ◌+◌, ◌≤◌, ◌<◌, eqb}
+use Rattle.std.specs.Prelude.{false, ℕ, eqb}
 use Rattle.std.proofs.Common.{arith}
 use Rattle.specification.specs.Count.{choose}
 use Rattle.specification.specs.Lawful.{Chart, ShareRow}

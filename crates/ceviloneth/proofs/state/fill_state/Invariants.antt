@@ -1,8 +1,6 @@
-use Rattle.counting.proofs.Prelude.{◌-◌, ◌≤◌, arith, rules}
+use Rattle.counting.proofs.Prelude.{◌-◌, ◌≤◌}
 use Rattle.specification.specs.Lent.{Filled}
 use Rattle.ceviloneth.specs.Steps.{session_by, state_number}
-use Rattle.counting.proofs.Stores.{filled_none, filled_more, filled-all}
-use Rattle.ceviloneth.proofs.Spelling.{stored}
 use Rattle.ceviloneth.proofs.state.fill_state.Given as goal
 
 abbrev pub invariant-loop-i : goal.invariant-loop-i

@@ -1,5 +1,4 @@
-use Rattle.counting.proofs.Prelude.{refl, ℕ, ◌+◌, ◌-◌, ◌≤◌, arith, get_or, replicate, rules}
-use Rattle.specification.specs.Lent.{Filled}
+use Rattle.counting.proofs.Prelude.{refl, arith}
 use Rattle.counting.proofs.Stores.{filled_none, filled_more}
 use Rattle.ceviloneth.proofs.Spelling.{copied}
 use Rattle.ceviloneth.proofs.state.masks_at.Goals as goal

@@ -1,7 +1,5 @@
-use Rattle.counting.proofs.Prelude.{refl, ℕ, ◌+◌, ◌-◌, ◌≤◌, arith, get_or, replicate, rules}
+use Rattle.counting.proofs.Prelude.{ℕ, ◌+◌, ◌-◌, ◌≤◌, get_or, replicate}
 use Rattle.specification.specs.Lent.{Filled}
-use Rattle.counting.proofs.Stores.{filled_none, filled_more}
-use Rattle.ceviloneth.proofs.Spelling.{copied}
 use Rattle.ceviloneth.proofs.state.masks_at.Given as goal
 
 abbrev pub invariant-loop-i : goal.invariant-loop-i

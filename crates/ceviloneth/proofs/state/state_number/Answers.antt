@@ -1,4 +1,4 @@
-use Rattle.counting.proofs.Prelude.{eq-eqb, ne_eqb, lt-ltb, le-ltb, rules}
+use Rattle.counting.proofs.Prelude.{eq-eqb, ne_eqb, lt-ltb, le-ltb}
 use Rattle.ceviloneth.specs.Steps.{session_by, state_number}
 use Rattle.ceviloneth.proofs.state.state_number.Goals as goal
 

@@ -1,4 +1,4 @@
-use Rattle.counting.proofs.Prelude.{ap, ℕ, rules}
+use Rattle.counting.proofs.Prelude.{ap, ℕ}
 use Rattle.specification.specs.declared.Leading.{Leading}
 use Rattle.ceviloneth.proofs.state.told.Goals as goal
 

@@ -1,4 +1,4 @@
-use Rattle.counting.proofs.Prelude.{sym, ap, ◌∙◌, Bool, arith, get_or-eq_default, rules}
+use Rattle.counting.proofs.Prelude.{sym, ap, ◌∙◌, Bool, arith, get_or-eq_default}
 use Rattle.specification.specs.Checks.{floor_at}
 use Rattle.chart_lists.proofs.entries.floor_at.Goals as goal
 

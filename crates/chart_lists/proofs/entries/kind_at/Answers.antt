@@ -1,4 +1,4 @@
-use Rattle.counting.proofs.Prelude.{ap₂, ◌∙◌, ℕ, ◌+◌, ◌*◌, get_or, rules}
+use Rattle.counting.proofs.Prelude.{ap₂, ◌∙◌, ℕ, ◌+◌, ◌*◌, get_or}
 use Rattle.counting.specs.Quads.{quad}
 use Rattle.specification.specs.Numbers.{code_of}
 use Rattle.kinds.specs.Kinds.{kind_among}

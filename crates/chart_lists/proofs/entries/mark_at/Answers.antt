@@ -1,4 +1,4 @@
-use Rattle.counting.proofs.Prelude.{ap, ap₂, ◌∙◌, ℕ, ◌+◌, ◌*◌, ◌/◌, rules}
+use Rattle.counting.proofs.Prelude.{ap, ap₂, ◌∙◌, ℕ, ◌+◌, ◌*◌, ◌/◌}
 use Rattle.specification.specs.Count.{indicator}
 use Rattle.reduction.proofs.Marks.{transitive_mask}
 use Rattle.chart_lists.proofs.entries.mark_at.Goals as goal

@@ -1,4 +1,4 @@
-use Rattle.counting.proofs.Prelude.{refl, arith, rules, length-set}
+use Rattle.counting.proofs.Prelude.{refl, arith, length-set}
 use Rattle.chart_lists.specs.Steps.Numbers.{given}
 use Rattle.chart_lists.proofs.Passing.{arrow_next, kind-here, mark-low}
 use Rattle.chart_lists.proofs.entries.put_arrow.Goals as goal

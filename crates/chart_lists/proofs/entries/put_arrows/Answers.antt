@@ -1,6 +1,6 @@
-use Rattle.counting.proofs.Prelude.{◌≡◌, ap, ◌∙◌, ℕ, ◌-◌, ◌/◌, ◌≤◌, arith, length, rules}
+use Rattle.counting.proofs.Prelude.{ap, ◌∙◌, ℕ, arith, length}
 use native.Mathlib.Nat.{le_antisymm}
-use Rattle.specification.specs.Pass.{State, as_numbers, state, after}
+use Rattle.specification.specs.Pass.{State, as_numbers, after}
 use Rattle.specification.specs.declared.EdgeEntry.{EdgeEntry}
 use Rattle.lists.proofs.Marking.{after_none, after_more, after_long, after-few}
 use Rattle.chart_lists.specs.Steps.Numbers.{given, arrow_from}

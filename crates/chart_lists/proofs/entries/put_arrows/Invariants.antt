@@ -1,8 +1,5 @@
-use Rattle.counting.proofs.Prelude.{◌≡◌, ap, ◌∙◌, ℕ, ◌-◌, ◌/◌, ◌≤◌, arith, length, rules}
-use native.Mathlib.Nat.{le_antisymm}
-use Rattle.specification.specs.Pass.{State, as_numbers, state, after}
-use Rattle.specification.specs.declared.EdgeEntry.{EdgeEntry}
-use Rattle.lists.proofs.Marking.{after_none, after_more, after_long, after-few}
+use Rattle.counting.proofs.Prelude.{◌≡◌, ◌-◌, ◌/◌, ◌≤◌, length}
+use Rattle.specification.specs.Pass.{as_numbers, state, after}
 use Rattle.chart_lists.specs.Steps.Numbers.{given, arrow_from}
 use Rattle.chart_lists.proofs.entries.put_arrows.Given as goal
 

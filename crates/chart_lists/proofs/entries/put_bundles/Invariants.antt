@@ -1,9 +1,7 @@
-use Rattle.counting.proofs.Prelude.{◌-◌, ◌≤◌, arith, rules}
+use Rattle.counting.proofs.Prelude.{◌-◌, ◌≤◌}
 use Rattle.specification.specs.Lent.{Filled}
-use Rattle.counting.proofs.Stores.{filled_none, filled_more, filled-all}
 use Rattle.specification.specs.Numbers.{bundles}
 use Rattle.chart_lists.specs.Steps.Numbers.{bundle_from}
-use Rattle.chart_lists.proofs.Passing.{bundle_at}
 use Rattle.chart_lists.proofs.entries.put_bundles.Given as goal
 
 abbrev pub invariant-loop-i : goal.invariant-loop-i

@@ -1,4 +1,4 @@
-use Rattle.counting.proofs.Prelude.{arith, length-set, rules}
+use Rattle.counting.proofs.Prelude.{arith, length-set}
 use Rattle.chart_lists.proofs.entries.put_five.Goals as goal
 
 -- `chart_lists::entries::put_five` meets its contract: each store keeps the length. Assumes nothing.

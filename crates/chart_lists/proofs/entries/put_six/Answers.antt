@@ -1,4 +1,4 @@
-use Rattle.counting.proofs.Prelude.{ap, List, ℕ, ◌+◌, set, rules}
+use Rattle.counting.proofs.Prelude.{ap, List, ℕ, ◌+◌, set}
 use Rattle.chart_lists.proofs.entries.put_six.Goals as goal
 
 -- `chart_lists::entries::put_six` meets its contract: five numbers, and one more. Assumes nothing.

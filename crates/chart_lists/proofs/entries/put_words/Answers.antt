@@ -1,7 +1,5 @@
-use Rattle.counting.proofs.Prelude.{◌≡◌, ◌∙◌, ◌+◌, ◌-◌, ◌*◌, ◌≤◌, arith, rules}
-use Rattle.specification.specs.Numbers.{word_number}
-use Rattle.chart_lists.specs.Steps.Numbers.{word_from}
-use Rattle.lists.proofs.Entered.{entered, entered_none, entered-more, entered_long, entered_all}
+use Rattle.counting.proofs.Prelude.{◌∙◌, ◌+◌, ◌*◌, arith}
+use Rattle.lists.proofs.Entered.{entered_none, entered-more, entered_long, entered_all}
 use Rattle.chart_lists.proofs.Passing.{word-stored}
 use Rattle.chart_lists.proofs.entries.put_words.Goals as goal
 

@@ -1,8 +1,7 @@
-use Rattle.counting.proofs.Prelude.{◌≡◌, ◌∙◌, ◌+◌, ◌-◌, ◌*◌, ◌≤◌, arith, rules}
+use Rattle.counting.proofs.Prelude.{◌≡◌, ◌-◌, ◌≤◌}
 use Rattle.specification.specs.Numbers.{word_number}
 use Rattle.chart_lists.specs.Steps.Numbers.{word_from}
-use Rattle.lists.proofs.Entered.{entered, entered_none, entered-more, entered_long, entered_all}
-use Rattle.chart_lists.proofs.Passing.{word-stored}
+use Rattle.lists.proofs.Entered.{entered}
 use Rattle.chart_lists.proofs.entries.put_words.Given as goal
 
 abbrev pub invariant-loop-v : goal.invariant-loop-v

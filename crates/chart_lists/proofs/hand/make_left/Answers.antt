@@ -1,4 +1,4 @@
-use Rattle.counting.proofs.Prelude.{refl, subst, ℕ, ◌/◌, min, arith, length, rules}
+use Rattle.counting.proofs.Prelude.{refl, subst, ℕ, ◌/◌, min, arith, length}
 use Rattle.counting.specs.Quads.{quad}
 use Rattle.prefixes.specs.Prefixes.{Prefixes}
 use Rattle.chart_lists.proofs.hand.make_left.Goals as goal

@@ -1,4 +1,4 @@
-use Rattle.counting.proofs.Prelude.{arith, rules}
+use Rattle.counting.proofs.Prelude.{arith}
 use Rattle.chart_plan.proofs.columns.columns_of.Goals as goal
 
 pub vertex_columns-requires : goal.vertex_columns-requires

@@ -1,4 +1,4 @@
-use Rattle.counting.proofs.Prelude.{◌≡◌, sym, subst, List, ℕ, ◌+◌, ◌-◌, ◌≤◌, zero-le, arith, get_or, rules}
+use Rattle.counting.proofs.Prelude.{◌≡◌, sym, subst, List, ℕ, ◌+◌, ◌≤◌, zero-le, arith, get_or}
 use Rattle.specification.specs.Limits.{page_columns}
 use Rattle.specification.specs.Geometry.{even_gaps}
 use Rattle.chart_plan.specs.Steps.{Owns}

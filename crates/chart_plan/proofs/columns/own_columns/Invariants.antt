@@ -1,8 +1,6 @@
-use Rattle.counting.proofs.Prelude.{◌≡◌, sym, subst, List, ℕ, ◌+◌, ◌-◌, ◌≤◌, zero-le, arith, get_or, rules}
-use Rattle.specification.specs.Limits.{page_columns}
+use Rattle.counting.proofs.Prelude.{◌-◌, ◌≤◌, get_or}
 use Rattle.specification.specs.Geometry.{even_gaps}
 use Rattle.chart_plan.specs.Steps.{Owns}
-use Rattle.chart_plan.proofs.Owning.{owns_none, owns_more, block_within}
 use Rattle.chart_plan.proofs.columns.own_columns.Given as goal
 
 abbrev pub invariant-loop-l : goal.invariant-loop-l

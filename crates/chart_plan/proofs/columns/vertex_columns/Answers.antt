@@ -1,4 +1,4 @@
-use Rattle.counting.proofs.Prelude.{◌≡◌, ap, subst, ℕ, ◌-◌, ◌≤◌, ◌<◌, zero-le, arith, get_or, rules}
+use Rattle.counting.proofs.Prelude.{◌≡◌, ap, subst, ℕ, ◌<◌, zero-le, arith, get_or}
 use Rattle.counting.specs.Quads.{quad}
 use Rattle.chart_plan.specs.Steps.{Tabled}
 use Rattle.chart_plan.proofs.Tabling.{tabled_none, tabled_more}

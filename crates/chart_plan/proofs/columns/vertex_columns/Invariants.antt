@@ -1,7 +1,6 @@
-use Rattle.counting.proofs.Prelude.{◌≡◌, ap, subst, ℕ, ◌-◌, ◌≤◌, ◌<◌, zero-le, arith, get_or, rules}
+use Rattle.counting.proofs.Prelude.{◌-◌, ◌≤◌, get_or}
 use Rattle.counting.specs.Quads.{quad}
 use Rattle.chart_plan.specs.Steps.{Tabled}
-use Rattle.chart_plan.proofs.Tabling.{tabled_none, tabled_more}
 use Rattle.chart_plan.proofs.columns.vertex_columns.Given as goal
 
 abbrev pub invariant-loop-v : goal.invariant-loop-v

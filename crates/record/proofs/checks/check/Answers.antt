@@ -1,4 +1,3 @@
-use Rattle.counting.proofs.Prelude.{rules}
 use Rattle.record.proofs.Checking.{edges_fail, given_settles, plan_settles}
 use Rattle.record.proofs.checks.check.Goals as goal
 

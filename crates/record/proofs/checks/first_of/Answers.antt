@@ -1,4 +1,4 @@
-use Rattle.counting.proofs.Prelude.{sym, ◌∙◌, rules}
+use Rattle.counting.proofs.Prelude.{sym, ◌∙◌}
 use Rattle.specification.specs.Channels.{vertices_of, unknown?}
 use Rattle.record.proofs.Judging.{first-low, first-high, first-bare, first_known, first-unknown}
 use Rattle.record.proofs.checks.first_of.Goals as goal

@@ -1,4 +1,4 @@
-use Rattle.counting.proofs.Prelude.{eq-eqb, ne_eqb, rules}
+use Rattle.counting.proofs.Prelude.{eq-eqb, ne_eqb}
 use Rattle.record.proofs.checks.settled.Goals as goal
 
 pub returns-then-laid-ne0 : goal.returns-then-laid-ne0

@@ -1,4 +1,4 @@
-use Rattle.counting.proofs.Prelude.{refl, arith, rules}
+use Rattle.counting.proofs.Prelude.{refl, arith}
 use Rattle.record.proofs.Asking.{asked-refused, asked_tail, asked_head, few, asked_known}
 use Rattle.record.proofs.reading.ask.Goals as goal
 

@@ -1,4 +1,4 @@
-use Rattle.counting.proofs.Prelude.{refl, rules}
+use Rattle.counting.proofs.Prelude.{refl}
 use Rattle.record.proofs.Readings.{read-refused, read-passed}
 use Rattle.record.proofs.reading.read.Goals as goal
 
