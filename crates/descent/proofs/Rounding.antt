@@ -286,14 +286,8 @@ module _ (e : List ℕ) (n : ℕ) (small : n ≤ 128) (r low high first second p
         round-over = record {
           cyclic = λ y. absurd (omega arith);
           acyclic = λ y. no_cycle e n inside (λ v h. let l = last-rows v h in omega arith);
-<<<<<<< HEAD
-          used = λ y.
-              let k = highest in
-              let l = above-le n (λ v. true) (level (has? 2 e) n) (suc r) (λ v h t. last-rows v h) in omega arith;
-=======
           used = λ y. let k = highest in let l = above-le n (λ v. true) (level (has? 2 e) n) (suc r) (λ v h t. last-rows v h) in
               omega arith;
->>>>>>> bbd876f2cf00b2366fc49b35290b62c97e4fac1d
           rule = λ y v h. next-rule v h (low_rows v h) ∙ sym (settled (has? 2 e) n (suc r) 128 v (omega arith) (inr (low_rows v h)));
           prefixes = λ y. record {
             few = omega arith;

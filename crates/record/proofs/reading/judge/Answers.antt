@@ -1,4 +1,4 @@
-use Rattle.counting.proofs.Prelude.{refl, sym, arith, rules}
+use Rattle.counting.proofs.Prelude.{refl, sym, arith}
 use Rattle.specification.proofs.Cases.{case_layout}
 use Rattle.fields.proofs.Standing.{layout_good}
 use Rattle.record.proofs.Readings.{bad_refusal, judged-refused}
