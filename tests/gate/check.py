@@ -153,7 +153,9 @@ def row_at(source, definition, line):
 
 
 def function_at(source, line, where):
-    """The function that a line of a source file stands in, by its path: `crate::module::Type::name`."""
+    """The function that a line of a source file stands in, or whose attribute it is, by its path: `crate::module::Type::name`."""
+    while line < len(source) and source[line - 1].lstrip().startswith('#['):
+        line += 1
     for place in range(line, 0, -1):
         found = FUNCTION.match(source[place - 1])
         if found:

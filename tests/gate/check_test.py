@@ -26,12 +26,13 @@ KEEPS = 'pub fn f(a: &mut [u8]) -> u8\n    ensures none { result ≡ 0 }\n    en
 EDIT = '# breaks: proofs/Laws, law: words'
 REFUSED = 'refused, as it must be: '
 FACT = REFUSED + './proofs/Laws.antt:5:9: error: `law`: types differ'
-OPEN = REFUSED + 'note: src/lib.rt:7:9: it is not proved that what the function ensures holds when it returns (`returns`)'
+OPEN = REFUSED + 'note: src/lib.rt:8:9: it is not proved that what the function ensures holds when it returns (`returns`)'
 SOURCE = '''pub fn f() -> u8 {
     0
 }
 
 impl<'a> Kept for S<'a> {
+    #[tactic(auto)]
     pub fn g(self) -> u8 {
         0
     }
@@ -92,9 +93,10 @@ CASES = [
     ('a refusal by the fact that is named', 'logs', EDIT, FACT, None),
     ('an error that follows from another', 'logs', EDIT, REFUSED + './proofs/A.antt:1:1: error: 1 declaration that depends on `law`, which was rejected', 'breaks proofs/A, ?'),
     ('a row of a record', 'logs', EDIT.replace('law:', 'table.two:'), FACT.replace('5:9', '15:9').replace('law', 'table'), None),
-    ('a function without a proof file', 'logs', '# breaks: one::f, returns: words', OPEN.replace(':7:', ':2:'), None),
+    ('a function without a proof file', 'logs', '# breaks: one::f, returns: words', OPEN.replace(':8:', ':2:'), None),
     ('a method without a proof file', 'logs', '# breaks: one::S::g, returns: words', OPEN, None),
-    ('a function of another file', 'logs', '# breaks: one::part::f, returns: words', OPEN.replace('lib.rt:7', 'part.rt:2'), None),
+    ('a method by its attribute', 'logs', '# breaks: one::S::g, returns: words', OPEN.replace(':8:', ':6:'), None),
+    ('a function of another file', 'logs', '# breaks: one::part::f, returns: words', OPEN.replace('lib.rt:8', 'part.rt:2'), None),
     ('a goal that is cut off', 'logs', '# breaks: one::S::g, returns-then-a: words', OPEN.replace('returns`)', 'returns-th'), None),
     ('another goal', 'logs', '# breaks: one::S::g, returns-then-a: words', OPEN, 'breaks one::S::g, returns, not'),
     ('a goal of another function', 'logs', '# breaks: one::f, returns: words', OPEN, 'breaks one::S::g, returns, not'),
