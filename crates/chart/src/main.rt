@@ -1,7 +1,7 @@
 // Prints the chart of the record on standard input as a listing (SPECIFICATION.md, 14.1), or `refused` and the number.
 #![tactic(auto)]
 
-ghost use Rattle.std.specs.Prelude.{◌+◌, ◌*◌, ◌<◌, ◌≤◌, length, IfOk};
+ghost use Rattle.std.specs.Prelude.{◌+◌, ◌*◌, ◌<◌, ◌≤◌, length, IfOk, OnErr, ◌≡◌};
 
 use specification::{ChartCounts, Layout};
 use std::io;
@@ -189,7 +189,8 @@ fn put_arrow<'a>(
     put_mark(output, c, arrows[i + 4])
 }
 
-// ---- lists of lines: what no longer has room in the output is written
+// ---- lists of lines: what no longer has room in the output is written. An error is the write's own, and no other: then the output is as
+// long as it was, and nothing more is written.
 
 // Writes the first bytes of the output.
 fn flush(rt: &impl Print, output: &[u8], used: usize) -> io::Result<()>
@@ -219,7 +220,8 @@ fn put_words<'a>(
     floored: bool,
 ) -> io::Result<usize>
     requires { (used ≤ length output.old) × (38 ≤ length output.old) × (n ≤ 128) × (n * 6 ≤ length words.now) }
-    ensures { IfOk result (λ r. r ≤ length output.old) }
+    ensures ok { IfOk result (λ r. r ≤ length output.old) }
+    ensures err { OnErr result (length output.new ≡ length output.old) }
 {
     let mut end = used;
     for v in 0..n {
@@ -239,7 +241,8 @@ fn put_arrows<'a>(
     ends: &'a [u8],
 ) -> io::Result<usize>
     requires { (used ≤ length output.old) × (38 ≤ length output.old) × (m ≤ 4096) × (m * 5 ≤ length arrows.now) × (m + m ≤ length ends.now) }
-    ensures { IfOk result (λ r. r ≤ length output.old) }
+    ensures ok { IfOk result (λ r. r ≤ length output.old) }
+    ensures err { OnErr result (length output.new ≡ length output.old) }
 {
     let mut end = used;
     for e in 0..m {
@@ -257,7 +260,8 @@ fn put_bundles<'a>(
     bundles: &'a [u16],
 ) -> io::Result<usize>
     requires { (used ≤ length output.old) × (38 ≤ length output.old) × (count ≤ 256) × (count * 4 ≤ length bundles.now) }
-    ensures { IfOk result (λ r. r ≤ length output.old) }
+    ensures ok { IfOk result (λ r. r ≤ length output.old) }
+    ensures err { OnErr result (length output.new ≡ length output.old) }
 {
     let mut end = used;
     for b in 0..count {

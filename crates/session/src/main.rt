@@ -25,6 +25,7 @@ struct State {
 }
 
 // Writes what the output holds where less than a line's room is left; answers where the next line begins.
+// An error is the write's own, and no other, here and in `feed`: then the output is as long as it was, and nothing more is written.
 fn make_room(rt: &impl Print, output: &[u8], used: usize) -> io::Result<usize>
     requires { (used ≤ length output.now) × (16 ≤ length output.now) }
     ensures { IfOk result (λ r. r + 16 ≤ length output.now) }
