@@ -205,7 +205,9 @@ def edit_faults(edit, folder, said):
         yield f'is not refused: {said[:200]}'
         return
     place, whole, said = first_error(refused.group(2), folder)
-    if (refused.group(1) or '').startswith('only because') or UNFIT.search(said) or place[0].endswith('/Invariants'):
+    if (refused.group(1) or '').startswith('only by'):
+        yield f'fails by a limit of the prover, no fact: {", ".join(place)}: {said[:200]}'
+    elif refused.group(1) or UNFIT.search(said) or place[0].endswith('/Invariants'):
         yield f'fails since a proof does not fit, no fact: {", ".join(place)}: {said[:200]}'
     if place[0].startswith('specs/') and '/Examples/' not in place[0]:
         yield f'is no definition: {", ".join(place)}: {said[:200]}'

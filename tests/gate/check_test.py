@@ -107,7 +107,7 @@ CASES = [
     ('an edit that cannot be applied', 'logs', EDIT, "BAD EDIT: an 'old:' text is in src/lib.rt 0 times", 'is not refused: BAD EDIT'),
     ('an edit that is proved', 'logs', EDIT, 'NOT REFUSED: the crate is still proved with this edit', 'is not refused: NOT REFUSED'),
     ('an edit that takes a name away', 'logs', EDIT, FACT.replace('be:', 'be (only because a proof file names what the edit took away, so this says little: keep the names):'), 'does not fit'),
-    ('a limit of the prover', 'logs', EDIT, FACT.replace('be:', 'be (only by a limit of the prover, so this says less: choose another change):'), None),
+    ('a limit of the prover', 'logs', EDIT, FACT.replace('be:', 'be (only by a limit of the prover, so this says less: choose another change):'), 'by a limit of the prover'),
     ('another place', 'logs', EDIT, FACT.replace('law', 'other'), 'breaks proofs/Laws, other, not proofs/Laws, law'),
     ('another row', 'logs', EDIT.replace('law:', 'table.one:'), FACT.replace('5:9', '15:9').replace('law', 'table'), 'breaks proofs/Laws, table.two'),
     ('no error at all', 'logs', EDIT, REFUSED + 'logic=not-proved', 'breaks nowhere'),

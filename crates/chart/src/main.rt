@@ -16,7 +16,7 @@ const WORD_NUMBERS: usize = 6;
 const NEWLINE: u8 = 10;
 
 // One byte more than a record may have: a longer input is refused by as many of its bytes.
-const MOST_READ: u64 = 65536;
+const BUFFER: usize = 65536;
 
 // ---- text: each call puts bytes into the output from `used` on, and answers where they end
 
@@ -342,8 +342,23 @@ fn write_chart(rt: &impl Print, record: &[u8]) -> io::Result<()> {
     flush(rt, &output, d)
 }
 
+// Reads standard input into the buffer until it is full or the input ends; answers how many bytes. An error is the read's own.
+fn read_full(rt: &HostRuntime, buffer: &mut [u8]) -> io::Result<usize>
+    ensures { IfOk result (λ n. n ≤ length buffer.new) }
+{
+    let mut got = 0;
+    while got < buffer.len() {
+        let n = rt.stdin().read(&mut buffer[got..])?;
+        if n == 0 {
+            break;
+        }
+        got += n;
+    }
+    Ok(got)
+}
+
 fn main(rt: HostRuntime) -> io::Result<()> {
-    let mut record = Vec::new(rt.alloc());
-    rt.stdin().take(MOST_READ).read_to_end(&mut record)?;
-    write_chart(&rt, record.as_slice())
+    let mut buffer = [0u8; BUFFER];
+    let got = read_full(&rt, &mut buffer)?;
+    write_chart(&rt, &buffer[..got])
 }

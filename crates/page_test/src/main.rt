@@ -1,7 +1,7 @@
 // Draws a few polylines and checks what comes back, from what `page` promises.
 #![tactic(auto)]
 
-ghost use Rattle.std.specs.Prelude.{◌≡◌, true, IsOk};
+ghost use Rattle.std.specs.Prelude.{◌≡◌};
 ghost use Rattle.specification.specs.Page.{answer_of};
 ghost use Rattle.page_test.specs.Begins.{begins_at};
 
@@ -31,24 +31,7 @@ fn begins_at(r: Polyline, x: f32, y: f32) -> bool
     }
 }
 
-// What a check finds that fails when it runs.
-#[derive(Clone, Copy, Debug)]
-enum Fault {
-    Unexpected,
-}
-
-// That a check holds: it is proved at each call, and seen again when it runs.
-fn expect(holds: bool) -> Result<(), Fault>
-    requires { holds ≡ true }
-    ensures { IsOk result }
-{
-    if holds {
-        return Ok(());
-    }
-    Err(Fault::Unexpected)
-}
-
-fn main() -> Result<(), Fault> {
+fn main() {
     let three = Cell { column: 3, row: 3 };
     let last = Cell {
         column: 639,
@@ -62,10 +45,9 @@ fn main() -> Result<(), Fault> {
         column: 0,
         row: 255,
     };
-    expect(begins_at(page::straight(three, last), 31.5, 84.75))?;
-    expect(begins_at(page::bent(last, three, last), 6709.5, 7175.5))?;
-    expect(number(page::straight(right, last)) == 10)?;
-    expect(number(page::bent(three, last, above)) == 10)?;
-    expect(number(page::side(three, last, last, three)) == 0)?;
-    Ok(())
+    check::expect(begins_at(page::straight(three, last), 31.5, 84.75));
+    check::expect(begins_at(page::bent(last, three, last), 6709.5, 7175.5));
+    check::expect(number(page::straight(right, last)) == 10);
+    check::expect(number(page::bent(three, last, above)) == 10);
+    check::expect(number(page::side(three, last, last, three)) == 0);
 }

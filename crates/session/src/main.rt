@@ -2,7 +2,7 @@
 // output: `ok`, `refused` with the number, `unreadable`, or how U leads to V, `no`, `arrow`, `longer` or `both` (SPECIFICATION.md, 14.3).
 #![tactic(auto)]
 
-ghost use Rattle.std.specs.Prelude.{◌+◌, ◌≤◌, length, IfOk};
+ghost use Rattle.std.specs.Prelude.{◌+◌, ◌≤◌, length, IfOk, OnErr, ◌≡◌};
 
 use editing::Session;
 use script::{Outcome, Scanner};
@@ -93,6 +93,7 @@ fn put_outcome(output: &mut [u8], used: usize, outcome: Outcome) -> usize
 // Answers the lines that end in the input, and writes the answers.
 fn feed<'a>(rt: &impl Print, state: State, input: &'a [u8], output: &mut [u8]) -> io::Result<State>
     requires { 16 ≤ length output.old }
+    ensures { OnErr result (length output.new ≡ length output.old) }
 {
     let mut session = state.session;
     let mut scanner = state.scanner;
