@@ -10,10 +10,10 @@ use lib.ListN.{length, get_or, drop}
 use lib.Seq.{drop-cons}
 use borrow.Author.Tests.{eqb-true, leb-true}
 use Rattle.specification.specs.Count.{choose}
-use Rattle.specification.specs.declared.Field.TheVariants.{Found, Missing}
-use Rattle.specification.specs.declared.Fields.{Fields}
-use Rattle.specification.specs.declared.Layout.{Layout}
-use Rattle.specification.specs.declared.Layout.TheVariants.{Good, Bad}
+use Rattle.specification.specs.Layout.{Found, Missing}
+use Rattle.specification.specs.Layout.{Fields}
+use Rattle.specification.specs.Layout.{Layout}
+use Rattle.specification.specs.Layout.{Good, Bad}
 use Rattle.specification.specs.Layout.{size_at, field_at}
 
 -- the byte at i, and what follows

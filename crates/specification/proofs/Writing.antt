@@ -11,10 +11,10 @@ use lib.ListN.{length, get_or, take, drop, drop_of_length-le, length-drop, take-
 use lib.Seq.{length-take-le, drop-drop}
 use borrow.Author.Tests.{eqb-true, leb-true}
 use Rattle.specification.specs.Count.{choose}
-use Rattle.specification.specs.declared.Field.{Field}
-use Rattle.specification.specs.declared.Field.TheVariants.{Found, Missing}
-use Rattle.specification.specs.declared.Fields.{Fields}
-use Rattle.specification.specs.declared.Layout.TheVariants.{Good}
+use Rattle.specification.specs.Layout.{Field}
+use Rattle.specification.specs.Layout.{Found, Missing}
+use Rattle.specification.specs.Layout.{Fields}
+use Rattle.specification.specs.Layout.{Good}
 use Rattle.specification.specs.Limits.{most_bytes}
 use Rattle.specification.specs.Layout.{size_at, field_at, lined, bare_fields, lined_fields, floored_fields}
 use Rattle.specification.specs.Layout.{with_floors, after_lines, with_lines, after_edges, with_edges, with_vertices, layout_of}

@@ -12,10 +12,10 @@ use Rattle.specification.specs.Count.{choose}
 use Rattle.specification.specs.Graph.{alternate, tails_of, heads_of}
 use Rattle.specification.specs.Channels.{front, lines, filled, lines_of}
 use Rattle.specification.specs.Checks.{content_of}
-use Rattle.specification.specs.declared.Field.TheVariants.{Found, Missing}
-use Rattle.specification.specs.declared.Fields.{Fields}
-use Rattle.specification.specs.declared.Layout.{Layout}
-use Rattle.specification.specs.declared.Layout.TheVariants.{Good}
+use Rattle.specification.specs.Layout.{Found, Missing}
+use Rattle.specification.specs.Layout.{Fields}
+use Rattle.specification.specs.Layout.{Layout}
+use Rattle.specification.specs.Layout.{Good}
 use Rattle.specification.specs.Layout.{size_at, field_at, lined, with_floors, after_lines, with_lines, after_edges, with_edges}
 use Rattle.specification.specs.Layout.{with_vertices, layout_of}
 use Rattle.specification.specs.Writing.{Draft, field, end_bytes, line_bytes, channel_field, floor_field, written, Lines, Writable}

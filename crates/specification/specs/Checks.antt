@@ -6,9 +6,9 @@ use Rattle.specification.specs.Graph.{edge_count, outsized?, strange?, duplicate
 use Rattle.specification.specs.Connection.{connects}
 use Rattle.specification.specs.declared.Connection.{Connection}
 use Rattle.specification.specs.Channels.{lines_of, vertices_of, given_lines, unknown?, repeats?, broken?, times}
-use Rattle.specification.specs.declared.Fields.{Fields}
-use Rattle.specification.specs.declared.Layout.{Layout}
-use Rattle.specification.specs.declared.Layout.TheVariants.{Good, Bad}
+use Rattle.specification.specs.Layout.{Fields}
+use Rattle.specification.specs.Layout.{Layout}
+use Rattle.specification.specs.Layout.{Good, Bad}
 use Rattle.specification.specs.Layout.{layout_of, layout_answer}
 use Rattle.specification.specs.Limits.{most_vertices, most_edges, most_floor}
 

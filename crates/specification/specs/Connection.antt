@@ -19,6 +19,9 @@ connection_number EdgeOnly = 1
 connection_number LongerOnly = 2
 connection_number Both = 3
 
+abbrev pub IsNumberOf : Connection → ℕ → Type 0
+IsNumberOf a k = k ≡ connection_number a
+
 -- the answer that a number stands for
 unfoldable pub numbered : ℕ → Connection
 numbered zero = Unreached

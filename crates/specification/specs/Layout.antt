@@ -3,11 +3,29 @@ use Rattle.std.specs.Prelude.{Bool, true, false, ◌&&◌, List, [], ◌∷◌, 
 use Rattle.std.specs.Prelude.{drop}
 use Rattle.specification.specs.Count.{choose}
 use Rattle.specification.specs.Limits.{most_bytes}
-use Rattle.specification.specs.declared.Field.{Field}
-use Rattle.specification.specs.declared.Field.TheVariants.{Found, Missing}
-use Rattle.specification.specs.declared.Fields.{Fields}
-use Rattle.specification.specs.declared.Layout.{Layout}
-use Rattle.specification.specs.declared.Layout.TheVariants.{Good, Bad}
+
+-- a tagged field: its bytes begin at `start`, and there are `size` of them
+pub data Field : Type 0 where
+  Found : (start size : ℕ) → Field
+  Missing : Field
+
+-- where the fields of a record stand. Edge i has its tail at edges + 2 i and its head after it, and there are `count` of them. The given
+-- channels are the `size` bytes from `lines` on, where `given` says so, and the floors the `extent` bytes from `floors` on, where
+-- `floored` does
+pub record Fields : Type 0 where
+  pub vertices : ℕ
+  pub edges : ℕ
+  pub count : ℕ
+  pub given : Bool
+  pub lines : ℕ
+  pub size : ℕ
+  pub floored : Bool
+  pub floors : ℕ
+  pub extent : ℕ
+
+pub data Layout : Type 0 where
+  Good : Fields → Layout
+  Bad : Layout
 
 -- the length that the two bytes after a tag say, high byte first
 unfoldable pub size_at : List ℕ → ℕ → ℕ

@@ -1,6 +1,8 @@
 pub mod Limits
 pub mod Count
 pub mod Sets
+pub mod Refusals
+pub mod Parts
 pub mod Layout
 pub mod Writing
 pub mod Graph

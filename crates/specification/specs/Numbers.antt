@@ -1,5 +1,5 @@
 -- Entries as numbers (SPECIFICATION.md, 9.4). Assumes nothing.
-use Rattle.std.specs.Prelude.{ℕ, ◌/◌, ◌%◌, eqb}
+use Rattle.std.specs.Prelude.{◌≡◌, ℕ, ◌/◌, ◌%◌, eqb}
 use Rattle.specification.specs.Count.{choose, indicator}
 use Rattle.specification.specs.Chart.{crossing}
 use Rattle.specification.specs.declared.Course.{Course}
@@ -16,6 +16,9 @@ code_of Path = record { code = 0; value = 0; row = 0 }
 code_of (PathTransitive b) = record { code = 1; value = b; row = 0 }
 code_of Straight = record { code = 2; value = 0; row = 0 }
 code_of (Bent b) = record { code = 3; value = b.column; row = b.row }
+
+abbrev pub IsCodeOf : Kind → Code → Type 0
+IsCodeOf kind c = c ≡ code_of kind
 
 -- a course by the number and the bend of its kind
 abbrev pub course_code : Course → Code

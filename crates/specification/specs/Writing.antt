@@ -2,7 +2,7 @@
 use Rattle.std.specs.Prelude.{◌≡◌, Bool, false, List, [], ◌∷◌, ◌++◌, ℕ, ◌+◌, ◌*◌, ◌/◌, ◌%◌, ◌<◌, ◌≤◌, length, get_or}
 use Rattle.specification.specs.Count.{choose}
 use Rattle.specification.specs.Limits.{most_bytes}
-use Rattle.specification.specs.declared.Fields.{Fields}
+use Rattle.specification.specs.Layout.{Fields}
 
 -- what a record says: the number of vertices, the edges, each with its tail and its head, the given channels, if any are given, and the
 -- floors, if there are any

@@ -2,35 +2,71 @@
 // rests on.
 #![tactic(auto)]
 
-// A tagged field: its bytes begin at `start`, and there are `size` of them.
-#[derive(Clone, Copy)]
-pub enum Field {
-    Found { start: usize, size: usize },
-    Missing,
+use std::fmt;
+
+// Why a call is refused, by the names of SPECIFICATION.md, 13; the number of each is `refusal_number`.
+#[derive(Clone, Copy, PartialEq, Eq)]
+pub enum Refusal {
+    Layout,
+    Size,
+    Stranger,
+    Double,
+    Ring,
+    Cover,
+    Broken,
+    Short,
+    Full,
+    OffPage,
+    Broad,
+    Floor,
 }
 
-// Where the fields of a record stand. Edge i has its tail at edges + 2 i and its head after it, and there are `count` of them. The given
-// channels are the `size` bytes from `lines` on, where `given` says so, and the floors the `extent` bytes from `floors` on, where `floored` does.
+impl From<Refusal> for u8 {
+    ghost use Rattle.specification.specs.Refusals.{IsNumberOf};
+
+    ghost from_gives = { IsNumberOf };
+
+    fn from(refusal: Refusal) -> u8 {
+        match refusal {
+            Refusal::Layout => 1,
+            Refusal::Size => 2,
+            Refusal::Stranger => 3,
+            Refusal::Double => 4,
+            Refusal::Ring => 5,
+            Refusal::Cover => 6,
+            Refusal::Broken => 7,
+            Refusal::Short => 8,
+            Refusal::Full => 9,
+            Refusal::OffPage => 10,
+            Refusal::Broad => 11,
+            Refusal::Floor => 12,
+        }
+    }
+}
+
+// Its number.
+impl fmt::Display for Refusal {
+    ghost use Rattle.std.specs.Prelude.{Some};
+    ghost use Rattle.specification.specs.Refusals.{refusal_text};
+
+    ghost output = { λ refusal. Some (refusal_text refusal) };
+
+    fn fmt<W: fmt::Write>(&self, f: &mut fmt::Formatter<W>) -> fmt::Result {
+        write!(f, "{}", u8::from(*self))
+    }
+}
+
+// A graph: so many vertices, the bytes of its edges' ends, tail and head in turn, the bytes of its given channels, if any are given, and its
+// floors, if there are any.
 #[derive(Clone, Copy)]
-pub struct Fields {
+pub struct Graph<'a> {
     pub vertices: usize,
-    pub edges: usize,
-    pub count: usize,
-    pub given: bool,
-    pub lines: usize,
-    pub size: usize,
-    pub floored: bool,
-    pub floors: usize,
-    pub extent: usize,
+    pub ends: &'a [u8],
+    pub given: Option<&'a [u8]>,
+    pub floors: Option<&'a [u8]>,
 }
 
-#[derive(Clone, Copy)]
-pub enum Layout {
-    Good(Fields),
-    Bad,
-}
-
-// How a cross edge runs: straight, or with one bend at a column and a row.
+// How a cross edge runs: straight, or with one bend at a column and a row. No Option of a bend: straight is a course, and no lack of one.
 #[derive(Clone, Copy)]
 pub enum Course {
     Straight,
@@ -64,12 +100,29 @@ pub enum Kind {
     Bent(Bend),
 }
 
-// The number of a kind, with its bundle or its bend.
+// A kind as three numbers (9.4): its own, with its bundle or its bend.
 #[derive(Clone, Copy)]
 pub struct Code {
     pub code: u8,
     pub value: u16,
     pub row: u8,
+}
+
+impl From<Kind> for Code {
+    ghost use Rattle.specification.specs.Numbers.{IsCodeOf};
+
+    ghost from_gives = { IsCodeOf };
+
+    #[tactic(auto, unfolding(crate::specs::Numbers::code_of))]
+    fn from(kind: Kind) -> Code {
+        let (code, value, row) = match kind {
+            Kind::Path => (0, 0, 0),
+            Kind::PathTransitive(bundle) => (1, bundle, 0),
+            Kind::Straight => (2, 0, 0),
+            Kind::Bent(bend) => (3, bend.column, bend.row),
+        };
+        Code { code, value, row }
+    }
 }
 
 // An edge as it is handed over, with its mark (5.1).
@@ -90,7 +143,8 @@ pub struct BundleEntry {
 }
 
 // What a call for a chart answers (9.1), in the publisher's words: its number, or 0; how many entries each list got; the other counts, and the side
-// columns of each line, 0 past the last. Every number but the first is 0 where the chart is refused.
+// columns of each line, 0 past the last. Every number but the first is 0 where the chart is refused. Numbers for refusals here and in the other
+// structs for C: its header fixes them.
 #[repr(C)]
 #[derive(Clone, Copy)]
 pub struct ChartCounts {
@@ -119,7 +173,8 @@ pub struct Point {
     pub y: f32,
 }
 
-// A line through two, three or four points, or that one of them would be off the page (12.2).
+// A line through two, three or four points, or that one of them would be off the page (12.2). Not Result: that one enum has the case for the
+// refusal is the publisher's own form.
 #[derive(Clone, Copy)]
 pub enum Polyline {
     Straight(Point, Point),
@@ -129,7 +184,7 @@ pub enum Polyline {
 }
 
 // How one vertex reaches another (2.4): not at all, by an edge alone, by longer routes alone, of two edges or more each, or by both.
-#[derive(Clone, Copy)]
+#[derive(Clone, Copy, PartialEq, Eq)]
 pub enum Connection {
     Unreached,
     EdgeOnly,
@@ -137,14 +192,22 @@ pub enum Connection {
     Both,
 }
 
-// The refusal, or 0, and how one vertex reaches the other: not at all where the call is refused.
-#[derive(Clone, Copy)]
-pub struct Reply {
-    pub refusal: u8,
-    pub connection: Connection,
+impl From<Connection> for u8 {
+    ghost use Rattle.specification.specs.Connection.{IsNumberOf};
+
+    ghost from_gives = { IsNumberOf };
+
+    fn from(connection: Connection) -> u8 {
+        match connection {
+            Connection::Unreached => 0,
+            Connection::EdgeOnly => 1,
+            Connection::LongerOnly => 2,
+            Connection::Both => 3,
+        }
+    }
 }
 
-// The same for apps, in the publisher's words: the refusal, or 0, and how the first word leads to the second, 0 not at all, 1 by an arrow
+// For apps, in the publisher's words: the refusal, or 0, and how the first word leads to the second, 0 not at all, 1 by an arrow
 // only, 2 by longer routes only, 3 by both; 0 where the call is refused.
 #[repr(C)]
 #[derive(Clone, Copy)]
