@@ -10,10 +10,8 @@ ghost use Rattle.specification.specs.Lent.{Untouched};
 pub fn mask_at(masks: &[u64], first: usize, i: usize) -> u64
     ensures { result ≡ get_or masks.now (first + i) 0 }
 {
-    if masks.len() <= first {
-        return 0;
-    }
-    if masks.len() - first <= i {
+    // two tests by hand: `get` at a sum that stops at the highest number was tried, and loops over masks are slower by a third
+    if masks.len() <= first || masks.len() - first <= i {
         return 0;
     }
     masks[first + i]
@@ -30,14 +28,10 @@ pub fn contains(masks: &[u64], first: usize, v: usize) -> bool
 pub fn insert(masks: &mut [u64], first: usize, v: usize) -> bool
     ensures { (result ≡ ltb (first + v / 64) (length masks.old)) × (masks.new ≡ inserted masks.old first v) }
 {
-    let w = v / 64;
-    if masks.len() <= first {
+    let i = first.saturating_add(v / 64);
+    if masks.len() <= i {
         return false;
     }
-    if masks.len() - first <= w {
-        return false;
-    }
-    let i = first + w;
     masks[i] |= 1u64 << (v % 64);
     true
 }
@@ -48,14 +42,11 @@ pub fn unite(masks: &mut [u64], first: usize, other: &[u64]) -> bool
     ensures made { result ≡ true → United masks.old first other.now (length other.now) masks.new }
     ensures kept { result ≡ false → Untouched masks.old masks.new }
 {
-    if masks.len() < first {
+    if masks.len() < first.saturating_add(other.len()) {
         return false;
     }
-    if masks.len() - first < other.len() {
-        return false;
-    }
-    for i in 0..other.len() {
-        masks[first + i] |= other[i];
+    for (i, mask) in other.iter().enumerate() {
+        masks[first + i] |= *mask;
     }
     true
 }

@@ -14,58 +14,35 @@ pub fn connected(edge: bool, longer: bool) -> Connection
     ensures case { result ≡ connection edge longer }
     ensures number { connection_number result ≡ indicator edge + 2 * indicator longer }
 {
-    if edge {
-        if longer {
-            return Connection::Both;
-        }
-        return Connection::EdgeOnly;
+    match (edge, longer) {
+        (false, false) => Connection::Unreached,
+        (true, false) => Connection::EdgeOnly,
+        (false, true) => Connection::LongerOnly,
+        (true, true) => Connection::Both,
     }
-    if longer {
-        return Connection::LongerOnly;
-    }
-    Connection::Unreached
 }
 
 // The same of v, by the set whose masks begin at mask `first`, in the table of edges and in that of longer routes.
 pub fn between<'e, 'l>(edges: &'e [u64], longer: &'l [u64], first: usize, v: usize) -> Connection
     ensures { result ≡ connection (member? edges.now first v) (member? longer.now first v) }
 {
-    let edge = masks::contains(edges, first, v);
-    connected(edge, masks::contains(longer, first, v))
-}
-
-// The number of an answer.
-pub fn number_of(answer: Connection) -> u8
-    ensures { result ≡ connection_number answer }
-{
-    match answer {
-        Connection::Unreached => 0,
-        Connection::EdgeOnly => 1,
-        Connection::LongerOnly => 2,
-        Connection::Both => 3,
-    }
+    connected(
+        masks::contains(edges, first, v),
+        masks::contains(longer, first, v),
+    )
 }
 
 // Whether there is a way at all.
+// A comparison under the name that its promise has, as the next is.
 pub fn is_leading(answer: Connection) -> bool
     ensures { result ≡ leading? answer }
 {
-    match answer {
-        Connection::Unreached => false,
-        Connection::EdgeOnly => true,
-        Connection::LongerOnly => true,
-        Connection::Both => true,
-    }
+    answer != Connection::Unreached
 }
 
 // Whether there is an edge and a longer route.
 pub fn is_both(answer: Connection) -> bool
     ensures { result ≡ both? answer }
 {
-    match answer {
-        Connection::Unreached => false,
-        Connection::EdgeOnly => false,
-        Connection::LongerOnly => false,
-        Connection::Both => true,
-    }
+    answer == Connection::Both
 }

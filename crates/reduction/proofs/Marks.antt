@@ -6,15 +6,10 @@ use Rattle.specification.specs.Connection.{connection, both?}
 use Rattle.reach.proofs.Connecting.{both_each}
 use Rattle.reduction.specs.Reduction.{marked?, transitive_in?}
 
--- k is v as a usize
-module _ (mask v k : ℕ) (same : k ≡ v) where
-  test : bit_and (mask / 2 ^ (k % 64)) 1 ≡ bit mask (v % 64)
-  unfolding bit
-  test = rw same (and_mask (mask / 2 ^ (v % 64)) 1)
-
-  pub mark-read : both? (connection true (eqb (bit_and (mask / 2 ^ (k % 64)) 1) 1)) ≡ marked? mask v
-  unfolding marked?
-  mark-read = ap (λ (x : ℕ). both? (connection true (eqb x 1))) test
+-- the bit that the code takes
+pub mark-read : (mask v : ℕ) → both? (connection true (eqb (bit_and (mask / 2 ^ (v % 64)) 1) 1)) ≡ marked? mask v
+unfolding marked? bit
+mark-read mask v = ap (λ (x : ℕ). both? (connection true (eqb x 1))) (and_mask (mask / 2 ^ (v % 64)) 1)
 
 -- the table's set of u tells it
 pub transitive_member : (longer : List ℕ) (u v : ℕ) → transitive_in? longer u v ≡ member? longer (2 * u) v
