@@ -9,10 +9,8 @@ use Rattle.counting.proofs.Truth.{true_or_false, and_intro, and_elim}
 use Rattle.counting.proofs.Choosing.{choose_yes}
 use Rattle.counting.proofs.Sizes.{outsized_back}
 use Rattle.scanning.specs.Scanned.{ends_refusal, Scanned, Scans}
-use Rattle.masks.specs.Sets.{Blank}
-use Rattle.descent.specs.declared.Descent.{Descent}
-use Rattle.descent.specs.Steps.Closed.{Rest, Inside, Laid, Closed, Ranked, fits?}
-use Rattle.descent.specs.Promise.{edges_refusal, no_descent, Sized, Descended, Left, Descends}
+use Rattle.descent.specs.Steps.Closed.{Rest, Inside, Ranked, fits?}
+use Rattle.descent.specs.Promise.{Descent, edges_refusal, no_descent, Sized, Descended, Left, Descends}
 use Rattle.descent.proofs.Refusals.{ends-answers, edges_in_turn, answer-ends, answer-cycle}
 use Rattle.descent.proofs.Graphs.{graph_inside, graph_cyclic, graph_acyclic, graph_rows, graph_used, graph_below, graph_stuck}
 use Rattle.descent.proofs.Graphs.{graph_past, graph_closure, graph_composed}
@@ -235,25 +233,3 @@ module _ (n : ℕ) (ends e b t l p : List ℕ) where
                   others = λ ne. absurd (ne refl);
                   cyclic = λ _. let z = f.left d in (z.0, z.1, graph_stuck n tails heads e' none_refused edge_bits b p b' p' z.2);
                 }
-
--- ---- the rows and what is reached
-
-module _ (e : List ℕ) (n top : ℕ) (p q b₀ b : List ℕ) (laid : Laid e n top p q b₀ b) where
-  pub ranked_cyclic : top ≡ 0 → (r : Descent) (t l : List ℕ) → r ≡ no_descent 5 → Blank t → Blank l → Ranked e n b₀ p r b t l q
-  ranked_cyclic z r t l y blank blank' =
-      let w : r.refusal ≡ 5 = ap (λ (x : Descent). x.refusal) y in
-      record {
-        cyclic = λ _. (y, laid.cyclic z);
-        left = λ _. (blank, blank', laid.refused z);
-        made = λ i. absurd (omega arith);
-        rest = λ k v h o. laid.rest k v h (λ i. o (omega arith));
-      }
-
-  pub ranked-made : top ≢ 0 → (t₀ l₀ t l p' : List ℕ) → Blank t₀ → Blank l₀ → Closed e n t₀ l₀ q t l p'
-      → Ranked e n b₀ p (record { refusal = 0; used = top }) b t l p'
-  ranked-made used t₀ l₀ t l p' blank blank' closed = record {
-    cyclic = λ ne. absurd (ne refl);
-    left = λ ne. absurd (ne refl);
-    made = λ _. (used, (t₀, l₀, q, blank, blank', laid, closed));
-    rest = λ k v h o. closed.rest k v h (λ i. o (omega arith)) ∙ laid.rest k v h (λ i. o (omega arith));
-  }

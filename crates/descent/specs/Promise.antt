@@ -1,5 +1,5 @@
 -- What the descent promises. Rows are levels here, which go by the edges alone (SPECIFICATION.md, 4.2). Assumes nothing.
-use Rattle.std.specs.Prelude.{◌≡◌, ◌≢◌, ◌⊎◌, ◌↔◌, Bool, List, ℕ, ◌+◌, ◌*◌, ◌≤◌, ◌<◌, min, eqb, length, get_or}
+use Rattle.std.specs.Prelude.{◌≡◌, ◌≢◌, ◌⊎◌, ◌↔◌, Bool, List, ℕ, ◌+◌, ◌*◌, ◌≤◌, ◌<◌, min, eqb, length, get_or, Result, Ok, Err}
 use Rattle.specification.specs.Limits.{most_vertices}
 use Rattle.specification.specs.Count.{choose, some}
 use Rattle.specification.specs.Sets.{at}
@@ -10,7 +10,13 @@ use Rattle.masks.specs.Sets.{Blank}
 use Rattle.scanning.specs.Scanned.{ends_refusal, Scanned}
 use Rattle.counting.specs.Quads.{quad}
 use Rattle.reach.specs.Closure.{Closure, Composed}
-use Rattle.descent.specs.declared.Descent.{Descent}
+use Rattle.specification.specs.declared.Refusal.{Refusal}
+use Rattle.specification.specs.Refusals.{refusal_number}
+
+-- why the edges are refused, or 0, and how many rows are used
+pub record Descent : Type 0 where
+  pub refusal : ℕ
+  pub used : ℕ
 
 -- why edges are refused: 2 'size' to 5 'ring' (SPECIFICATION.md, 13), the first that applies, or 0
 unfoldable pub edges_refusal : ℕ → List ℕ → List ℕ → ℕ
@@ -23,6 +29,11 @@ edges_refusal n tails heads =
 -- refused with k: no row is used
 abbrev pub no_descent : ℕ → Descent
 no_descent k = record { refusal = k; used = 0 }
+
+-- what a call says: how many rows are used, or why the edges are refused
+abbrev pub descent_of : Result ℕ Refusal → Descent
+descent_of (Ok used) = record { refusal = 0; used = used }
+descent_of (Err k) = no_descent (refusal_number k)
 
 -- the work lists have room: two masks a vertex, at most 128, and one set more for the rows; four numbers a vertex in the places
 pub record Sized (n : ℕ) (e b t l p : List ℕ) : Type 0 where

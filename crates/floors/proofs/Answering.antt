@@ -10,43 +10,27 @@ use Rattle.specification.specs.Graph.{edge?, tails_of, heads_of, refusal, reacha
 use Rattle.specification.specs.Checks.{unfloored?, floor_at}
 use Rattle.specification.specs.Rows.{row, rows_used}
 use Rattle.specification.specs.Limits.{longest_path}
+use Rattle.specification.specs.Parts.{present?, bytes_of}
+use Rattle.std.specs.Prelude.{Option}
+use Rattle.std.specs.Borrow.{Bor}
 use Rattle.rows.specs.Levels.{level}
 use Rattle.rows.proofs.Graphs.{acyclic_order}
 use Rattle.rows.proofs.Levels.{row-level, used_level, used_low, levels_below}
 use Rattle.rows.proofs.Same.{levels_same, row_same, used_same}
-use Rattle.descent.specs.declared.Descent.{Descent}
-use Rattle.descent.specs.Promise.{edges_refusal, no_descent, Sized, Descended, Left, Descends}
+use Rattle.descent.specs.Promise.{Descent, edges_refusal, no_descent, Sized, Descended, Left, Descends}
 use Rattle.descent.specs.Steps.Closed.{Inside, Prefixes}
 use Rattle.descent.proofs.Refusals.{edges-accepted, edges-answers}
 use Rattle.descent.proofs.Graphs.{graph_inside, same_edges}
 use Rattle.floors.specs.Steps.{Liftable, Settled}
 use Rattle.floors.specs.Promise.{after_size, raised_refusal, spread, Roomy, Raises}
 
--- ---- no room for the sets by row
-
-pub raises_short : (n : ℕ) (ends floors e b t l p : List ℕ) (r : Descent) → length b < spread n → r ≡ no_descent 8
-    → Raises n ends true floors e b t l p r e b t l p
-raises_short n ends floors e b t l p r h q =
-    let k : r.refusal ≡ 8 = ap (λ (x : Descent). x.refusal) q in
-    record {
-      answer = λ s. absurd (omega (arith, s.rows refl, h));
-      short = λ _. (k, refl, refl, refl, refl, refl);
-      none = λ _. q ∙ ap no_descent (sym k);
-      made = λ z. absurd (omega (arith, z, k));
-      sets_past = λ z. absurd (omega (arith, z, k));
-      left = λ s. absurd (omega (arith, s.rows refl, h));
-      flat = λ s. absurd (omega (arith, s.rows refl, h));
-      kept = λ k v h. refl;
-      past = λ k v h g. refl;
-      long = (refl, refl, refl, refl, refl);
-    }
-
 -- ---- by whether there are floors
 
-pub raises_as : {n : ℕ} {ends floors e b t l p : List ℕ} {r : Descent} {e' b' t' l' p' : List ℕ} (floored is : Bool) → floored ≡ is
-    → Raises n ends is floors e b t l p r e' b' t' l' p' → Raises n ends floored floors e b t l p r e' b' t' l' p'
-raises_as {n} {ends} {floors} {e} {b} {t} {l} {p} {r} {e'} {b'} {t'} {l'} {p'} floored is q g =
-    subst (λ (x : Bool). Raises n ends x floors e b t l p r e' b' t' l' p') (sym q) g
+pub raises_as : {n : ℕ} {ends e b t l p : List ℕ} {r : Descent} {e' b' t' l' p' : List ℕ} (floors is : Option (Bor (List ℕ))) → floors ≡ is
+    → Raises n ends (present? is) (bytes_of is) e b t l p r e' b' t' l' p'
+    → Raises n ends (present? floors) (bytes_of floors) e b t l p r e' b' t' l' p'
+raises_as {n} {ends} {e} {b} {t} {l} {p} {r} {e'} {b'} {t'} {l'} {p'} floors is q g =
+    subst (λ (x : Option (Bor (List ℕ))). Raises n ends (present? x) (bytes_of x) e b t l p r e' b' t' l' p') (sym q) g
 
 -- ---- the levels are found
 

@@ -1,11 +1,8 @@
 -- From the floors to the rows and the sets by row. Assumes nothing.
-use Rattle.counting.proofs.Prelude.{◌≡◌, refl, sym, ap, ◌∙◌, ⊎_elim, ◌↔◌, Bool, true, false, true≢false, not, List}
+use Rattle.counting.proofs.Prelude.{◌≡◌, refl, sym, ◌∙◌, ⊎_elim, ◌↔◌, Bool, true, false, true≢false, not, List}
 use Rattle.counting.proofs.Prelude.{ℕ, ◌+◌, ◌*◌, ◌/◌, ◌≤◌}
-use Rattle.counting.proofs.Prelude.{◌<◌, min, arith, eqb, ltb, length, get_or, set, get_or-eq_default, eqb-true, ltb-false, not-false}
-use native.Mathlib.Nat.{not-suc-le-zero}
-use native.Mathlib.Decide.{ℕ_discrete}
+use Rattle.counting.proofs.Prelude.{◌<◌, min, arith, eqb, ltb, length, get_or, get_or-eq_default, eqb-true, ltb-false, not-false}
 use Rattle.counting.specs.Quads.{quad}
-use Rattle.counting.proofs.Quads.{quad-same, quad_other}
 use Rattle.counting.proofs.Truth.{lt-or-le, or_neither}
 use Rattle.counting.proofs.Above.{above-le, above_ext}
 use Rattle.counting.proofs.Somes.{some_found}
@@ -22,23 +19,6 @@ use Rattle.floors.specs.Steps.{Set, row_in, Slope, Arrived, Liftable, Settled}
 use Rattle.floors.proofs.Rising.{level_rises, arc_has}
 
 -- ---- the floors
-
-pub set_none : (floors p : List ℕ) → Set 0 floors p p
-set_none floors p = record { floored = λ v h. absurd (not-suc-le-zero h); others = λ k v h o. refl }
-
-pub set_more : (v : ℕ) (floors p s : List ℕ) → 4 * v + 2 < length s → Set v floors p s
-    → Set (v + 1) floors p (set s (4 * v + 2) (get_or floors v 0))
-set_more v floors p s room g = record {
-  floored = λ w h. at w h (ℕ_discrete w v);
-  others = λ k w h o. quad_other s w k v 2 x h (omega arith) (λ q e. omega (arith, q, o e)) ∙ g.others k w h (λ e. omega (arith, o e));
-}
-  where
-    x : ℕ
-    x = get_or floors v 0
-
-    at : (w : ℕ) → w < v + 1 → Dec (w ≡ v) → quad 2 (set s (4 * v + 2) x) w ≡ get_or floors w 0
-    at w h (yes q) = ap (quad 2 (set s (4 * v + 2) x)) q ∙ quad-same s v 2 x room ∙ ap (λ (i : ℕ). get_or floors i 0) (sym q)
-    at w h (no d) = quad_other s w 2 v 2 x (omega arith) (omega arith) (λ q _. d q) ∙ g.floored w (omega (arith, h, d))
 
 -- floors that are not refused: one a vertex, and none over 127
 pub floors_good : (n : ℕ) (floors : List ℕ) → unfloored? n true floors ≡ false

@@ -9,8 +9,7 @@ use Rattle.specification.specs.Checks.{unfloored?, floor_at}
 use Rattle.specification.specs.Lent.{Untouched, KeptFrom}
 use Rattle.counting.specs.Quads.{quad}
 use Rattle.reach.specs.Closure.{Closure, Composed}
-use Rattle.descent.specs.declared.Descent.{Descent}
-use Rattle.descent.specs.Promise.{edges_refusal, no_descent, Sized, Descended, Left}
+use Rattle.descent.specs.Promise.{Descent, edges_refusal, no_descent, Sized, Descended, Left}
 
 -- why a graph is refused before its channels are looked at: 2 'size', 12 'floor', 3 'stranger' to 5 'ring' (SPECIFICATION.md, 13), the
 -- first that applies, or 0; by the refusal of its edges

@@ -6,7 +6,7 @@ use Rattle.specification.specs.Sets.{bit, at, has?}
 use Rattle.specification.specs.Rows.{row, rows_used}
 use Rattle.specification.specs.Lent.{KeptFrom}
 use Rattle.counting.specs.Quads.{quad}
-use Rattle.descent.specs.declared.Descent.{Descent}
+use Rattle.descent.specs.Promise.{Descent}
 use Rattle.descent.specs.Steps.Closed.{Arc, Inside, Prefixes}
 
 -- one of the floors is over the highest

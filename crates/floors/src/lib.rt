@@ -2,28 +2,22 @@
 // each vertex begins at its own, and level by level each lifts its successors above itself; the sets of vertices by row are made anew.
 #![tactic(auto)]
 
-ghost use Rattle.std.specs.Prelude.{◌≡◌, true, false, ◌&&◌, ℕ, ◌+◌, ◌*◌, ◌≤◌, ◌<◌, min, max, ltb, length, get_or};
+ghost use Rattle.std.specs.Prelude.{◌≡◌, true, false, ◌||◌, ℕ, ◌+◌, ◌*◌, ◌≤◌, ◌<◌, eqb, length, get_or, Ok};
 ghost use Rattle.specification.specs.Count.{above};
 ghost use Rattle.specification.specs.Checks.{unfloored?};
+ghost use Rattle.specification.specs.Parts.{present?, bytes_of};
 ghost use Rattle.counting.specs.Quads.{quad};
-ghost use Rattle.descent.specs.Promise.{no_descent};
+ghost use Rattle.descent.specs.Promise.{descent_of};
 ghost use Rattle.descent.specs.Steps.Members.{Long};
 ghost use Rattle.floors.specs.Steps.{too_high?, Set, Lifted, Ample, Pushed, Carried, Lifts, Liftable, Settled};
-ghost use Rattle.floors.specs.Promise.{spread, Raises};
+ghost use Rattle.floors.specs.Promise.{Raises};
 
-use descent::Descent;
+use specification::{Graph, Refusal};
 
 // The highest floor, and the most vertices.
 const MOST_FLOOR: u8 = 127;
 
 const MOST_VERTICES: usize = 128;
-
-// A byte as a usize: asks nothing of the byte, where a cast of an element asks that it fits.
-fn wide(x: u8) -> usize
-    ensures { (result ≡ x) × (result < 256) }
-{
-    x as usize
-}
 
 // ---- the floors
 
@@ -31,56 +25,30 @@ fn wide(x: u8) -> usize
 fn is_too_high(floors: &[u8]) -> bool
     ensures { result ≡ too_high? floors.now }
 {
-    for v in 0..floors.len() {
-        if MOST_FLOOR < floors[v] {
-            return true;
-        }
-    }
-    false
+    floors.iter().any(|floor| MOST_FLOOR < *floor)
 }
 
 // Whether the floors of n vertices are not one a vertex, or one of them is over the highest.
 fn is_unfloored(n: usize, floors: &[u8]) -> bool
     ensures { result ≡ unfloored? n true floors.now }
 {
-    if floors.len() != n {
-        return true;
-    }
-    is_too_high(floors)
+    floors.len() != n || is_too_high(floors)
 }
 
-// Each of n vertices begins at its floor.
-fn set_floors(floors: &[u8], n: usize, places: &mut [u8])
-    requires { (n ≤ 128) × (n ≤ length floors.now) × (4 * n ≤ length places.old) }
-    ensures { Set n floors.now places.old places.new }
+// Each vertex begins at its floor.
+fn set_floors(floors: &[u8], places: &mut [u8])
+    requires { (length floors.now ≤ 128) × (4 * length floors.now ≤ length places.old) }
+    ensures { Set (length floors.now) floors.now places.old places.new }
 {
-    for v in 0..n {
-        places[4 * v + 2] = floors[v];
+    for (v, floor) in floors.iter().enumerate() {
+        places[4 * v + 2] = *floor;
     }
 }
 
 // ---- lifting
 
-fn larger(a: u8, b: u8) -> u8
-    ensures { result ≡ max a b }
-{
-    if b < a {
-        return a;
-    }
-    b
-}
-
-// The row above; above the last there is none, and no graph without cycles comes to it.
-fn next_row(r: u8) -> u8
-    ensures { result ≡ min (r + 1) 255 }
-{
-    if r < 255 {
-        return r + 1;
-    }
-    255
-}
-
 // Lifts each member of a mask that begins at vertex `base` to row r, unless it is higher.
+// A mask with the vertex of its bit 0, parameters that go together: both are in registers, and the loop takes them apart at once.
 fn lift_members(mask: u64, base: usize, r: u8, places: &mut [u8])
     requires { (base ≤ 64) × Long 4 places.old mask base }
     ensures { Lifted mask base r places.old places.new }
@@ -89,16 +57,16 @@ fn lift_members(mask: u64, base: usize, r: u8, places: &mut [u8])
     while x != 0 {
         let i = 4 * (base + u64::trailing_zeros(x) as usize) + 2;
         x = x & (x - 1);
-        places[i] = larger(places[i], r);
+        places[i] = places[i].max(r);
     }
 }
 
-// Lifts the successors of u above it.
+// Lifts the successors of u above it. Above the last row there is none, and no graph without cycles comes to it.
 fn push(u: usize, edges: &[u64], places: &mut [u8])
     requires { (u < 128) × (2 * u + 2 ≤ length edges.now) × (4 * u + 4 ≤ length places.old) × Ample edges.now places.old }
     ensures { Pushed edges.now u places.old places.new }
 {
-    let r = next_row(places[4 * u + 2]);
+    let r = places[4 * u + 2].saturating_add(1);
     lift_members(edges[2 * u], 0, r, places);
     lift_members(edges[2 * u + 1], 64, r, places);
 }
@@ -129,15 +97,6 @@ fn lift(edges: &[u64], below: &[u64], n: usize, top: usize, places: &mut [u8])
     }
 }
 
-fn largest(a: usize, b: usize) -> usize
-    ensures { result ≡ max a b }
-{
-    if a < b {
-        return b;
-    }
-    a
-}
-
 // One more than the highest row of n vertices.
 fn rows_used(n: usize, places: &[u8]) -> usize
     requires { (n ≤ 128) × (4 * n ≤ length places.now) }
@@ -145,20 +104,15 @@ fn rows_used(n: usize, places: &[u8]) -> usize
 {
     let mut used: usize = 0;
     for v in 0..n {
-        used = largest(used, wide(places[4 * v + 2]) + 1);
+        used = used.max(places[4 * v + 2] as usize + 1);
     }
     used
 }
 
 // ---- the whole
 
-fn refused(refusal: u8) -> Descent
-    ensures { result ≡ no_descent refusal }
-{
-    Descent { refusal, used: 0 }
-}
-
-// The rows of n vertices by their floors, from the tables of a graph that `descent::descend` accepts, and the sets by row.
+// The rows of n vertices by their floors, from the tables of a graph that `descent::descend` accepts, and the sets by row; how many rows
+// are used.
 fn settled(
     n: usize,
     floors: &[u8],
@@ -166,72 +120,54 @@ fn settled(
     edges: &[u64],
     below: &mut [u64],
     places: &mut [u8],
-) -> Descent
+) -> u8
     requires { Liftable edges.now below.old n levels (length places.old) × (unfloored? n true floors.now ≡ false) × (2 * (n + 127) + 2 ≤ length below.old) }
-    ensures { Settled n floors.now edges.now below.old places.old result below.new places.new }
+    ensures { Settled n floors.now edges.now below.old places.old (descent_of (Ok result)) below.new places.new }
 {
-    set_floors(floors, n, places);
+    set_floors(floors, places);
     lift(edges, below, n, levels, places);
     let used = rows_used(n, places);
     prefixes::by_row(places, n, used, below);
-    Descent {
-        refusal: 0,
-        used: used as u8,
-    }
+    used as u8
 }
 
-// How many masks the sets by row have, where n vertices, of at most 128, have floors.
-fn room(n: usize) -> usize
-    ensures { result ≡ spread n }
+// Whether the edges are refused before the floors are looked at.
+fn is_first(descended: Result<u8, Refusal>) -> bool
+    ensures { result ≡ (eqb (descent_of descended).refusal 8 || eqb (descent_of descended).refusal 2) }
 {
-    if n < MOST_VERTICES {
-        return 2 * (n + wide(MOST_FLOOR)) + 2;
-    }
-    2 * (MOST_VERTICES + wide(MOST_FLOOR)) + 2
+    matches!(descended, Err(Refusal::Short | Refusal::Size))
 }
 
-// Whether n vertices have floors, and so many masks are too few for their sets by row.
-fn is_cramped(n: usize, floored: bool, masks: usize) -> bool
-    ensures { result ≡ (floored && ltb masks (spread n)) }
+// The tables of a graph, with rows and counts in `places`; how many rows are used. Refused as `Short` (a work list lacks room: nothing is
+// changed), as `Size`, as `Floor` (the floors are not one a vertex, or one is over 127), or as `Stranger`, `Double` or `Ring`. After a
+// refusal the lists have what `descent::descend` leaves of the edges alone.
+// Parameters that travel together: no struct of the lists, as in chart_plan::planned.
+pub fn raised(
+    g: &Graph,
+    edges: &mut [u64],
+    below: &mut [u64],
+    table: &mut [u64],
+    longer: &mut [u64],
+    places: &mut [u8],
+) -> Result<u8, Refusal>
+    ensures { Raises g.now.vertices g.now.ends.now (present? g.now.floors) (bytes_of g.now.floors) edges.old below.old table.old longer.old places.old (descent_of result) edges.new below.new table.new longer.new places.new }
 {
-    if floored {
-        return masks < room(n);
-    }
-    false
-}
-
-// The tables of n vertices, of edges of two bytes each, tail and head, and of floors, if there are any, with rows and counts in `places`.
-// Refused with 8 (a work list lacks room: nothing is changed), with 2, with 12 (the floors are not one a vertex, or one is over 127), or
-// with 3, 4 or 5. After a refusal the lists have what `descent::descend` leaves of the edges alone.
-pub fn raised<'a, 'f, 'e, 'b, 't, 'l, 'p>(
-    n: usize,
-    ends: &'a [u8],
-    floored: bool,
-    floors: &'f [u8],
-    edges: &'e mut [u64],
-    below: &'b mut [u64],
-    table: &'t mut [u64],
-    longer: &'l mut [u64],
-    places: &'p mut [u8],
-) -> Descent
-    ensures { Raises n ends.now floored floors.now edges.old below.old table.old longer.old places.old result edges.new below.new table.new longer.new places.new }
-{
-    if is_cramped(n, floored, below.len()) {
-        return refused(8);
+    let n = g.vertices;
+    let spread = 2 * (n.min(MOST_VERTICES) + MOST_FLOOR as usize) + 2;
+    if g.floors.is_some() && below.len() < spread {
+        return Err(Refusal::Short);
     }
     // called in one place, so that the compiler puts it here
-    let d = descent::descend(n, ends, edges, below, table, longer, places);
-    if !floored {
-        return d;
-    }
-    if (d.refusal == 8) | (d.refusal == 2) {
-        return d;
+    let descended = descent::descend(n, g.ends, edges, below, table, longer, places);
+    let Some(floors) = g.floors else {
+        return descended;
+    };
+    if is_first(descended) {
+        return descended;
     }
     if is_unfloored(n, floors) {
-        return refused(12);
+        return Err(Refusal::Floor);
     }
-    if d.refusal != 0 {
-        return d;
-    }
-    settled(n, floors, wide(d.used), edges, below, places)
+    let levels = descended? as usize;
+    Ok(settled(n, floors, levels, edges, below, places))
 }

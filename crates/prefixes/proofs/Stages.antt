@@ -1,6 +1,8 @@
 -- The sets by key while they are filled. Assumes nothing.
 use Rattle.counting.proofs.Prelude.{◌≡◌, refl, sym, ap, ap₂, ◌∙◌, ◌≢◌, ◌⊎◌, inl, inr, ⊎_elim, List, [], ◌∷◌, ℕ, ◌+◌, ◌-◌, ◌*◌, ◌/◌, ◌%◌}
-use Rattle.counting.proofs.Prelude.{◌≤◌, ◌<◌, min, max, arith, length, get_or, set, length-set, get_or-eq_default}
+use Rattle.counting.proofs.Prelude.{◌++◌, ◌≤◌, ◌<◌, min, max, arith, length, get_or, set, length-set, get_or-eq_default, replicate, drop}
+use Rattle.counting.proofs.Prelude.{length-append, length-replicate, length-drop, get_or-append, get_or-replicate}
+use Rattle.std.proofs.lemmas.List.{get_or-append_right, get_or-drop}
 use native.Mathlib.Nat.{mul-le-mul_left}
 use native.Mathlib.Decide.{ℕ_discrete}
 use lib.Bits.{bit_or}
@@ -172,6 +174,19 @@ twice-kept s p q a b i np nq =
     get_or-set_other one q i (bit_or (get_or one q 0) b) 0 nq ∙ get_or-set_other s p i (bit_or (get_or s p 0) a) 0 np
 
 -- ---- the walk over the vertices
+
+-- a list whose first `top` entries are set to x, as the code does it
+pub filled_part : (x : ℕ) (was part : List ℕ) (top : ℕ) → top ≤ length was → part ≡ replicate top x
+    → Filled was (λ i. x) top (part ++ drop top was)
+filled_part x was part top h e =
+    let size : length part ≡ top = ap length e ∙ length-replicate {A = ℕ} top x in
+    record {
+      as_long = length-append part (drop top was) ∙ omega (arith, size, length-drop top was, h);
+      made = λ k d l. get_or-append part (drop top was) d k (omega (arith, size, l)) ∙ ap (λ (t : List ℕ). get_or t k d) e
+          ∙ get_or-replicate top k x d l;
+      kept = λ k d l. get_or-append_right part (drop top was) top k d size l ∙ get_or-drop top was (k - top) d
+          ∙ ap (λ (i : ℕ). get_or was i d) (omega (arith, l));
+    }
 
 -- `was` is the list with its sets cleared: the vertices below n are put in, and past the sets nothing has changed
 pub record Putting (key : ℕ → ℕ) (top n : ℕ) (was is : List ℕ) : Type 0 where

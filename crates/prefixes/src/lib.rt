@@ -2,8 +2,7 @@
 #![tactic(auto)]
 
 ghost use Rattle.std.specs.Prelude.{◌≡◌, ℕ, ◌+◌, ◌*◌, ◌/◌, ◌≤◌, ◌<◌, min, length};
-ghost use Rattle.specification.specs.Lent.{Filled, KeptFrom};
-ghost use Rattle.specification.specs.Sets.{inserted};
+ghost use Rattle.specification.specs.Lent.{KeptFrom};
 ghost use Rattle.counting.specs.Quads.{quad};
 ghost use Rattle.prefixes.specs.Prefixes.{last_set, Prefixes};
 ghost use Rattle.prefixes.specs.Steps.{Stage};
@@ -13,52 +12,6 @@ const MOST_VERTICES: usize = 128;
 
 // The highest number of a set: one more than the highest key, a byte.
 const MOST_SETS: usize = 256;
-
-// A byte as a usize.
-fn wide(x: u8) -> usize
-    ensures { (result ≡ x) × (result < 256) }
-{
-    x as usize
-}
-
-fn least(a: usize, b: usize) -> usize
-    ensures { result ≡ min a b }
-{
-    if a < b {
-        return a;
-    }
-    b
-}
-
-// Sets the first masks to 0, so many.
-fn clear(sets: &mut [u64], end: usize)
-    requires { end ≤ length sets.old }
-    ensures { Filled sets.old (λ i. 0) end sets.new }
-{
-    for i in 0..end {
-        sets[i] = 0;
-    }
-}
-
-// The last set that is filled, of sets 0 to `top`, at most 256, in so many masks.
-fn last_set(top: usize, masks: usize) -> usize
-    ensures { result ≡ last_set top masks }
-{
-    let room = masks / 2;
-    if room == 0 {
-        return 0;
-    }
-    least(least(top, MOST_SETS), room - 1)
-}
-
-// Puts v into the set after that of key k, which is there.
-fn put(sets: &mut [u64], k: usize, v: usize)
-    requires { (k < 256) × (v < 128) × (2 * k + 4 ≤ length sets.old) }
-    ensures { sets.new ≡ inserted sets.old (2 * (k + 1)) v }
-{
-    let i = 2 * (k + 1) + v / 64;
-    sets[i] |= 1u64 << (v % 64);
-}
 
 // Puts each set of two masks into the next, from set 0 to set `top`.
 fn join(sets: &mut [u64], top: usize)
@@ -79,17 +32,14 @@ fn sets_by(places: &[u8], key: usize, n: usize, top: usize, sets: &mut [u64]) ->
     requires { key < 4 }
     ensures { (result ≡ last_set top (length sets.old)) × Prefixes 2 (min (min n 128) (length places.now / 4)) (quad key places.now) result sets.new × (length sets.new ≡ length sets.old) × KeptFrom (2 * result + 2) sets.old sets.new }
 {
-    let m = least(least(n, MOST_VERTICES), places.len() / 4);
-    let last = last_set(top, sets.len());
-    clear(sets, least(2 * last + 2, sets.len()));
-    let mut v: usize = 0;
-    while v < m {
-        let k = wide(places[4 * v + key]);
-        let next = v + 1;
+    let last = top.min(MOST_SETS).min((sets.len() / 2).saturating_sub(1));
+    let end = (2 * last + 2).min(sets.len());
+    sets[..end].fill(0);
+    for v in 0..n.min(MOST_VERTICES).min(places.len() / 4) {
+        let k = places[4 * v + key] as usize;
         if k < last {
-            put(sets, k, v);
+            masks::insert(sets, 2 * (k + 1), v);
         }
-        v = next;
     }
     join(sets, last);
     last
@@ -105,6 +55,7 @@ pub fn by_channel(places: &[u8], n: usize, top: usize, sets: &mut [u64]) -> usiz
 }
 
 // The same by the rows, the third numbers.
+// Two names for one body: the key is a number of an entry, and each promise names its own (`quad 0`, `quad 2`).
 pub fn by_row(places: &[u8], n: usize, top: usize, sets: &mut [u64]) -> usize
     ensures { (result ≡ last_set top (length sets.old)) × Prefixes 2 (min (min n 128) (length places.now / 4)) (quad 2 places.now) result sets.new × (length sets.new ≡ length sets.old) × KeptFrom (2 * result + 2) sets.old sets.new }
 {

@@ -37,13 +37,13 @@ module _ (n : ℕ) (ends : List ℕ) where
 
   -- ---- after i edges
 
-  pub record Scanning (i : ℕ) (t : List ℕ) (double : ℕ) : Type 0 where
+  pub record Scanning (i : ℕ) (t : List ℕ) (double : Bool) : Type 0 where
     pub marked : Marked 2 tails heads i t
     pub within : Within n i tails heads
     pub others : (k : ℕ) → 2 * n ≤ k → get_or t k 0 ≡ 0
-    pub twice : double ≡ choose (duplicate? i tails heads) (λ _. 4) (λ _. 0)
+    pub twice : double ≡ duplicate? i tails heads
 
-  pub scanning_none : (t : List ℕ) → Blank t → Scanning 0 t 0
+  pub scanning_none : (t : List ℕ) → Blank t → Scanning 0 t false
   unfolding duplicate? some at member
   scanning_none t b = record {
     marked = record {
@@ -58,7 +58,7 @@ module _ (n : ℕ) (ends : List ℕ) where
   }
 
   -- one edge more
-  module _ (i : ℕ) (t : List ℕ) (d : ℕ) (small : n ≤ 128) (room : 2 * n ≤ length t) (f : Scanning i t d)
+  module _ (i : ℕ) (t : List ℕ) (d : Bool) (small : n ≤ 128) (room : 2 * n ≤ length t) (f : Scanning i t d)
       (u v : ℕ) (eu : u ≡ get_or ends (2 * i) 0) (ev : v ≡ get_or ends (2 * i + 1) 0) (hu : u < n) (hv : v < n) where
     at_tail : u ≡ get_or tails i 0
     at_tail = eu ∙ sym (tail_at ends i)
@@ -72,21 +72,11 @@ module _ (n : ℕ) (ends : List ℕ) where
       head = below_more (λ (j : ℕ). get_or heads j 0 < n) i f.within.head (subst (λ (x : ℕ). x < n) at_head hv);
     }
 
-    double_next : (b : Bool) → member? t (2 * u) v ≡ b
-        → choose {A = ℕ} b (λ _. 4) (λ _. d) ≡ choose (duplicate? (i + 1) tails heads) (λ _. 4) (λ _. 0)
+    double_next : (d || member? t (2 * u) v) ≡ duplicate? (i + 1) tails heads
     unfolding at
-    double_next b e =
-        ap (λ (x : ℕ). choose b (λ _. 4) (λ _. x)) f.twice
-        ∙ both b (duplicate? i tails heads)
-        ∙ sym (ap (λ (x : Bool). choose {A = ℕ} x (λ _. 4) (λ _. 0))
-        (more_edges tails heads i ∙ ap (λ x. duplicate? i tails heads || x) (alike b e)))
+    double_next =
+        ap₂ (λ (x y : Bool). x || y) f.twice (sym (alike (member? t (2 * u) v) refl)) ∙ sym (more_edges tails heads i)
       where
-        both : (b c : Bool) → choose {A = ℕ} b (λ _. 4) (λ _. choose c (λ _. 4) (λ _. 0)) ≡ choose (c || b) (λ _. 4) (λ _. 0)
-        both true true = refl
-        both true false = refl
-        both false true = refl
-        both false false = refl
-
         here : at 2 t (get_or tails i 0) (get_or heads i 0) ≡ at 2 t u v
         here = sym (ap₂ (at 2 t) at_tail at_head)
 
@@ -99,9 +89,8 @@ module _ (n : ℕ) (ends : List ℕ) where
     unfolding inserted
     others_next k h = get_or-set_other t _ k _ 0 (omega arith) ∙ f.others k h
 
-    pub scanning_more : (s : List ℕ) (r : ℕ) → (r ≡ choose (member? t (2 * u) v) (λ _. 4) (λ _. d)) × (s ≡ inserted t (2 * u) v)
-        → Scanning (i + 1) s r
-    scanning_more s r e = record {
+    pub scanning_more : (s : List ℕ) (b : Bool) → (b ≡ member? t (2 * u) v) × (s ≡ inserted t (2 * u) v) → Scanning (i + 1) s (d || b)
+    scanning_more s b e = record {
       marked = marked_more 2 tails heads i t s (λ j l. lt_of_lt_of_le (within_next.head j l) small)
           (subst (λ (x : List ℕ). Put 2 t (get_or tails i 0) (get_or heads i 0) x)
           (sym (e.1 ∙ ap₂ (λ (a b : ℕ). inserted t (2 * a) b) at_tail at_head))
@@ -110,11 +99,11 @@ module _ (n : ℕ) (ends : List ℕ) where
           f.marked;
       within = within_next;
       others = λ k h. ap (λ (x : List ℕ). get_or x k 0) e.1 ∙ others_next k h;
-      twice = e.0 ∙ double_next (member? t (2 * u) v) refl;
+      twice = ap (λ (x : Bool). d || x) e.0 ∙ double_next;
     }
 
   -- an end of n or more
-  pub scanned_strange : (i : ℕ) (t : List ℕ) (d : ℕ) → Scanning i t d → i < length ends / 2
+  pub scanned_strange : (i : ℕ) (t : List ℕ) (d : Bool) → Scanning i t d → i < length ends / 2
       → (n ≤ get_or ends (2 * i) 0) ⊎ (n ≤ get_or ends (2 * i + 1) 0) → Scanned n ends t 3
   unfolding strange? ends_refusal
   scanned_strange i t d f l o = record {
@@ -137,15 +126,15 @@ module _ (n : ℕ) (ends : List ℕ) where
           o
 
   -- all of them
-  scanned_whole : (t : List ℕ) (d : ℕ) → n ≤ 128 → Scanning m t d → Scanned n ends t d
+  scanned_whole : (t : List ℕ) (d : Bool) → n ≤ 128 → Scanning m t d → Scanned n ends t (choose d (λ _. 4) (λ _. 0))
   unfolding ends_refusal strange? Edge
   scanned_whole t d small f = record {
-    answer = f.twice ∙ sym (choose_no (some m (strange? n tails heads)) _ _ none);
+    answer = ap (λ (x : Bool). choose x (λ _. 4) (λ _. 0)) f.twice ∙ sym (choose_no (some m (strange? n tails heads)) _ _ none);
     bits = λ _ u v hu hv. (
       (λ e. f.marked.only u v hv e),
       (λ a. sym (ap₂ (at 2 t) a.2 a.3) ∙ f.marked.all a.0 a.1),
     );
-    cut = λ three. absurd (four (duplicate? m tails heads) (sym f.twice ∙ three));
+    cut = λ three. absurd (four d three);
     others = f.others;
   }
     where
@@ -158,8 +147,10 @@ module _ (n : ℕ) (ends : List ℕ) where
           some_none m (strange? n tails heads)
           (λ j l. ap₂ (λ (p q : Bool). p || q) (lt-leb _ _ (f.within.tail j l)) (lt-leb _ _ (f.within.head j l)))
 
-  pub scanned_all : (i : ℕ) (t : List ℕ) (d : ℕ) → n ≤ 128 → i ≡ length ends / 2 → Scanning i t d → Scanned n ends t d
-  scanned_all i t d small e f = scanned_whole t d small (subst (λ (k : ℕ). Scanning k t d) (e ∙ sym (ends-counted ends)) f)
+  pub scanned_all : (i : ℕ) (t : List ℕ) (d : Bool) → n ≤ 128 → i ≡ length ends / 2 → Scanning i t d
+      → Scanned n ends t (choose d (λ _. 4) (λ _. 0))
+  scanned_all i t d small e f =
+      scanned_whole t d small (subst (λ (k : ℕ). Scanning k t d) (e ∙ sym (ends-counted ends)) f)
 
   -- ---- the whole: too little room, too few or too many, or scanned
 
@@ -167,10 +158,6 @@ module _ (n : ℕ) (ends : List ℕ) where
   counted = ap (outsized? n) (ends-counted ends)
 
   module _ (e : List ℕ) where
-    pub scans_short : length e < 2 * min n 128 → Scans n ends e 8 e
-    scans_short h =
-        record { short = λ _. (refl, refl); outsized = λ k _. absurd (omega arith); checked = λ k _. absurd (omega arith); long = refl }
-
     module _ (room : 2 * min n 128 ≤ length e) where
       pub scans_outsized : outsized? n (length ends / 2) ≡ true → Scans n ends e 2 e
       scans_outsized o =

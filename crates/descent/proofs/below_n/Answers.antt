@@ -1,6 +1,6 @@
 use Rattle.counting.proofs.Prelude.{◌≡◌, refl, sym, ap, subst, ℕ, ◌-◌, ◌*◌, ◌%◌, ◌^◌, ◌≤◌, ◌<◌, arith}
 use native.Mathlib.Nat.{lt_of_lt_of_le}
-use lib.Pow.{pow_pos, pow_mono}
+use lib.Pow.{pow_mono}
 use Rattle.masks.proofs.Bits.{one_shl}
 use Rattle.descent.proofs.Starting.{ones_lt, below_law}
 use Rattle.descent.proofs.below_n.Goals as goal
@@ -12,21 +12,12 @@ made k h = ap (λ (x : ℕ). x - 1) (one_shl k h)
 made-fits : (k : ℕ) → k < 64 → (1 * 2 ^ k) % 2 ^ 64 - 1 < 2 ^ 64
 made-fits k h = subst (λ (x : ℕ). x < 2 ^ 64) (sym (made k h)) (lt_of_lt_of_le (ones_lt k) (pow_mono (let l : k ≤ 64 = omega arith in l)))
 
-made_some : (k : ℕ) → k < 64 → 1 ≤ (1 * 2 ^ k) % 2 ^ 64
-made_some k h = subst (λ (x : ℕ). 1 ≤ x) (sym (one_shl k h)) (pow_pos k)
-
-pub overflow_sub-result : goal.overflow_sub-result
-overflow_sub-result c = made_some c.args.n c.if-n-lt64.true
-
 pub returns-then-n-lt64 : goal.returns-then-n-lt64
 returns-then-n-lt64 c =
     let n = c.args.n in
     let l = c.if-n-lt64.true in
     below_law n n 0 _ _ (made n l) refl (made-fits n l) (omega arith) (λ v h. ((λ q. q), λ q. q))
     (λ v h. ((λ q. absurd (omega arith)), λ q. absurd (omega arith)))
-
-pub overflow_sub-result-then-n-lt128-2 : goal.overflow_sub-result-then-n-lt128-2
-overflow_sub-result-then-n-lt128-2 c = made_some (c.args.n - 64) (omega arith)
 
 pub returns-then-n-lt128 : goal.returns-then-n-lt128
 returns-then-n-lt128 c =

@@ -2,70 +2,42 @@ use Rattle.counting.proofs.Prelude.{refl, ◌+◌, ◌*◌, ◌≤◌, ◌<◌, 
 use lib.Count.{count_trailing_zeros}
 use Rattle.masks.proofs.Visiting.{lowest-lt, lowest_in, visited_less}
 use Rattle.descent.proofs.Gathering.{gathering_none, gathering_more, gathering_all}
-use Rattle.descent.proofs.gather.Lts as lts
-use Rattle.descent.proofs.gather.Reads as reads
 use Rattle.descent.proofs.gather.Goals as goal
-
-abbrev In-loop-x : Type 0
-In-loop-x = lts.In-loop reads.Pre reads.Post goal.the-invariant-loop-x goal.the-decreases-loop-x
+use Rattle.descent.proofs.gather.Goals.{In-loop-x}
 
 pub loop-x-init : goal.loop-x-init
 loop-x-init c =
-    let a = c.args in (c.requires.0, c.requires.1, gathering_none a.table.now a.mask a.base a.low a.high c.ranges.mask.fits)
+    let a = c.args in gathering_none a.table.now a.mask a.base a.set.low a.set.high c.ranges.mask.fits
 
 -- the number of the member is below 64
 small : (c : In-loop-x) → count_trailing_zeros 64 c.loop-x.x < 64
 small c =
-    lowest-lt _ c.loop-x.x _ c.loop-x.invariant.2.members c.loop-x-test.true
+    lowest-lt _ c.loop-x.x _ c.loop-x.invariant.members c.loop-x-test.true
 
 -- the table has its masks
 room : (c : In-loop-x) → let a = c.args in
     2 * (a.base + count_trailing_zeros 64 c.loop-x.x) + 2 ≤ length a.table.now
-room c = let l = c.loop-x in l.invariant.1.room _ (small c) (lowest_in _ l.x _ l.invariant.2.members c.loop-x-test.true)
-
-pub overflow_cast-w : goal.overflow_cast-w
-overflow_cast-w c = omega (arith, small c.before)
-
-pub overflow_add-w : goal.overflow_add-w
-overflow_add-w c = omega (arith, small c.before)
-
-pub overflow_mul-a : goal.overflow_mul-a
-overflow_mul-a c = omega (arith, small c.before)
-
-pub offset_bounds-table-w : goal.offset_bounds-table-w
-offset_bounds-table-w c = omega (arith, small c.before)
+room c = let l = c.loop-x in c.requires.1.room _ (small c) (lowest_in _ l.x _ l.invariant.members c.loop-x-test.true)
 
 pub bounds-table-w : goal.bounds-table-w
-bounds-table-w c = omega (arith, room c.before.before)
-
-pub overflow_mul-b : goal.overflow_mul-b
-overflow_mul-b c = omega (arith, small c.before.before)
-
-pub overflow_add-b : goal.overflow_add-b
-overflow_add-b c = omega (arith, small c.before.before)
-
-pub offset_bounds-table-w-in-loop-x : goal.offset_bounds-table-w-in-loop-x
-offset_bounds-table-w-in-loop-x c = omega (arith, small c.before.before)
+bounds-table-w c = omega (arith, room (goal.at.bounds-table-w c).In-loop-x)
 
 pub bounds-table-w-in-loop-x : goal.bounds-table-w-in-loop-x
-bounds-table-w-in-loop-x c = omega (arith, room c.before.before.before)
+bounds-table-w-in-loop-x c = omega (arith, room (goal.at.bounds-table-w-in-loop-x c).In-loop-x)
 
 pub loop-x-smaller : goal.loop-x-smaller
 loop-x-smaller c =
-    let l = c.loop-x in visited_less _ l.x _ l.invariant.2.members c.loop-x-test.true
+    let l = c.loop-x in visited_less _ l.x _ l.invariant.members c.loop-x-test.true
 
 pub loop-x-preserved : goal.loop-x-preserved
 loop-x-preserved c =
     let a = c.args in
-    let l = c.loop-x in (
-      l.invariant.0,
-      l.invariant.1,
-      gathering_more a.table.now a.mask a.base a.low a.high l.a l.b l.x _ _ _ l.invariant.2
-          c.loop-x-test.true refl refl refl,
-    )
+    let l = c.loop-x in
+    gathering_more a.table.now a.mask a.base a.set.low a.set.high l.low l.high l.x _ _ _ l.invariant
+    c.loop-x-test.true refl refl refl
 
 pub returns : goal.returns
 returns c =
     let a = c.args in
     let l = c.loop-x in
-    gathering_all a.table.now a.mask a.base a.low a.high l.a l.b l.x l.invariant.2 c.loop-x-test.false
+    gathering_all a.table.now a.mask a.base a.set.low a.set.high l.low l.high l.x l.invariant c.loop-x-test.false

@@ -2,41 +2,28 @@ use Rattle.counting.proofs.Prelude.{◌≡◌, refl, ◌+◌, ◌*◌, ◌≤◌
 use lib.Count.{count_trailing_zeros}
 use Rattle.masks.proofs.Visiting.{lowest-lt, lowest_in, visited_less}
 use Rattle.descent.proofs.Gathering.{gathering_none, gathering_more, gathering_all}
-use Rattle.descent.proofs.gather_first.Lts as lts
-use Rattle.descent.proofs.gather_first.Reads as reads
 use Rattle.descent.proofs.gather_first.Goals as goal
-
-abbrev In-loop-x : Type 0
-In-loop-x = lts.In-loop reads.Pre reads.Post goal.the-invariant-loop-x goal.the-decreases-loop-x
+use Rattle.descent.proofs.gather_first.Goals.{In-loop-x}
 
 pub loop-x-init : goal.loop-x-init
-loop-x-init c = let a = c.args in (c.requires, (0, gathering_none a.table.now a.mask 0 0 0 c.ranges.mask.fits))
+loop-x-init c = let a = c.args in (0, gathering_none a.table.now a.mask 0 0 0 c.ranges.mask.fits)
 
 -- the number of the member is below 64
 small : (c : In-loop-x) → count_trailing_zeros 64 c.loop-x.x < 64
 small c =
-    lowest-lt _ c.loop-x.x _ c.loop-x.invariant.1.1.members c.loop-x-test.true
+    lowest-lt _ c.loop-x.x _ c.loop-x.invariant.1.members c.loop-x-test.true
 
 -- the table has its masks
 room : (c : In-loop-x) → let a = c.args in
     2 * (0 + count_trailing_zeros 64 c.loop-x.x) + 2 ≤ length a.table.now
-room c = let l = c.loop-x in l.invariant.0.room _ (small c) (lowest_in _ l.x _ l.invariant.1.1.members c.loop-x-test.true)
-
-pub overflow_cast-w : goal.overflow_cast-w
-overflow_cast-w c = omega (arith, small c.before)
-
-pub overflow_mul-a : goal.overflow_mul-a
-overflow_mul-a c = omega (arith, small c.before)
-
-pub offset_bounds-table-w : goal.offset_bounds-table-w
-offset_bounds-table-w c = omega (arith, small c.before)
+room c = let l = c.loop-x in c.requires.room _ (small c) (lowest_in _ l.x _ l.invariant.1.members c.loop-x-test.true)
 
 pub bounds-table-w : goal.bounds-table-w
-bounds-table-w c = omega (arith, room c.before.before)
+bounds-table-w c = omega (arith, room (goal.at.bounds-table-w c).In-loop-x)
 
 pub loop-x-smaller : goal.loop-x-smaller
 loop-x-smaller c =
-    let l = c.loop-x in visited_less _ l.x _ l.invariant.1.1.members c.loop-x-test.true
+    let l = c.loop-x in visited_less _ l.x _ l.invariant.1.members c.loop-x-test.true
 
 pub loop-x-preserved : goal.loop-x-preserved
 loop-x-preserved c =
@@ -45,11 +32,11 @@ loop-x-preserved c =
     let l = c.loop-x in
     let w = count_trailing_zeros 64 l.x in
     let at : w ≡ 0 + w = omega arith in
-    (l.invariant.0, (_, gathering_more t mask 0 0 0 l.a l.invariant.1.0 l.x w _ _ l.invariant.1.1 c.loop-x-test.true at refl refl))
+    (_, gathering_more t mask 0 0 0 l.low l.invariant.0 l.x w _ _ l.invariant.1 c.loop-x-test.true at refl refl)
 
 pub returns : goal.returns
 returns c =
     let t = c.args.table.now in
     let mask = c.args.mask in
     let l = c.loop-x in
-    record { second = l.invariant.1.0; gathered = gathering_all t mask 0 0 0 l.a l.invariant.1.0 l.x l.invariant.1.1 c.loop-x-test.false }
+    record { second = l.invariant.0; gathered = gathering_all t mask 0 0 0 l.low l.invariant.0 l.x l.invariant.1 c.loop-x-test.false }

@@ -1,60 +1,65 @@
-use Rattle.counting.proofs.Prelude.{◌≡◌, sym, ℕ, ◌+◌, ◌*◌, ◌≤◌, ◌<◌, min, arith, leb, lt-leb, le-leb}
+use Rattle.counting.proofs.Prelude.{◌≡◌, refl, sym, ap, ap₂, ◌∙◌, Bool, true, false, ◌&&◌, ℕ, ◌+◌, ◌*◌, min, arith, leb, le-leb, lt-leb}
 use Rattle.descent.specs.Steps.Closed.{fits?}
-use Rattle.descent.proofs.is_fit.Lts as lts
-use Rattle.descent.proofs.is_fit.Reads as reads
-use Rattle.descent.proofs.is_fit.Tie as tie
 use Rattle.descent.proofs.is_fit.Goals as goal
+use Rattle.descent.proofs.is_fit.Goals.{then-room-edges, else-room-edges, then-room-below, else-room-below}
+use Rattle.descent.proofs.is_fit.Goals.{then-room-table, else-room-table}
 
-abbrev Else-below-least : Type 0
-Else-below-least = lts.Else2 tie.the-claims reads.Pre reads.Post
+-- v is a && b, where b is asked only if a holds
+asked : (a b v : Bool) → a ≡ true → v ≡ b → v ≡ (a && b)
+asked a b v t e = e ∙ sym (ap (λ (x : Bool). x && b) t)
 
-pub returns-then-edges-least : goal.returns-then-edges-least
+unasked : (a b v : Bool) → a ≡ false → v ≡ a → v ≡ (a && b)
+unasked a b v f e = e ∙ f ∙ sym (ap (λ (x : Bool). x && b) f)
+
+in_turn : (a b c d e : Bool) → ((((a && b) && c) && d) && e) ≡ (a && (b && (c && (d && e))))
+in_turn false b c d e = refl
+in_turn true false c d e = refl
+in_turn true true false d e = refl
+in_turn true true true false e = refl
+in_turn true true true true e = refl
+
+-- one list after the other, as the code asks
+fit : (n k e b t l p : ℕ) (x y z r : Bool) → k ≡ 2 * min n 128 → x ≡ (leb k e && leb (k + 2) b) → y ≡ (x && leb k t) → z ≡ (y && leb k l)
+    → r ≡ (z && leb (2 * k) p) → r ≡ fits? n e b t l p
 unfolding fits?
-returns-then-edges-least c = simp (sym c.room-least.ensures, lt-leb _ _ c.if-edges-least.true)
+fit n k e b t l p x y z r q ex ey ez er =
+    let four : 2 * k ≡ 4 * min n 128 = omega (arith, q) in
+    er ∙ ap (λ (v : Bool). v && leb (2 * k) p) (ez ∙ ap (λ (v : Bool). v && leb k l) (ey ∙ ap (λ (v : Bool). v && leb k t) ex))
+    ∙ in_turn (leb k e) (leb (k + 2) b) (leb k t) (leb k l) (leb (2 * k) p)
+    ∙ ap₂ (λ (i j : ℕ). leb i e && (leb (i + 2) b && (leb i t && (leb i l && leb j p)))) q four
 
-pub overflow_add-least : goal.overflow_add-least
-overflow_add-least c = omega (arith, c.room-least.ensures)
+pub returns-then-room-longer : goal.returns-then-room-longer
+returns-then-room-longer c =
+    let a = c.args in
+    let k : ℕ = 2 * c.min-room.result in
+    let first : c.if-room-edges.value ≡ (leb k a.edges && leb (k + 2) a.below) = elim c.if-room-edges.branch [
+      | then-room-edges w ↦ asked _ _ _ (le-leb _ _ w.if-room-edges.true) w.value-is
+      | else-room-edges w ↦ unasked _ _ _ (lt-leb _ _ w.if-room-edges.false) w.value-is
+    ] in
+    let second : c.if-room-below.value ≡ (c.if-room-edges.value && leb k a.table) = elim c.if-room-below.branch [
+      | then-room-below w ↦ asked _ _ _ w.if-room-below.true w.value-is
+      | else-room-below w ↦ unasked _ _ _ w.if-room-below.false w.value-is
+    ] in
+    let third : c.if-room-table.value ≡ (c.if-room-below.value && leb k a.longer) = elim c.if-room-table.branch [
+      | then-room-table w ↦ asked _ _ _ w.if-room-table.true w.value-is
+      | else-room-table w ↦ unasked _ _ _ w.if-room-table.false w.value-is
+    ] in
+    fit _ k _ _ _ _ _ _ _ _ _ (omega (arith, c.min-room.ensures)) first second third (asked _ _ _ c.if-room-longer.true refl)
 
-pub returns-then-below-least : goal.returns-then-below-least
-unfolding fits?
-returns-then-below-least c =
-    let r = c.room-least in
-    let short : c.args.below < r.result + 2 = (let k = c.if-below-least.true in omega arith) in
-    simp (sym r.ensures, le-leb _ _ c.if-edges-least.false, lt-leb _ _ short)
-
--- `below` has room for one set more
-roomy : (c : Else-below-least) → c.room-least.result + 2 ≤ c.args.below
-roomy c = let k = c.if-below-least.false in omega arith
-
-pub returns-then-table-least : goal.returns-then-table-least
-unfolding fits?
-returns-then-table-least c =
-    let same = c.room-least.ensures in
-    simp (sym same, le-leb _ _ c.if-edges-least.false, le-leb _ _ (roomy c.before), lt-leb _ _ c.if-table-least.true)
-
-pub returns-then-longer-least : goal.returns-then-longer-least
-unfolding fits?
-returns-then-longer-least c =
-    let same = c.room-least.ensures in
-    simp (
-      sym same,
-      le-leb _ _ c.if-edges-least.false,
-      le-leb _ _ (roomy c.before.before),
-      le-leb _ _ c.if-table-least.false,
-      lt-leb _ _
-          c.if-longer-least.true,
-    )
-
-pub overflow_mul-result : goal.overflow_mul-result
-overflow_mul-result c = omega (arith, c.room-least.ensures)
-
--- where the first four have room, it is the last that says
-last : (n k e b t l p : ℕ) → k ≡ 2 * min n 128 → k ≤ e → k + 2 ≤ b → k ≤ t → k ≤ l → leb (2 * k) p ≡ fits? n e b t l p
-unfolding fits?
-last n k e b t l p q he hb ht hl =
-    let d : 4 * min n 128 ≡ 2 * k = omega arith in
-    simp (d, sym q, le-leb _ _ he, le-leb _ _ hb, le-leb _ _ ht, le-leb _ _ hl)
-
-pub returns : goal.returns
-returns c =
-    last _ _ _ _ _ _ _ c.room-least.ensures c.if-edges-least.false (roomy c.before.before) c.if-table-least.false c.if-longer-least.false
+pub returns-else-room-longer : goal.returns-else-room-longer
+returns-else-room-longer c =
+    let a = c.args in
+    let k : ℕ = 2 * c.min-room.result in
+    let first : c.if-room-edges.value ≡ (leb k a.edges && leb (k + 2) a.below) = elim c.if-room-edges.branch [
+      | then-room-edges w ↦ asked _ _ _ (le-leb _ _ w.if-room-edges.true) w.value-is
+      | else-room-edges w ↦ unasked _ _ _ (lt-leb _ _ w.if-room-edges.false) w.value-is
+    ] in
+    let second : c.if-room-below.value ≡ (c.if-room-edges.value && leb k a.table) = elim c.if-room-below.branch [
+      | then-room-below w ↦ asked _ _ _ w.if-room-below.true w.value-is
+      | else-room-below w ↦ unasked _ _ _ w.if-room-below.false w.value-is
+    ] in
+    let third : c.if-room-table.value ≡ (c.if-room-below.value && leb k a.longer) = elim c.if-room-table.branch [
+      | then-room-table w ↦ asked _ _ _ w.if-room-table.true w.value-is
+      | else-room-table w ↦ unasked _ _ _ w.if-room-table.false w.value-is
+    ] in
+    fit _ k _ _ _ _ _ _ _ _ _ (omega (arith, c.min-room.ensures)) first second third (unasked _ _ _ c.if-room-longer.false refl)

@@ -1,15 +1,14 @@
 -- What the steps of the descent leave behind. A table has two masks of 64 bits a vertex; the places have four numbers, the third its row,
 -- the last how many vertices it reaches. Assumes nothing.
-use Rattle.std.specs.Prelude.{◌≡◌, ◌≢◌, ◌↔◌, Bool, ◌&&◌, List, ℕ, ◌+◌, ◌*◌, ◌≤◌, ◌<◌, min, ltb, leb, length, get_or}
+use Rattle.std.specs.Prelude.{◌≡◌, ◌≢◌, ◌↔◌, Bool, ◌&&◌, List, ℕ, ◌+◌, ◌*◌, ◌≤◌, ◌<◌, min, ltb, leb, length, get_or, Option, Some, None}
 use Rattle.specification.specs.Count.{sum, count}
 use Rattle.specification.specs.Sets.{bit, at, has?}
 use Rattle.specification.specs.Graph.{Reaches, Longer, reaches?}
 use Rattle.rows.specs.Levels.{level, levels_used}
 use Rattle.counting.specs.Quads.{quad}
 use Rattle.masks.specs.Sets.{Blank}
-use Rattle.descent.specs.declared.Descent.{Descent}
 use Rattle.specification.specs.Lent.{KeptFrom}
-use Rattle.descent.specs.Promise.{no_descent, Stuck}
+use Rattle.descent.specs.Promise.{Descent, no_descent, Stuck}
 use Rattle.specification.specs.Limits.{most_vertices}
 
 -- the table e has an edge from u to v
@@ -65,6 +64,11 @@ pub record Prefixes (e : List ℕ) (n top : ℕ) (below : List ℕ) : Type 0 whe
   pub few : top ≤ n
   pub members : (r v : ℕ) → r ≤ top → v < 128 → at 2 below r v ≡ 1 ↔ ((v < n) × (level (has? 2 e) n v < r))
   pub all : (v : ℕ) → v < n → level (has? 2 e) n v < top
+
+-- the number of rows, 0 where there is none
+abbrev pub levels_in : Option ℕ → ℕ
+levels_in None = 0
+levels_in (Some used) = used
 
 -- where a vertex reaches itself, r is 0; else r is the number of rows used, and p' has the row of each of the n vertices. Every other
 -- number is that of p, and past the sets of the rows `below` has what b has

@@ -1,28 +1,22 @@
-use Rattle.counting.proofs.Prelude.{refl, sym, ◌≤◌, arith, get_or, le-ltb, lt-ltb}
-use native.Mathlib.Nat.{not-suc-le-zero}
-use borrow.Author.Count.{below_more}
+use Rattle.std.proofs.Common.{MatchBool, tests}
+use Rattle.std.specs.List.{HoldsAt, AllWithin}
+use Rattle.std.proofs.lemmas.Iterator.{cases_from_any, YieldsList-from_slice}
+use Rattle.counting.proofs.Prelude.{◌≡◌, sym, Bool, true, false, List, ℕ, ◌<◌, ◌≤◌, arith, length, lt-ltb, le-ltb, rules}
 use Rattle.counting.proofs.Somes.{some_found, some_none}
 use Rattle.floors.specs.Steps.{too_high?}
 use Rattle.floors.proofs.is_too_high.Goals as goal
 
-pub loop-v-init : goal.loop-v-init
-loop-v-init c = (omega arith, refl, λ i h. absurd (not-suc-le-zero h))
-
-pub returns-then-floors-v-gt-MOST_FLOOR : goal.returns-then-floors-v-gt-MOST_FLOOR
+by_cases : (r : Bool) (floors : List ℕ)
+    → MatchBool r ((v : ℕ) × (v < length floors) × HoldsAt (λ floor. 127 < floor) floors v)
+    (AllWithin (λ floor. floor ≤ 127) floors 0 (length floors))
+    → r ≡ too_high? floors
 unfolding too_high?
-returns-then-floors-v-gt-MOST_FLOOR c =
-    let l = c.loop-v in
-    sym (some_found _ _ l.v (omega (arith, l.invariant.1)) (lt-ltb _ _ c.if-floors-v-gt-MOST_FLOOR.true))
-
-pub loop-v-preserved : goal.loop-v-preserved
-loop-v-preserved c =
-    let l = c.loop-v in
-    let x = get_or c.args.floors.now l.v 0 in
-    let low : x ≤ 127 = omega (arith, c.if-floors-v-gt-MOST_FLOOR.false) in
-    (omega arith, l.invariant.1, below_more _ l.v l.invariant.2 (le-ltb 127 x low))
+by_cases true floors h = sym (some_found _ _ h.0 h.1 (lt-ltb _ _ (h.2 0)))
+by_cases false floors h = sym (some_none _ _ (λ v l. le-ltb 127 _ (h v 0 (omega arith) l)))
 
 pub returns : goal.returns
-unfolding too_high?
 returns c =
-    let l = c.loop-v in
-    sym (some_none _ _ (λ i h. l.invariant.2 i (omega (arith, h, l.invariant.1, c.loop-v-test.false))))
+    let floors = c.args.floors.now in
+    by_cases _ floors
+    (cases_from_any _ _ _ (λ floor. 127 < floor) (λ floor. floor ≤ 127) c.any.ensures.ran (YieldsList-from_slice floors cc)
+    (λ x q k. search (rules, tests)) (λ x q k. search (rules, tests)))

@@ -7,6 +7,6 @@ pub returns-then-floors-n : goal.returns-then-floors-n
 unfolding unfloored?
 returns-then-floors-n c = simp (ne_eqb _ _ c.if-floors-n.true)
 
-pub returns : goal.returns
+pub returns-else-floors-n : goal.returns-else-floors-n
 unfolding unfloored? too_high?
-returns c = simp (eq-eqb _ _ c.if-floors-n.false) c.is_too_high.ensures
+returns-else-floors-n c = simp (eq-eqb _ _ c.if-floors-n.false) c.is_too_high.ensures

@@ -15,5 +15,5 @@ lift_members-requires-2 c =
 pub returns : goal.returns
 returns c =
     let a = c.args in
-    pushed_both a.edges.now a.u c.requires.0 a.places.now _ _ _ c.next_row-r.ensures
+    pushed_both a.edges.now a.u c.requires.0 a.places.now _ _ _ c.saturating_add-r.ensures
     c.lift_members.ensures c.lift_members-2.ensures

@@ -1,25 +1,17 @@
-use Rattle.counting.proofs.Prelude.{◌≡◌, refl, ◌∙◌, subst, ℕ, ◌+◌, ◌*◌, zero-le, arith, get_or, length-set}
+use Rattle.counting.proofs.Prelude.{◌≡◌, refl, ◌∙◌, subst, ℕ, ◌+◌, ◌*◌, arith, get_or}
 use Rattle.prefixes.specs.Steps.{Stage}
-use Rattle.prefixes.proofs.Stages.{stage_pair, stage_all, twice-length, twice-kept}
+use Rattle.prefixes.proofs.Stages.{stage_pair, stage_all, twice-kept}
 use Rattle.prefixes.proofs.join.Goals as goal
 
 pub loop-k-init : goal.loop-k-init
-loop-k-init c = (zero-le, refl, (λ n key g. g), λ i h. refl)
-
-pub bounds-sets-i-in-loop-k-4 : goal.bounds-sets-i-in-loop-k-4
-bounds-sets-i-in-loop-k-4 c = simp length-set (omega arith)
-
-pub bounds-sets-i-in-loop-k-5 : goal.bounds-sets-i-in-loop-k-5
-bounds-sets-i-in-loop-k-5 c = simp length-set (omega arith)
+loop-k-init c = ((λ n key g. g), λ i h. refl)
 
 pub loop-k-preserved : goal.loop-k-preserved
 loop-k-preserved c =
     let l = c.loop-k in (
-      omega arith,
-      twice-length l.sets (2 * l.k + 2) (2 * l.k + 3) (get_or l.sets (2 * l.k) 0) (get_or l.sets (2 * l.k + 1) 0) ∙ l.invariant.1,
-      (λ n key g. stage_pair _ _ _ _ _ _ (omega arith) refl (l.invariant.2 n key g)),
+      (λ n key g. stage_pair _ _ _ _ _ _ (omega arith) refl (l.invariant.0 n key g)),
       λ i h. twice-kept l.sets (2 * l.k + 2) (2 * l.k + 3) (get_or l.sets (2 * l.k) 0) (get_or l.sets (2 * l.k + 1) 0) i
-          (λ e. omega arith) (λ e. omega arith) ∙ l.invariant.3 i h,
+          (λ e. omega arith) (λ e. omega arith) ∙ l.invariant.1 i h,
     )
 
 pub returns : goal.returns
@@ -27,6 +19,6 @@ returns c =
     let l = c.loop-k in
     let a = c.args in
     let e : l.k ≡ a.top = omega arith in (
-      (λ n key g. stage_all 2 key a.top n l.sets (subst (λ (k : ℕ). Stage 2 n key a.top k l.sets) e (l.invariant.2 n key g))),
-      l.invariant.3,
+      (λ n key g. stage_all 2 key a.top n l.sets (subst (λ (k : ℕ). Stage 2 n key a.top k l.sets) e (l.invariant.0 n key g))),
+      l.invariant.1,
     )

@@ -1,9 +1,6 @@
-use Rattle.counting.proofs.Prelude.{◌≡◌, ◌-◌, ◌≤◌, length}
+use Rattle.counting.proofs.Prelude.{◌≡◌, length}
 use Rattle.scanning.proofs.Scanning.{Scanning}
 use Rattle.scanning.proofs.scan.Given as goal
 
 abbrev pub invariant-loop-i : goal.invariant-loop-i
-invariant-loop-i l = (l.i ≤ l.m) × (length l.edges ≡ length l.initial.edges) × Scanning l.n l.ends l.i l.edges l.double
-
-abbrev pub decreases-loop-i : goal.decreases-loop-i
-decreases-loop-i l = l.m - l.i
+invariant-loop-i l = (length l.edges ≡ length l.initial.edges) × Scanning l.n l.ends l.i l.edges l.double

@@ -1,48 +1,25 @@
-use Rattle.counting.proofs.Prelude.{◌≡◌, sym, ◌∙◌, false, ◌*◌, ◌/◌, ◌≤◌, min, arith, length}
+use Rattle.counting.proofs.Prelude.{◌≡◌, sym, ap, ◌∙◌, ℕ, List, arith, length, get_or, replicate, rules}
 use Rattle.counting.proofs.Sizes.{outsized_back}
-use Rattle.specification.specs.Graph.{outsized?}
-use Rattle.scanning.proofs.Scanning.{scans_short, scans_outsized, scans_checked}
-use Rattle.scanning.proofs.scanned.Lts as lts
-use Rattle.scanning.proofs.scanned.Reads as reads
-use Rattle.scanning.proofs.scanned.Tie as tie
+use Rattle.counting.proofs.Zeros.{zeros}
+use Rattle.scanning.proofs.Scanning.{scans_outsized, scans_checked}
 use Rattle.scanning.proofs.scanned.Goals as goal
-
-abbrev Else-edges-room : Type 0
-Else-edges-room = lts.Else1 tie.the-claims reads.Pre reads.Post
-
-abbrev Else-is_outsized : Type 0
-Else-is_outsized = lts.Else2 tie.the-claims reads.Pre reads.Post
-
-pub returns-then-edges-room : goal.returns-then-edges-room
-returns-then-edges-room c =
-    let a = c.args in
-    scans_short a.n a.ends.now a.edges.now (omega (arith, c.room.ensures))
-
--- the table has room
-roomy : (c : Else-edges-room) → let a = c.args in 2 * min a.n 128 ≤ length a.edges.now
-roomy c = omega (arith, c.room.ensures)
 
 pub returns-then-is_outsized : goal.returns-then-is_outsized
 returns-then-is_outsized c =
     let a = c.args in
-    scans_outsized a.n a.ends.now a.edges.now (roomy c.before.before.before) (sym c.is_outsized.ensures ∙ c.if-is_outsized.true)
-
--- neither too few vertices nor too many, nor too many edges
-within : (c : Else-is_outsized) → let a = c.args in
-    outsized? a.n (length a.ends.now / 2) ≡ false
-within c = sym c.is_outsized.ensures ∙ c.if-is_outsized.false
+    scans_outsized a.n a.ends.now a.edges.now (omega (arith, c.min.ensures)) (sym c.if-is_outsized.ensures)
 
 pub scan-requires : goal.scan-requires
 scan-requires c =
-    let cleared = c.clear in
-    let small = (outsized_back _ _ (within c.before.before.before.before.before.before)).1 in
-    let room = roomy c.before.before.before.before.before.before.before.before in
-    let same = cleared.auto.masks in
-    (small, omega arith, cleared.ensures)
+    let small = (outsized_back _ _ (sym c.if-is_outsized.ensures)).1 in
+    let whole : c.fill.new.self ≡ replicate (length c.args.edges.now) 0 = search rules in (
+      small,
+      omega (arith, c.min.ensures, c.fill.ensures.len),
+      record { zero = λ i. ap (λ (t : List ℕ). get_or t i 0) whole ∙ zeros (length c.args.edges.now) i },
+    )
 
 pub returns : goal.returns
 returns c =
     let a = c.args in
-    scans_checked a.n a.ends.now a.edges.now (roomy c.before.before.before.before.before.before.before.before.before.before.before)
-    (within c.before.before.before.before.before.before.before.before.before) _ _ c.scan.ensures
-    (c.scan.auto.edges ∙ c.clear.auto.masks)
+    scans_checked a.n a.ends.now a.edges.now (omega (arith, c.min.ensures)) (sym c.if-is_outsized.ensures) _ _ c.scan.ensures
+    (c.scan.auto.edges ∙ c.fill.auto.self)
