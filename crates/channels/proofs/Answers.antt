@@ -10,10 +10,9 @@ use Rattle.specification.specs.Channels.{lines_of, vertices_of, unknown?, repeat
 use Rattle.specification.specs.Sets.{has?}
 use Rattle.specification.specs.Graph.{size_refusal, unsized?}
 use Rattle.planning.specs.Arranged.{Arranged, Kept}
-use Rattle.planning.specs.Promise.{Chained}
+use Rattle.planning.specs.Promise.{Channels, Chained}
 use Rattle.channels.specs.Promise.{Answers, Plans, given_refusal}
 use Rattle.channels.specs.Steps.Sized.{Sized}
-use Rattle.planning.specs.declared.Channels.{Channels}
 
 -- room for the vertices: the refusal, or the channels
 module _ (n refusal : ℕ) (ls : List (List ℕ)) (p : List ℕ) (r : Channels) (p' : List ℕ) where

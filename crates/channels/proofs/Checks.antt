@@ -1,10 +1,11 @@
 -- The checks of given channels: what each says, and what each step of its loop keeps. Assumes nothing.
 use Rattle.counting.proofs.Prelude.{◌≡◌, refl, sym, ap, ◌∙◌, subst, ◌≢◌, Bool, true, false, not, ◌&&◌, ◌||◌, List, [], ◌∷◌, ℕ}
-use Rattle.counting.proofs.Prelude.{suc, ◌+◌, ◌-◌, ◌≤◌, ◌<◌, arith, eqb, leb, length, get_or, drop, replicate, eq-eqb, ne_eqb, lt-ltb}
+use Rattle.counting.proofs.Prelude.{suc, ◌+◌, ◌-◌, ◌≤◌, ◌<◌, arith, leb, length, get_or, drop, replicate, lt-ltb}
 use Rattle.counting.proofs.Prelude.{le-leb}
 use Rattle.counting.proofs.Prelude.{lt-leb, leb-false, not-false}
 use native.Mathlib.Decide.{ℕ_discrete}
-use Rattle.specification.specs.Count.{indicator, choose}
+use Rattle.std.specs.Prelude.{Option, Some, None}
+use Rattle.specification.specs.Count.{indicator}
 use Rattle.specification.specs.Sets.{member?, inserted}
 use Rattle.specification.specs.Channels.{times, has, linked, every, all_linked, front, lines, filled, lines_of, vertices_of, unknown?}
 use Rattle.specification.specs.Channels.{repeats?, broken?}
@@ -15,6 +16,7 @@ use Rattle.matching.specs.Lists.{full}
 use Rattle.matching.specs.Given.{Fitting, Given}
 use Rattle.specification.specs.Connection.{leading?}
 use Rattle.specification.specs.declared.Connection.{Connection}
+use Rattle.channels.specs.Steps.Walked.{may_follow}
 use Rattle.channels.proofs.Agreeing.{all-linked-same}
 use Rattle.matching.proofs.Lists.{Within, times-here, times_other, times_tail, times_none, has_false, times-has, times_hasnt}
 use Rattle.matching.proofs.Lists.{length-times}
@@ -209,100 +211,67 @@ linked-filled leads [] = refl
 linked-filled leads ([] ∷ ls) = linked-filled leads ls
 linked-filled leads ((v ∷ l) ∷ ls) = ap (λ b. linked leads (v ∷ l) && b) (linked-filled leads ls)
 
--- the lists with `last` before the first, unless it is 256
-unfoldable pub after : ℕ → List (List ℕ) → List (List ℕ)
-after last ls = choose (eqb last 256) (λ _. ls) (λ _. front last ls)
+-- the lists with the vertex before, if there is one, in front of the first
+unfoldable pub after : Option ℕ → List (List ℕ) → List (List ℕ)
+after None ls = ls
+after (Some u) ls = front u ls
 
 module _ (ask : ℕ → ℕ → Connection) where
   abbrev leads : ℕ → ℕ → Bool
   leads u v = leading? (ask u v)
 
-  after_none : (last : ℕ) (ls : List (List ℕ)) → last ≡ 256 → after last ls ≡ ls
-  unfolding after
-  after_none last ls e = rw (eq-eqb last 256 e)
-
-  after-some : (last : ℕ) (ls : List (List ℕ)) → last ≢ 256 → after last ls ≡ front last ls
-  unfolding after
-  after-some last ls e = rw (ne_eqb last 256 e)
-
   -- a line has ended
-  linked_ended : (last : ℕ) (ls : List (List ℕ)) → all_linked leads (after last ([] ∷ ls)) ≡ all_linked leads ls
+  linked_ended : (last : Option ℕ) (ls : List (List ℕ)) → all_linked leads (after last ([] ∷ ls)) ≡ all_linked leads ls
   unfolding after every linked front
-  linked_ended last ls = go (eqb last 256)
-    where
-      go : (b : Bool) → all_linked leads (choose b (λ _. [] ∷ ls) (λ _. front last ([] ∷ ls))) ≡ all_linked leads ls
-      go true = refl
-      go false = refl
+  linked_ended None ls = refl
+  linked_ended (Some u) ls = refl
 
   linked-two : (u v : ℕ) (ls : List (List ℕ)) → all_linked leads (front u (front v ls)) ≡ (leads u v && all_linked leads (front v ls))
   unfolding front every linked
   linked-two u v [] = and_shift (leads u v) true true
   linked-two u v (l ∷ ls) = and_shift (leads u v) (linked leads (v ∷ l)) (all_linked leads ls)
 
-  linked-next : (last v : ℕ) (ls : List (List ℕ))
-      → all_linked leads (after last (front v ls)) ≡ ((eqb last 256 || leads last v) && all_linked leads (front v ls))
-  linked-next last v ls = go (ℕ_discrete last 256)
-    where
-      go : Dec (last ≡ 256) → all_linked leads (after last (front v ls)) ≡ ((eqb last 256 || leads last v) && all_linked leads (front v ls))
-      go (yes e) =
-          ap (all_linked leads) (after_none last (front v ls) e)
-          ∙ sym (ap (λ b. (b || leads last v) && all_linked leads (front v ls)) (eq-eqb last 256 e))
-      go (no e) =
-          ap (all_linked leads) (after-some last (front v ls) e) ∙ linked-two last v ls
-          ∙ sym (ap (λ b. (b || leads last v) && all_linked leads (front v ls)) (ne_eqb last 256 e))
+  linked-next : (last : Option ℕ) (v : ℕ) (ls : List (List ℕ))
+      → all_linked leads (after last (front v ls)) ≡ (may_follow ask last v && all_linked leads (front v ls))
+  unfolding after
+  linked-next None v ls = refl
+  linked-next (Some u) v ls = linked-two u v ls
 
   module _ (field : List ℕ) where
     -- what is still to be looked at decides
-    pub record Linking (i k last : ℕ) : Type 0 where
-      pub small : last ≤ 256
+    pub record Linking (i k : ℕ) (last : Option ℕ) : Type 0 where
       pub same : all_linked leads (lines_of field) ≡ all_linked leads (after last (lines k (drop i field)))
 
-    pub linking_none : Linking 0 0 256
-    unfolding lines_of
-    linking_none =
-        record {
-          small = omega arith;
-          same = linked-filled leads (lines 0 field)
-              ∙ ap (all_linked leads) (sym (after_none 256 (lines 0 field) refl));
-        }
+    pub linking_none : Linking 0 0 None
+    unfolding lines_of after
+    linking_none = record { same = linked-filled leads (lines 0 field) }
 
-    module _ (i : ℕ) (h : i < length field) (k last : ℕ) (o : Linking i k last) where
-      pub linking_length : k ≡ 0 → (x : ℕ) → x ≡ get_or field i 0 → Linking (i + 1) x 256
+    module _ (i : ℕ) (h : i < length field) (k : ℕ) (last : Option ℕ) (o : Linking i k last) where
+      pub linking_length : k ≡ 0 → (x : ℕ) → x ≡ get_or field i 0 → Linking (i + 1) x None
+      unfolding after
       linking_length e x ex = rw ex (record {
-        small = omega arith;
         same =
             o.same ∙ ap (λ ls. all_linked leads (after last ls)) (lines-length field i h k e)
-            ∙ linked_ended last (lines (get_or field i 0) (drop (i + 1) field))
-            ∙ ap (all_linked leads) (sym (after_none 256 (lines (get_or field i 0) (drop (i + 1) field)) refl));
+            ∙ linked_ended last (lines (get_or field i 0) (drop (i + 1) field));
       })
 
       module _ (d : k ≢ 0) (x : ℕ) (ex : x ≡ get_or field i 0) where
         step : all_linked leads (lines_of field)
-            ≡ ((eqb last 256 || leads last x) && all_linked leads (front x (lines (k - 1) (drop (i + 1) field))))
+            ≡ (may_follow ask last x && all_linked leads (front x (lines (k - 1) (drop (i + 1) field))))
         step =
             o.same ∙ ap (λ ls. all_linked leads (after last ls))
             (lines_vertex field i h k d ∙ ap (λ y. front y (lines (k - 1) (drop (i + 1) field))) (sym ex))
             ∙ linked-next last x (lines (k - 1) (drop (i + 1) field))
 
-        pub linking_broken : (eqb last 256 || leads last x) ≡ false → broken? ask (lines_of field) ≡ true
+        pub linking_broken : may_follow ask last x ≡ false → broken? ask (lines_of field) ≡ true
         unfolding broken?
         linking_broken e = ap not (step ∙ ap (λ b. b && all_linked leads (front x (lines (k - 1) (drop (i + 1) field)))) e)
 
-        pub linking_more : x < 256 → (eqb last 256 || leads last x) ≡ true → Linking (i + 1) (k - 1) x
-        linking_more b e = record {
-          small = omega arith;
-          same = step ∙ ap (λ c. c && all_linked leads (front x (lines (k - 1) (drop (i + 1) field)))) e
-              ∙ ap (all_linked leads) (sym (after-some x (lines (k - 1) (drop (i + 1) field)) (λ z. omega arith)));
-        }
+        pub linking_more : may_follow ask last x ≡ true → Linking (i + 1) (k - 1) (Some x)
+        unfolding after
+        linking_more e =
+            record { same = step ∙ ap (λ c. c && all_linked leads (front x (lines (k - 1) (drop (i + 1) field)))) e }
 
-    pub linking_all : (i k last : ℕ) → Linking i k last → length field ≤ i → broken? ask (lines_of field) ≡ false
+    pub linking_all : (i k : ℕ) (last : Option ℕ) → Linking i k last → length field ≤ i → broken? ask (lines_of field) ≡ false
     unfolding broken? every
     linking_all i k last o h = ap not (o.same ∙ ap (λ ls. all_linked leads (after last ls)) (lines_end field i k h) ∙ linked_ended last [])
-
--- ---- whether a vertex may follow
-
-pub follows-first : (ask : ℕ → ℕ → Connection) (last v : ℕ) → last ≡ 256 → (eqb last 256 || leading? (ask last v)) ≡ true
-follows-first ask last v e = rw (eq-eqb last 256 e)
-
-pub follows_led : (ask : ℕ → ℕ → Connection) (last v : ℕ) → last ≢ 256 → (eqb last 256 || leading? (ask last v)) ≡ leading? (ask last v)
-follows_led ask last v d = rw (ne_eqb last 256 d)

@@ -8,11 +8,9 @@ use Rattle.matching.specs.Given.{Fitting}
 use Rattle.matching.proofs.Lists.{length-bound}
 use Rattle.matching.proofs.Beside.{given-all}
 use Rattle.planning.specs.Arranged.{Arranged, Kept}
-use Rattle.planning.specs.Promise.{Besides}
-use Rattle.planning.specs.declared.Channels.{Channels}
+use Rattle.planning.specs.Promise.{Channels, Besides}
 use Rattle.planning.proofs.Answers.{beside-given}
-use Rattle.channels.specs.Steps.Walked.{Walks}
-use Rattle.channels.specs.declared.Walked.{Walked}
+use Rattle.channels.specs.Steps.Walked.{Walked, Walks}
 use Rattle.channels.proofs.Checks.{all_there}
 use Rattle.channels.proofs.Theorems.{taken_fits}
 
@@ -23,9 +21,6 @@ module _ (ask : ℕ → ℕ → Connection) (n : ℕ) (field p : List ℕ) (w : 
 
   few : w.vertices ≤ n
   few = omega (arith, a.total z, length-bound n (vertices_of field) fits.only (λ v _. fits.once v))
-
-  pub count-few : w.count ≤ n
-  count-few = omega (arith, few, a.few z)
 
   -- they hold every vertex
   pub complete_all : (table : List ℕ) → w.vertices ≡ n → Arranged n (with_given (has? 2 table) n (lines_of field)) w.count p₁

@@ -1,13 +1,13 @@
 -- The tables of given channels, laid byte by byte in the walk that checks them. Assumes nothing.
 use Rattle.counting.proofs.Prelude.{◌≡◌, sym, ap, ◌∙◌, ◌≢◌, false, List, [], ℕ, ◌+◌, ◌-◌, ◌*◌, ◌≤◌, ◌<◌, arith, length, get_or}
+use Rattle.std.specs.Prelude.{Option}
 use Rattle.matching.proofs.Lists.{length-bound}
 use Rattle.specification.specs.declared.Connection.{Connection}
 use Rattle.specification.specs.Channels.{vertices_of, unknown?, repeats?}
 use Rattle.planning.specs.Arranged.{Arranged, Kept}
 use Rattle.channels.specs.Steps.Laid.{Lays}
 use Rattle.channels.specs.Promise.{given_refusal}
-use Rattle.channels.specs.Steps.Walked.{Walks}
-use Rattle.channels.specs.declared.Walked.{Walked}
+use Rattle.channels.specs.Steps.Walked.{Walked, Walks}
 use Rattle.channels.proofs.Fields.{left, left_vertex}
 use Rattle.channels.proofs.Checks.{unknown_wider, unknown-within, repeats_once}
 use Rattle.channels.proofs.Reading.{Reading, reading_none, reading_length, reading_more, reading_all}
@@ -63,11 +63,10 @@ module _ (n : ℕ) (field : List ℕ) where
   -- ---- the end
 
   module _ (ask : ℕ → ℕ → Connection) (was is : List ℕ) (g : Kept n was is) (r : Walked) where
-    pub walks_refused : r.refusal ≡ 3 → given_refusal ask n field ≡ 3 → Walks ask n field was r is
-    walks_refused e w =
-        let never : r.refusal ≡ 0 → ⊥ = λ z. omega arith in
+    pub walks_refused : r.refusal ≢ 0 → r.refusal ≡ given_refusal ask n field → Walks ask n field was r is
+    walks_refused never answer =
         record {
-          answer = e ∙ sym w;
+          answer = answer;
           laid = λ z. absurd (never z);
           few = λ z. absurd (never z);
           total = λ z. absurd (never z);
@@ -75,7 +74,7 @@ module _ (n : ℕ) (field : List ℕ) where
           kept = g;
         }
 
-    pub walks_all : n ≢ 0 → n ≤ 128 → (i k p last : ℕ) → length field ≤ i
+    pub walks_all : n ≢ 0 → n ≤ 128 → (i k p : ℕ) (last : Option ℕ) → length field ≤ i
         → Walking ask n field i k last r.seen r.vertices r.refusal
         → Tabling i k p r.vertices r.count is → Walks ask n field was r is
     walks_all some small i k p last h w f =

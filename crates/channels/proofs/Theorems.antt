@@ -17,9 +17,9 @@ use Rattle.specification.specs.Connection.{leading?}
 use Rattle.specification.specs.declared.Connection.{Connection}
 use Rattle.reach.specs.Closure.{connection_by}
 use Rattle.planning.specs.Arranged.{Arranged}
+use Rattle.planning.specs.Promise.{Channels}
 use Rattle.channels.specs.Promise.{Answers, Plans, Gives, given_refusal}
 use Rattle.channels.specs.Sound.{Sound}
-use Rattle.planning.specs.declared.Channels.{Channels}
 use Rattle.channels.proofs.Checks.{passed_fits, passed-given}
 use Rattle.specification.specs.Sets.{has?}
 use Rattle.specification.specs.Graph.{size_refusal, unsized?}

@@ -1,15 +1,15 @@
 -- The walk over the bytes of given channels, one byte after the other. Assumes nothing.
-use Rattle.counting.proofs.Prelude.{◌≡◌, refl, sym, ap, ◌∙◌, subst, ◌≢◌, Bool, true, false, ◌||◌, List, ℕ, ◌+◌, ◌-◌, ◌≤◌}
-use Rattle.counting.proofs.Prelude.{◌<◌, arith, eqb, length, get_or, replicate, eq-eqb, ne_eqb}
+use Rattle.counting.proofs.Prelude.{◌≡◌, refl, sym, ap, ◌∙◌, subst, ◌≢◌, Bool, true, false, List, ℕ, ◌+◌, ◌-◌, ◌≤◌}
+use Rattle.counting.proofs.Prelude.{◌<◌, arith, length, get_or, replicate}
+use Rattle.std.specs.Prelude.{Option, Some, None}
 use Rattle.specification.specs.Sets.{member?, inserted}
-use Rattle.specification.specs.Connection.{leading?}
 use Rattle.specification.specs.declared.Connection.{Connection}
 use Rattle.specification.specs.Channels.{lines_of, vertices_of, unknown?, repeats?, broken?}
 use Rattle.specification.specs.Given.{held_in}
 use Rattle.specification.specs.Graph.{unsized?}
 use Rattle.counting.proofs.Sizes.{sized}
 use Rattle.channels.specs.Promise.{given_refusal}
-use Rattle.channels.specs.Steps.Walked.{weighed}
+use Rattle.channels.specs.Steps.Walked.{may_follow, weighed}
 use Rattle.channels.proofs.Fields.{left, left-all, left-length, left_vertex, left_end}
 use Rattle.channels.proofs.Checks.{Known, known_none, known_length, known_found, known_more}
 use Rattle.channels.proofs.Checks.{known_all, Once, once_none, once_length, once_again, once_more, once_all, once_held, Linking}
@@ -20,43 +20,40 @@ use Rattle.channels.proofs.Answers.{given-unknown, given_repeats, given_broken, 
 
 module _ (ask : ℕ → ℕ → Connection) (n : ℕ) (field : List ℕ) where
   -- what was found before byte i, of whose line k vertices are left: nothing, a vertex twice, or a vertex that is not led to
-  pub data Found (i k last : ℕ) (seen : List ℕ) : ℕ → Type 0 where
+  pub data Found (i k : ℕ) (last : Option ℕ) (seen : List ℕ) : ℕ → Type 0 where
     clear : Once field i k seen → Linking ask field i k last → Found i k last seen 0
     again : repeats? (vertices_of field) ≡ true → Found i k last seen 6
     cut : Once field i k seen → broken? ask (lines_of field) ≡ true → Found i k last seen 7
 
-  pub record Walking (i k last : ℕ) (seen : List ℕ) (vertices fault : ℕ) : Type 0 where
+  pub record Walking (i k : ℕ) (last : Option ℕ) (seen : List ℕ) (vertices fault : ℕ) : Type 0 where
     pub masks : length seen ≡ 4
-    pub small : last ≤ 256
     pub few : vertices ≤ i
     pub known : Known n field i k
     pub counted : length (vertices_of field) ≡ vertices + length (left field i k)
     pub found : Found i k last seen fault
 
-  pub walking_none : Walking 0 0 256 (replicate 4 0) 0 0
+  pub walking_none : Walking 0 0 None (replicate 4 0) 0 0
   walking_none = record {
     masks = refl;
-    small = omega arith;
     few = omega arith;
     known = known_none n field;
     counted = let e = ap length (left-all field) in omega arith;
     found = clear (once_none field) (linking_none ask field);
   }
 
-  module _ (i : ℕ) (h : i < length field) (k last : ℕ) (seen : List ℕ) (vertices fault : ℕ)
+  module _ (i : ℕ) (h : i < length field) (k : ℕ) (last : Option ℕ) (seen : List ℕ) (vertices fault : ℕ)
       (f : Walking i k last seen vertices fault) (x : ℕ) (ex : x ≡ get_or field i 0) where
     -- a line's length
-    pub walking_length : k ≡ 0 → Walking (i + 1) x 256 seen vertices fault
+    pub walking_length : k ≡ 0 → Walking (i + 1) x None seen vertices fault
     walking_length e = record {
       masks = f.masks;
-      small = omega arith;
       few = let l = f.few in omega arith;
       known = known_length n field i h k f.known x ex e;
       counted = f.counted ∙ ap (λ l. vertices + length l) (left-length field i h k e ∙ ap (left field (i + 1)) (sym ex));
       found = go fault f.found;
     }
       where
-        go : (y : ℕ) → Found i k last seen y → Found (i + 1) x 256 seen y
+        go : (y : ℕ) → Found i k last seen y → Found (i + 1) x None seen y
         go _ (clear o l) = clear (once_length field i h k seen o e x ex) (linking_length ask field i h k last l e x ex)
         go _ (again r) = again r
         go _ (cut o b) = cut (once_length field i h k seen o e x ex) b
@@ -67,34 +64,34 @@ module _ (ask : ℕ → ℕ → Connection) (n : ℕ) (field : List ℕ) where
       walked_unknown z m l = given-unknown ask n field (sized n z m) (known_found n field i h k f.known x ex d l)
 
       module _ (b : x < 256) (s : List ℕ) (put : member? seen 0 x ≡ false → s ≡ inserted seen 0 x) where
-        found_more : (p g : Bool) → member? seen 0 x ≡ p → (eqb last 256 || leading? (ask last x)) ≡ g
-            → (y : ℕ) → Found i k last seen y → Found (i + 1) (k - 1) x s (weighed p g y)
+        found_more : (p g : Bool) → member? seen 0 x ≡ p → may_follow ask last x ≡ g
+            → (y : ℕ) → Found i k last seen y → Found (i + 1) (k - 1) (Some x) s (weighed p g y)
         unfolding weighed
         found_more true g ep eg _ (clear o l) = again (once_again field i h k seen o d x ex ep)
         found_more true g ep eg _ (again r) = again r
         found_more true g ep eg _ (cut o r) = again (once_again field i h k seen o d x ex ep)
         found_more false true ep eg _ (clear o l) = clear (once_more field i h k seen o d x ex b ep s (put ep))
-            (linking_more ask field i h k last l d x ex b eg)
+            (linking_more ask field i h k last l d x ex eg)
         found_more false false ep eg _ (clear o l) = cut (once_more field i h k seen o d x ex b ep s (put ep))
             (linking_broken ask field i h k last l d x ex eg)
         found_more false g ep eg _ (again r) = again r
         found_more false g ep eg _ (cut o r) = cut (once_more field i h k seen o d x ex b ep s (put ep)) r
 
         -- a vertex
-        pub walking_more : x < n → length s ≡ 4 → (y : ℕ) → y ≡ weighed (member? seen 0 x) (eqb last 256 || leading? (ask last x)) fault
-            → Walking (i + 1) (k - 1) x s (vertices + 1) y
+        pub walking_more : x < n → length s ≡ 4 → (y : ℕ) → y ≡ weighed (member? seen 0 x) (may_follow ask last x) fault
+            → Walking (i + 1) (k - 1) (Some x) s (vertices + 1) y
         walking_more l long y ey = record {
           masks = long;
-          small = omega arith;
           few = let q = f.few in omega arith;
           known = known_more n field i h k f.known x ex d l;
           counted = let e = f.counted in let q = ap length (left_vertex field i h k d) in omega arith;
-          found = subst (Found (i + 1) (k - 1) x s) (sym ey)
-              (found_more (member? seen 0 x) (eqb last 256 || leading? (ask last x)) refl refl fault f.found);
+          found = subst (Found (i + 1) (k - 1) (Some x) s) (sym ey)
+              (found_more (member? seen 0 x) (may_follow ask last x) refl refl fault f.found);
         }
 
   -- the end of the bytes
-  module _ (i k last : ℕ) (seen : List ℕ) (vertices fault : ℕ) (f : Walking i k last seen vertices fault) (h : length field ≤ i) where
+  module _ (i k : ℕ) (last : Option ℕ) (seen : List ℕ) (vertices fault : ℕ)
+      (f : Walking i k last seen vertices fault) (h : length field ≤ i) where
     pub walked_all : n ≢ 0 → n ≤ 128 → fault ≡ given_refusal ask n field
     walked_all z m = go fault f.found
       where
@@ -121,22 +118,3 @@ module _ (ask : ℕ → ℕ → Connection) (n : ℕ) (field : List ℕ) where
         go _ (clear o l) z = once_held field i k seen o h
         go _ (again r) z = absurd (omega arith)
         go _ (cut o e) z = absurd (omega arith)
-
--- ---- `weigh`, return by return
-
-module _ (p g : Bool) (y : ℕ) where
-  pub weighed_again : p ≡ true → 6 ≡ weighed p g y
-  unfolding weighed
-  weighed_again e = rw e refl
-
-  pub weighed-kept : p ≡ false → y ≢ 0 → y ≡ weighed p g y
-  unfolding weighed
-  weighed-kept e d = rw (e, ne_eqb y 0 d) refl
-
-  pub weighed_led : p ≡ false → y ≡ 0 → g ≡ true → 0 ≡ weighed p g y
-  unfolding weighed
-  weighed_led e d q = rw (e, eq-eqb y 0 d, q) refl
-
-  pub weighed-cut : p ≡ false → y ≡ 0 → g ≡ false → 7 ≡ weighed p g y
-  unfolding weighed
-  weighed-cut e d q = rw (e, eq-eqb y 0 d, q) refl

@@ -4,8 +4,8 @@ use Rattle.specification.specs.Count.{choose}
 use Rattle.specification.specs.Planning.{planned}
 use Rattle.specification.specs.Channels.{lines_of, vertices_of, unknown?, repeats?, broken?}
 use Rattle.specification.specs.Given.{with_given}
-use Rattle.planning.specs.declared.Channels.{Channels}
 use Rattle.planning.specs.Arranged.{Arranged, Kept}
+use Rattle.planning.specs.Promise.{Channels}
 use Rattle.specification.specs.Sets.{has?}
 use Rattle.specification.specs.Graph.{unsized?, size_refusal}
 use Rattle.specification.specs.declared.Connection.{Connection}

@@ -19,8 +19,7 @@ use Rattle.masks.proofs.Members.{member_zeros}
 use Rattle.search.specs.Tabled.{Tabled}
 use Rattle.planning.specs.Arranged.{Arranged, Kept, Added}
 use Rattle.planning.specs.Steps.{held_in, channels_in, free_in, Apart, Cleared, Found}
-use Rattle.planning.specs.Promise.{beside_in, Besides, Chained}
-use Rattle.planning.specs.declared.Channels.{Channels}
+use Rattle.planning.specs.Promise.{Channels, beside_in, Besides, Chained}
 use Rattle.planning.proofs.Held.{held_past, held_tabled}
 use Rattle.planning.proofs.Laying.{kept_same, kept_on}
 use Rattle.planning.proofs.Adding.{added_kept, arranged_both}
@@ -77,18 +76,18 @@ module _ (n : ℕ) (table held : List ℕ) (first : ℕ) (p : List ℕ) (r : Cha
 
   pub beside-all : (p' : List ℕ) (m : ℕ) (P : List ℕ) → m ≡ min n 128 → 4 * m ≤ length p → first < 128
       → Found (member? held 0) (has? 2 table) (min n 128) P
-      → (r.refusal ≡ 0) × (r.count ≡ first + length (free_in (member? held 0) m P)) × Added first (free_in (member? held 0) m P) p p'
+      → r.refusal ≡ 0 → (r.count ≡ first + length (free_in (member? held 0) m P)) × Added first (free_in (member? held 0) m P) p p'
       → Besides n table held first p r p'
-  beside-all p' m P em room low f a =
-      let z : free_in (member? held 0) m P ≡ beside_in (min n 128) table held =
+  beside-all p' m P em room low f z a =
+      let e : free_in (member? held 0) m P ≡ beside_in (min n 128) table held =
       ap (λ x. free_in (member? held 0) x P) em
       ∙ ap (without (member? held 0)) (found_planned (member? held 0) (has? 2 table) (min n 128) P (omega arith) f) in record {
-        refused = λ _ _. a.0;
+        refused = λ _ _. z;
         short = λ l. absurd (omega arith);
         many = λ _ l. absurd (omega arith);
-        none = λ d. absurd (d a.0);
-        counted = λ _. a.1 ∙ ap (λ x. first + length x) z;
-        added = λ _. subst (λ x. Added first x p p') z a.2;
+        none = λ d. absurd (d z);
+        counted = λ _. a.0 ∙ ap (λ x. first + length x) e;
+        added = λ _. subst (λ x. Added first x p p') e a.1;
       }
 
 -- ---- beside given channels

@@ -1,11 +1,22 @@
 -- What planned channels promise. Assumes nothing.
-use Rattle.std.specs.Prelude.{◌≡◌, ◌≢◌, List, ℕ, ◌+◌, ◌*◌, ◌≤◌, ◌<◌, min, length}
+use Rattle.std.specs.Prelude.{◌≡◌, ◌≢◌, List, ℕ, ◌+◌, ◌*◌, ◌≤◌, ◌<◌, min, length, Result, Ok, Err}
 use Rattle.specification.specs.Planning.{planned}
 use Rattle.specification.specs.Given.{masked, without}
 use Rattle.specification.specs.Sets.{member?, has?}
 use Rattle.specification.specs.Lent.{Untouched}
 use Rattle.planning.specs.Arranged.{Arranged, Kept, Added}
-use Rattle.planning.specs.declared.Channels.{Channels}
+use Rattle.specification.specs.declared.Refusal.{Refusal}
+use Rattle.specification.specs.Refusals.{refusal_number}
+
+-- why there are no channels, or 0, and how many there are. Each vertex's channel and position stand in a list of places
+pub record Channels : Type 0 where
+  pub refusal : ℕ
+  pub count : ℕ
+
+-- what a call says: how many channels, or why there are none
+abbrev pub channels_of : Result ℕ Refusal → Channels
+channels_of (Ok count) = record { refusal = 0; count = count }
+channels_of (Err k) = record { refusal = refusal_number k; count = 0 }
 
 -- the channels of those of n vertices that the set does not hold, by the rule on the table between them
 abbrev pub beside_in : ℕ → List ℕ → List ℕ → List (List ℕ)

@@ -44,19 +44,18 @@ stays_shut false b d f e = refl
 stays_shut true true d f e = ap not (f refl)
 stays_shut true false d f e = absurd (true≢false e)
 
--- the search of h has come from P₀ and T₀ to P and T, and v is the next vertex to try
-pub record Going (table : List ℕ) (n h : ℕ) (P₀ T₀ P T : List ℕ) (v : ℕ) : Type 0 where
+-- the search of h has come from P₀ and T₀ to P and T, and nothing below `from` is left to try
+pub record Going (table : List ℕ) (n h : ℕ) (P₀ T₀ P T : List ℕ) : Type 0 where
   pub few : n ≤ 128
-  pub long_p : length P ≡ 128
   pub long_v : length T ≡ 2
   pub fewer : unvisited n (state P T false) ≤ unvisited n (state P₀ T₀ false)
   pub mono : (u : ℕ) → member? T₀ 0 u ≡ true → member? T 0 u ≡ true
-  -- nothing below v is left to try
-  pub passed : (u : ℕ) → u < v → open? table h T u ≡ false
-  pub next : v < n → candidate (has? 2 table) h v (state P T false) ≡ true
+  pub from : ℕ
+  pub within : from ≤ 128
+  pub passed : (u : ℕ) → u < from → open? table h T u ≡ false
   pub on : (k : ℕ) → unvisited n (state P₀ T₀ false) < suc k
       → augment (has? 2 table) n (suc k) h (state P₀ T₀ false)
-      ≡ scan (has? 2 table) n (augment (has? 2 table) n k) h (n - v) v (state P T false)
+      ≡ scan (has? 2 table) n (augment (has? 2 table) n k) h (n - from) from (state P T false)
 
 -- a depth above a number is one more than some depth
 deep : (Q : ℕ → Type 0) (m : ℕ) → ((k : ℕ) → m < suc k → Q (suc k)) → (k : ℕ) → m < k → Q k
@@ -70,35 +69,18 @@ module _ (table : List ℕ) (n h : ℕ) where
   abbrev go : ℕ → ℕ → State → State
   go k = augment leads n k
 
-  -- the next vertex to try, as the code found it
-  going_to : {P₀ T₀ : List ℕ} (P T : List ℕ) (a r : ℕ) → n ≤ 128 → length P ≡ 128 → length T ≡ 2
-      → unvisited n (state P T false) ≤ unvisited n (state P₀ T₀ false)
-      → ((u : ℕ) → member? T₀ 0 u ≡ true → member? T 0 u ≡ true) → a ≤ 128 → ((u : ℕ) → u < a → open? table h T u ≡ false)
-      → NextOpen table h T a r
-      → ((k : ℕ) → unvisited n (state P₀ T₀ false) < suc k
-      → go (suc k) h (state P₀ T₀ false) ≡ scan leads n (go k) h (n - a) a (state P T false))
-      → Going table n h P₀ T₀ P T r
-  unfolding open? candidate seen
-  going_to {P₀} {T₀} P T a r few lp lv fw mono small below p on = record {
-    few = few;
-    long_p = lp;
-    long_v = lv;
-    fewer = fw;
-    mono = mono;
-    passed = λ u l. ⊎_elim (λ m. below u m) (λ m. p.skipped u m l) (lt-or-le u a);
-    next = λ l. (p.found (omega arith)).1;
-    on = λ k u. on k u ∙ scan_to leads n (go k) h (state P T false) a r (upto (dec_lt r 128)) (λ v m b. p.skipped v m b);
-  }
-    where
-      upto : Dec (r < 128) → a ≤ r
-      upto (yes l) = (p.found l).0
-      upto (no l) = omega arith
-
-  pub going_start : (P T : List ℕ) (r : ℕ) → n ≤ 128 → length P ≡ 128 → length T ≡ 2 → NextOpen table h T 0 r → Going table n h P T P T r
+  pub going_start : (P T : List ℕ) → n ≤ 128 → length T ≡ 2 → Going table n h P T P T
   unfolding augment
-  going_start P T r few lp lv p =
-      going_to P T 0 r few lp lv (omega arith) (λ u e. e) (omega arith) (λ u l. absurd (not-suc-le-zero l)) p
-      (λ k u. ap (λ j. scan leads n (go k) h j 0 (state P T false)) (let e : n ≡ n - 0 = omega arith in e))
+  going_start P T few lv = record {
+    few = few;
+    long_v = lv;
+    fewer = omega arith;
+    mono = λ u e. e;
+    from = 0;
+    within = omega arith;
+    passed = λ u l. absurd (not-suc-le-zero l);
+    on = λ k u. ap (λ j. scan leads n (go k) h j 0 (state P T false)) (let e : n ≡ n - 0 = omega arith in e);
+  }
 
   -- h leads to no vertex that is not visited: its search fails, and changes nothing
   pub shut : (P T : List ℕ) (r : ℕ) → NextOpen table h T 0 r → n ≤ r → Augments leads n h (state P T false) (state P T false)
@@ -115,29 +97,40 @@ module _ (table : List ℕ) (n h : ℕ) where
         mono = λ u e. e;
       }
 
-  module _ {P₀ T₀ P T : List ℕ} {v : ℕ} (g : Going table n h P₀ T₀ P T v) where
+  -- v is the next vertex to try, as the code found it
+  module _ {P₀ T₀ P T : List ℕ} {v : ℕ} (g : Going table n h P₀ T₀ P T) (o : NextOpen table h T 0 v) where
     abbrev s₀ : State
     s₀ = state P₀ T₀ false
 
     abbrev s : State
     s = state P T false
 
+    upto : Dec (v < 128) → g.from ≤ v
+    upto (yes l) = ⊎_elim (λ c. absurd (true≢false (sym (o.found l).1 ∙ g.passed v c))) (λ c. c) (lt-or-le v g.from)
+    upto (no l) = omega (arith, g.within)
+
+    -- the scan is at v
+    next_to : (k : ℕ) → unvisited n s₀ < suc k → go (suc k) h s₀ ≡ scan leads n (go k) h (n - v) v s
+    unfolding open? candidate seen
+    next_to k u = g.on k u ∙ scan_to leads n (go k) h s g.from v (upto (dec_lt v 128)) (λ w m b. o.skipped w (omega arith) b)
+
     pub gives_missed : n ≤ v → Augments leads n h s₀ s
     unfolding missed seen
     gives_missed l = record {
       same = deep (λ k. s ≡ go k h s₀) (unvisited n s₀) λ k u.
-          sym (g.on k u ∙ ap (λ j. scan leads n (go k) h j v s) (let e : n - v ≡ 0 = omega arith in e) ∙ scan_end leads n (go k) h 0 v s);
+          sym (next_to k u ∙ ap (λ j. scan leads n (go k) h j v s) (let e : n - v ≡ 0 = omega arith in e)
+          ∙ scan_end leads n (go k) h 0 v s);
       fewer = g.fewer;
       mono = g.mono;
     }
 
     module _ (l : v < n) (T₁ : List ℕ) (m : T₁ ≡ inserted T 0 v) where
-      -- the scan is at its next vertex
       at : (k : ℕ) → unvisited n s₀ < suc k → go (suc k) h s₀ ≡ scan leads n (go k) h (suc (n - (v + 1))) v s
-      at k u = g.on k u ∙ ap (λ j. scan leads n (go k) h j v s) (let e : n - v ≡ suc (n - (v + 1)) = omega arith in e)
+      at k u = next_to k u ∙ ap (λ j. scan leads n (go k) h j v s) (let e : n - v ≡ suc (n - (v + 1)) = omega arith in e)
 
       e : candidate leads h v s ≡ true
-      e = g.next l
+      unfolding open? candidate seen
+      e = (o.found (omega (arith, g.few))).1
 
       one_fewer : unvisited n (state P T₁ false) + 1 ≡ unvisited n s
       unfolding marked
@@ -195,33 +188,26 @@ module _ (table : List ℕ) (n h : ℕ) where
             at-v : Dec (u ≡ v) → open? table h T' u ≡ false
             at-v (yes d) = visited_shut (has? 2 table h u) (member? T' 0 u) (still u (ap (λ x. member? T₁ 0 x) d ∙ own))
             at-v (no d) =
-                stays_shut (has? 2 table h u) (member? T 0 u) (member? T' 0 u) (λ e. still u (grown u e)) (g.passed u (omega arith))
+                stays_shut (has? 2 table h u) (member? T 0 u) (member? T' 0 u) (λ e. still u (grown u e))
+                (o.skipped u (omega arith) (omega arith))
 
-        -- so the first vertex to try is past v
-        pub later : (r : ℕ) → NextOpen table h T' 0 r → NextOpen table h T' (v + 1) r
-        later r p = record {
-          within = p.within;
-          skipped = λ u a b. p.skipped u (omega arith) b;
-          found = λ a. (
-            ⊎_elim (λ c. absurd (true≢false (sym (p.found a).1 ∙ shut_below r c))) (λ c. c)
-                (lt-or-le r (v + 1)),
-            (p.found a).1,
-          );
-        }
+        -- the measure of the loop falls
+        pub nearer : unvisited n (state P' T' false) < unvisited n s
+        unfolding unvisited seen
+        nearer = omega (arith, one_fewer, q.fewer)
 
-        pub nearer : (r : ℕ) → NextOpen table h T' 0 r → n - r < n - v
-        nearer r p = past (dec_lt r 128)
-          where
-            past : Dec (r < 128) → n - r < n - v
-            past (yes c) = omega (arith, ((later r p).found c).0)
-            past (no c) = omega (arith, g.few)
-
-        pub going_stuck : b ≡ false → length P' ≡ 128 → length T' ≡ 2 → (r : ℕ) → NextOpen table h T' 0 r → Going table n h P₀ T₀ P' T' r
+        pub going_stuck : b ≡ false → length T' ≡ 2 → Going table n h P₀ T₀ P' T'
         unfolding marked predecessor_of unvisited seen
-        going_stuck y lp lv r p =
-            going_to P' T' (v + 1) r g.few lp lv (omega (arith, falls, q.fewer)) (λ u i. still u (grown u (g.mono u i)))
-            (omega (arith, g.few)) shut_below (later r p)
-            (λ k u. at k u
-            ∙ scan_stuck leads n (go k) h (n - (v + 1)) v s e (ne_eqb _ _ f) (ap (λ x. x.found) (sym (again k u)) ∙ y)
-            ∙ ap (scan leads n (go k) h (n - (v + 1)) (suc v)) (sym (again k u) ∙ ap (state P' T') y)
-            ∙ ap (λ j. scan leads n (go k) h (n - (v + 1)) j (state P' T' false)) (let e : suc v ≡ v + 1 = omega arith in e))
+        going_stuck y lv = record {
+          few = g.few;
+          long_v = lv;
+          fewer = omega (arith, falls, q.fewer);
+          mono = λ u i. still u (grown u (g.mono u i));
+          from = v + 1;
+          within = omega (arith, g.few);
+          passed = shut_below;
+          on = λ k u. at k u
+              ∙ scan_stuck leads n (go k) h (n - (v + 1)) v s e (ne_eqb _ _ f) (ap (λ x. x.found) (sym (again k u)) ∙ y)
+              ∙ ap (scan leads n (go k) h (n - (v + 1)) (suc v)) (sym (again k u) ∙ ap (state P' T') y)
+              ∙ ap (λ j. scan leads n (go k) h (n - (v + 1)) j (state P' T' false)) (let e : suc v ≡ v + 1 = omega arith in e);
+        }

@@ -1,17 +1,20 @@
 -- The vertices that one set has and another lacks, found by the masks. Assumes nothing.
 use Rattle.counting.proofs.Prelude.{◌≡◌, refl, sym, ap, ap₂, ◌∙◌, ◌≢◌, ⊎_elim, not, ◌&&◌, List, [], ◌∷◌, ℕ, zero, suc, ◌+◌, ◌-◌, ◌*◌, ◌/◌}
-use Rattle.counting.proofs.Prelude.{◌%◌, ◌^◌, ◌≤◌, ◌<◌, arith, eqb, get_or, set, eq-eqb}
+use Rattle.counting.proofs.Prelude.{◌%◌, ◌^◌, ◌≤◌, ◌<◌, arith, eqb, get_or, set, eq-eqb, subst, true≢false, false, lt-ltb, le-ltb}
 use native.Mathlib.Nat.{lt_of_le_of_lt}
 use lib.Bits.{bit_or, and_le_l}
-use lib.Count.{count_trailing_zeros}
+use lib.Count.{count_trailing_zeros, trailing_le}
+use native.Mathlib.Decide.{dec_lt}
+use Rattle.std.specs.Prelude.{Option, Some, None}
+use Rattle.std.specs.Option.{is_some}
 use Rattle.counting.proofs.Truth.{lt-or-le}
 use Rattle.specification.specs.Sets.{bit, member, member?, inserted, at, has?}
-use Rattle.search.specs.Steps.Search.{Next, open?, NextOpen}
+use Rattle.search.specs.Steps.Search.{Next, open?, NextOpen, below, Opens}
 use Rattle.masks.specs.Pairs.{in_pair}
 use Rattle.masks.proofs.Bits.{without, one_shl, bit_of_zero, trailing_below, trailing_at, trailing_lt}
 use Rattle.masks.proofs.Sets.{without-member}
 use Rattle.masks.proofs.Pairing.{pair_low, pair_high}
-use Rattle.masks.proofs.Tables.{Row, pair_row, row-member}
+use Rattle.masks.proofs.Tables.{Row, row-member}
 
 module _ (table visited : List ℕ) (h a b c d : ℕ) (ea : a ≡ get_or table (2 * h + 0) 0) (eb : b ≡ get_or visited (0 + 0) 0)
     (ec : c ≡ get_or table (2 * h + 1) 0) (ed : d ≡ get_or visited (0 + 1) 0)
@@ -59,9 +62,10 @@ module _ (x y : ℕ) where
     none_low : (v : ℕ) → v < 64 → member two 0 v ≡ 0
     none_low v l = in_low v l ∙ ap (λ (z : ℕ). bit z v) e ∙ bit_of_zero v
 
-    first-high : y < 2 ^ 64 → y ≢ 0 → Next two 0 (2 * 64) 0 (64 + count_trailing_zeros 64 y)
-    first-high fit d =
-        let l : count_trailing_zeros 64 y < 64 = trailing_lt 64 y (omega arith) fit in
+    -- or none, and then this is 128
+    first_high : Next two 0 (2 * 64) 0 (64 + count_trailing_zeros 64 y)
+    first_high =
+        let t : count_trailing_zeros 64 y ≤ 64 = trailing_le 64 y in
         record {
           within = omega arith;
           skipped = λ v a b. ⊎_elim (λ m. none_low v m) (λ m. in_high v m (omega arith) ∙ trailing_below 64 y (v - 64) (omega arith))
@@ -70,33 +74,12 @@ module _ (x y : ℕ) where
             omega arith,
             in_high (64 + count_trailing_zeros 64 y) (omega arith) (omega arith)
                 ∙ ap (bit y) (let q : 64 + count_trailing_zeros 64 y - 64 ≡ count_trailing_zeros 64 y = omega arith in q)
-                ∙ trailing_at 64 y l,
+                ∙ trailing_at 64 y (omega arith),
           );
         }
 
-    first_none : y ≡ 0 → Next two 0 (2 * 64) 0 128
-    first_none d = record {
-      within = omega arith;
-      skipped = λ v a b. ⊎_elim (λ m. none_low v m) (λ m. in_high v m b ∙ ap (λ (z : ℕ). bit z (v - 64)) d ∙ bit_of_zero (v - 64))
-          (lt-or-le v 64);
-      found = λ l. absurd (omega arith);
-    }
-
--- the masks of h, read one by one, stand for its row
-pub row_open : (table visited : List ℕ) (h a b from r : ℕ) → Row 2 table h (a ∷ b ∷ [])
-    → NextOpen (a ∷ b ∷ []) 0 visited from r → NextOpen table h visited from r
-unfolding open? has? at
-row_open table visited h a b from r o p = record {
-  within = p.within;
-  skipped = λ v l m. sym (same v (omega (arith, p.within))) ∙ p.skipped v l m;
-  found = λ l. let f = p.found l in (f.0, sym (same r l) ∙ f.1);
-}
-  where
-    same : (v : ℕ) → v < 128 → open? (a ∷ b ∷ []) 0 visited v ≡ open? table h visited v
-    same v l = ap (λ (x : ℕ). eqb x 1 && not (member? visited 0 v)) (row-member 2 table h (a ∷ b ∷ []) o v l)
-
 -- what the code finds
-module _ (low high : ℕ) (visited : List ℕ) (fit : (i : ℕ) → get_or visited i 0 < 2 ^ 64) (l : low < 2 ^ 64) (m : high < 2 ^ 64) where
+module _ (low high : ℕ) (visited : List ℕ) (fit : (i : ℕ) → get_or visited i 0 < 2 ^ 64) where
   abbrev x : ℕ
   x = without low (get_or visited 0 0)
 
@@ -106,22 +89,67 @@ module _ (low high : ℕ) (visited : List ℕ) (fit : (i : ℕ) → get_or visit
   found_next : (r : ℕ) → Next (x ∷ y ∷ []) 0 (2 * 64) 0 r → NextOpen (low ∷ high ∷ []) 0 visited 0 r
   found_next = next_open (low ∷ high ∷ []) visited 0 low (get_or visited 0 0) high (get_or visited 1 0) refl refl refl refl fit 0
 
-  pub open_low : x ≢ 0 → NextOpen (low ∷ high ∷ []) 0 visited 0 (count_trailing_zeros 64 x)
-  open_low z = found_next _ (first-low x y (lt_of_le_of_lt (and_le_l low ((2 ^ 64 - 1) - get_or visited 0 0)) l) z)
+  pub open_low : low < 2 ^ 64 → x ≢ 0 → NextOpen (low ∷ high ∷ []) 0 visited 0 (count_trailing_zeros 64 x)
+  open_low l z = found_next _ (first-low x y (lt_of_le_of_lt (and_le_l low ((2 ^ 64 - 1) - get_or visited 0 0)) l) z)
 
-  pub open_high : x ≡ 0 → y ≢ 0 → NextOpen (low ∷ high ∷ []) 0 visited 0 (64 + count_trailing_zeros 64 y)
-  open_high e z = found_next _ (first-high x y e (lt_of_le_of_lt (and_le_l high ((2 ^ 64 - 1) - get_or visited 1 0)) m) z)
+  pub open_high : x ≡ 0 → NextOpen (low ∷ high ∷ []) 0 visited 0 (64 + count_trailing_zeros 64 y)
+  open_high e = found_next _ (first_high x y e)
 
-  pub open_none : x ≡ 0 → y ≡ 0 → NextOpen (low ∷ high ∷ []) 0 visited 0 128
-  open_none e z = found_next 128 (first_none x y e z)
+-- ---- what is told of it
 
--- the row of h, whose first mask the code has as the double of w
-pub code_row : (table : List ℕ) (h w a b : ℕ) → w ≡ h → a ≡ get_or table (2 * w) 0 → b ≡ get_or table (2 * w + 1) 0
-    → Row 2 table h (a ∷ b ∷ [])
-code_row table h w a b e p q =
-    pair_row table h a b
-    (p ∙ ap (λ (x : ℕ). get_or table x 0) (let k : 2 * w ≡ 2 * h + 0 = omega arith in k))
-    (q ∙ ap (λ (x : ℕ). get_or table (2 * x + 1) 0) e)
+module _ (table visited : List ℕ) (h n v : ℕ) where
+  below_yes : v < n → below n v ≡ Some v
+  unfolding below
+  below_yes l = rw (lt-ltb v n l)
+
+  below_no : n ≤ v → below n v ≡ None
+  unfolding below
+  below_no l = rw (le-ltb v n l)
+
+  pub opens_yes : NextOpen table h visited 0 v → v < n → Opens table h visited n (Some v)
+  opens_yes o l = record { first = v; found = o; told = sym (below_yes l) }
+
+  pub opens_no : NextOpen table h visited 0 v → n ≤ v → Opens table h visited n None
+  opens_no o l = record { first = v; found = o; told = sym (below_no l) }
+
+module _ (table visited : List ℕ) (h n : ℕ) where
+  pub opens_some : (v : ℕ) → Opens table h visited n (Some v) → NextOpen table h visited 0 v × (v < n)
+  opens_some v o = go (dec_lt o.first n)
+    where
+      go : Dec (o.first < n) → NextOpen table h visited 0 v × (v < n)
+      go (yes l) =
+          let e : Some v ≡ Some o.first = o.told ∙ below_yes table visited h n o.first l in
+          let q : o.first ≡ v = cc in
+          subst (λ x. NextOpen table h visited 0 x × (x < n)) q (o.found, l)
+      go (no l) = let e : Some v ≡ None = o.told ∙ below_no table visited h n o.first (omega arith) in absurd (cc)
+
+  pub opens_none : (o : Opens table h visited n None) → n ≤ o.first
+  opens_none o = go (dec_lt o.first n)
+    where
+      go : Dec (o.first < n) → n ≤ o.first
+      go (yes l) = let e : None ≡ Some o.first = o.told ∙ below_yes table visited h n o.first l in absurd (cc)
+      go (no l) = omega arith
+
+  pub opens_shut : (answer : Option ℕ) (o : Opens table h visited n answer) → is_some answer ≡ false → n ≤ o.first
+  opens_shut None o e = opens_none o
+  opens_shut (Some v) o e = absurd (true≢false e)
+
+-- the masks of h, read one by one, stand for its row
+pub row_open : (table visited : List ℕ) (h a b n : ℕ) (answer : Option ℕ) → Row 2 table h (a ∷ b ∷ [])
+    → Opens (a ∷ b ∷ []) 0 visited n answer → Opens table h visited n answer
+unfolding open? has? at
+row_open table visited h a b n answer o p = record {
+  first = p.first;
+  found = record {
+    within = p.found.within;
+    skipped = λ v l m. sym (same v (omega (arith, p.found.within))) ∙ p.found.skipped v l m;
+    found = λ l. let f = p.found.found l in (f.0, sym (same p.first l) ∙ f.1);
+  };
+  told = p.told;
+}
+  where
+    same : (v : ℕ) → v < 128 → open? (a ∷ b ∷ []) 0 visited v ≡ open? table h visited v
+    same v l = ap (λ (x : ℕ). eqb x 1 && not (member? visited 0 v)) (row-member 2 table h (a ∷ b ∷ []) o v l)
 
 -- ---- a vertex is put into a set of two masks
 

@@ -1,4 +1,3 @@
-use Rattle.counting.proofs.Prelude.{◌-◌}
 use Rattle.specification.specs.Sets.{member?}
 use Rattle.planning.proofs.Following.{Begun}
 use Rattle.planning.proofs.chains.Given as goal
@@ -6,6 +5,3 @@ use Rattle.planning.proofs.chains.Given as goal
 abbrev pub invariant-loop-v : goal.invariant-loop-v
 invariant-loop-v l =
     Begun (member? l.held 0) l.n l.first l.predecessor l.initial.places l.v l.count l.places
-
-abbrev pub decreases-loop-v : goal.decreases-loop-v
-decreases-loop-v l = l.n - l.v

@@ -1,5 +1,6 @@
 -- What the private steps of the search leave behind. Assumes nothing.
-use Rattle.std.specs.Prelude.{◌≡◌, Bool, true, false, not, ◌&&◌, List, ℕ, ◌≤◌, ◌<◌}
+use Rattle.std.specs.Prelude.{◌≡◌, Bool, true, false, not, ◌&&◌, List, ℕ, ◌≤◌, ◌<◌, ltb, Option, Some, None}
+use Rattle.specification.specs.Count.{choose}
 use Rattle.specification.specs.Sets.{member?, has?, member}
 use Rattle.search.specs.Steps.Coded.{State, seen, unvisited, augment, fresh}
 
@@ -15,6 +16,16 @@ pub record NextOpen (table : List ℕ) (h : ℕ) (visited : List ℕ) (from r : 
   pub within : r ≤ 128
   pub skipped : (v : ℕ) → from ≤ v → v < r → open? table h visited v ≡ false
   pub found : r < 128 → (from ≤ r) × (open? table h visited r ≡ true)
+
+-- v, where it is below n
+unfoldable pub below : ℕ → ℕ → Option ℕ
+below n v = choose (ltb v n) (λ _. Some v) (λ _. None)
+
+-- the answer is the first such vertex of all, where it is below n
+pub record Opens (table : List ℕ) (h : ℕ) (visited : List ℕ) (n : ℕ) (answer : Option ℕ) : Type 0 where
+  pub first : ℕ
+  pub found : NextOpen table h visited 0 first
+  pub told : answer ≡ below n first
 
 -- a search took s to r: as the rule does, whatever the depth allowed, if that is above the number of unvisited vertices
 pub record Augments (leads : ℕ → ℕ → Bool) (n h : ℕ) (s r : State) : Type 0 where
