@@ -1,5 +1,5 @@
 -- What the call answers: the bundles of the rule, channel after channel. Assumes nothing.
-use Rattle.counting.proofs.Prelude.{◌≡◌, refl, sym, ap, ap₂, ◌∙◌, subst, Bool, true, false, List, ℕ, ◌+◌, ◌*◌, ◌/◌, ◌≤◌, ◌<◌, min, arith}
+use Rattle.counting.proofs.Prelude.{◌≡◌, refl, sym, ap, ap₂, ◌∙◌, subst, Bool, true, false, List, ℕ, ◌+◌, ◌*◌, ◌≤◌, ◌<◌, min, arith}
 use Rattle.counting.proofs.Prelude.{ltb, length, get_or, lt-ltb}
 use Rattle.counting.specs.Quads.{quad}
 use Rattle.counting.proofs.Truth.{and_elim, same_truth, and_intro}
@@ -148,25 +148,6 @@ module _ (channels : ℕ) (own sets places order : List ℕ) (s : State) (m : St
   turn = record { n = m.n; ready = m.ready; lower = lower-part; upper = upper_part; planned = p }
 
 -- ---- the call
-
-pub below_min : (k x y : ℕ) → k ≡ min x y → (k ≤ x) × (k ≤ y)
-below_min k x y e = (omega arith, omega arith)
-
-below_both : (k x y : ℕ) → k ≤ min x y → (k ≤ x) × (k ≤ y)
-below_both k x y h = (omega arith, omega arith)
-
--- the vertices that count have their entries
-pub fitting-room : (k n places spans number : ℕ) → k ≡ fitting n places spans number
-    → (k ≤ 128) × (4 * k ≤ places) × (8 * k ≤ spans) × (2 * k ≤ number)
-unfolding fitting
-fitting-room k n places spans number e =
-    let a = below_min k (min n 128) (min (places / 4) (min (spans / 8) (number / 2))) e in
-    let b = below_both k (places / 4) (min (spans / 8) (number / 2)) a.1 in
-    let c = b.0 in
-    let f = below_both k (spans / 8) (number / 2) b.1 in
-    let g = f.0 in
-    let h = f.1 in
-    ((below_both k n 128 a.0).1, omega arith, omega arith, omega arith)
 
 -- the lists are cleared, to the lengths that they had, and then have the bundles
 pub bundled_law : (n : ℕ) (edges : List ℕ) (channels : ℕ) (places spans number : List ℕ) (a b k top r : ℕ)

@@ -180,9 +180,6 @@ high-channel n channels edges places u h v =
 pub record NoSide (n : ℕ) (edges places : List ℕ) (u : ℕ) : Type 0 where
   pub none : (a v : ℕ) → a < u → v < n → table_side? n edges (quad 0 places) (quad 1 places) a v ≡ false
 
-pub no_side-start : (n : ℕ) (edges places : List ℕ) → NoSide n edges places 0
-no_side-start n edges places = record { none = λ a v l. absurd (not-suc-le-zero l) }
-
 module _ (n : ℕ) (edges places : List ℕ) (u : ℕ) where
   -- v is of u's channel and not next to it
   abbrev far_from_u : ℕ → Bool
@@ -249,6 +246,3 @@ first_of k mask e = record {
 -- all of them
 pub first-all : (k mask : ℕ) → 64 ≤ k → FirstBits 64 mask → FirstBits k mask
 first-all k mask h o = record { only = λ j l t. omega arith; all = λ j l m. o.all j l l }
-
-pub first_rest : (n t mask : ℕ) → t ≡ min n 64 → FirstBits (n - t) mask → FirstBits (n - 64) mask
-first_rest n t mask e = subst (λ (k : ℕ). FirstBits k mask) (let z : n - t ≡ n - 64 = omega arith in z)

@@ -12,6 +12,13 @@ use Rattle.bundles.specs.Choice.{live}
 use Rattle.bundles.specs.Sides.{table_side?}
 use Rattle.bundles.specs.Promise.{no_bundle, number_from, Listed, bundles_in}
 use Rattle.bundles.specs.declared.Span.{Span}
+use Rattle.bundles.specs.declared.Direction.{Direction}
+use Rattle.bundles.specs.declared.Direction.TheVariants.{Into, OutOf}
+
+-- whether a direction is that of the edges into a vertex
+abbrev pub into? : Direction → Bool
+into? Into = true
+into? OutOf = false
 
 -- the number of an end: of the edges into v, or out of v
 abbrev pub end_of : Bool → ℕ → ℕ
