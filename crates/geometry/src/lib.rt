@@ -7,26 +7,19 @@ ghost use Rattle.specification.specs.Geometry.{point, Hit, BlockedAmong, aligned
 ghost use Rattle.specification.specs.Numbers.{course_code};
 ghost use Rattle.geometry.specs.Segment.{point_of, vertex_count};
 ghost use Rattle.geometry.specs.Steps.{Struck};
-ghost use Rattle.geometry.specs.Steps.{Diff};
 
 use specification::Course;
+use std::cmp::Ordering;
 
 // Columns from a vertex to the bends beside it.
 const BEND_OFFSET: u16 = 1;
-
-// a - b, signed.
-fn minus(a: u16, b: u16) -> i32
-    ensures { Diff result a b }
-{
-    a as i32 - b as i32
-}
 
 // Whether (px, py) lies on the line through (ax, ay) and (bx, by), by signed products.
 fn aligned(ax: u16, ay: u8, bx: u16, by: u8, px: u16, py: u8) -> bool
     ensures { result ≡ aligned ax ay bx by px py }
 {
-    let left = minus(px, ax) * minus(by as u16, ay as u16);
-    let right = minus(bx, ax) * minus(py as u16, ay as u16);
+    let left = (px as i32 - ax as i32) * (by as i32 - ay as i32);
+    let right = (bx as i32 - ax as i32) * (py as i32 - ay as i32);
     left == right
 }
 
@@ -34,24 +27,10 @@ fn aligned(ax: u16, ay: u8, bx: u16, by: u8, px: u16, py: u8) -> bool
 fn inside(ax: u16, ay: u8, bx: u16, by: u8, px: u16, py: u8) -> bool
     ensures { Decides result (Hit (point ax ay) (point bx by) (point px py)) }
 {
-    if py <= ay {
-        return false;
-    }
-    if by <= py {
+    if py <= ay || by <= py {
         return false;
     }
     aligned(ax, ay, bx, by, px, py)
-}
-
-// As many vertices as both lists have, the second in four bytes each.
-fn vertex_count(columns: &[u16], places: &[u8]) -> usize
-    ensures { result ≡ vertex_count columns.now places.now }
-{
-    let n = places.len() / 4;
-    if columns.len() < n {
-        return columns.len();
-    }
-    n
 }
 
 // Whether a segment rises by one row at most.
@@ -63,6 +42,7 @@ pub fn low_rise(from: u8, to: u8) -> bool
 
 // Whether a vertex of a mask, of which bit 0 is vertex `base`, lies strictly inside the segment that rises from `tail` to `head`, two
 // of n vertices. A bit that is none of them counts as nothing.
+// A mask with the vertex of its bit 0, parameters that go together: both are in registers, and the loop takes them apart at once.
 fn hit_among<'a>(
     mask: u64,
     base: usize,
@@ -83,10 +63,8 @@ fn hit_among<'a>(
     while x != 0 {
         let w = base + u64::trailing_zeros(x) as usize;
         let rest = x & (x - 1);
-        if w < n {
-            if inside(ax, ay, bx, by, columns[w], places[4 * w + 2]) {
-                return true;
-            }
+        if w < n && inside(ax, ay, bx, by, columns[w], places[4 * w + 2]) {
+            return true;
         }
         x = rest;
     }
@@ -95,6 +73,7 @@ fn hit_among<'a>(
 
 // Whether a candidate lies strictly inside the segment that rises from vertex `tail` to vertex `head`. The vertices are those that
 // both lists have, the candidates those of them that are in the set of two masks; false where an end is no vertex.
+// Parameters that go together, the masks of a set, and two lists: `in_pair`, `point_of` and `vertex_count` name them one by one.
 fn blocked_among<'a>(
     low: u64,
     high: u64,
@@ -105,39 +84,33 @@ fn blocked_among<'a>(
 ) -> bool
     ensures { Decides result (BlockedAmong (λ w. eqb (in_pair low high w) 1) (point_of columns.now places.now) (vertex_count columns.now places.now) tail head) }
 {
-    let n = vertex_count(columns, places);
-    if n <= tail {
-        return false;
-    }
-    if n <= head {
+    let n = columns.len().min(places.len() / 4);
+    if n <= tail || n <= head {
         return false;
     }
     // Nothing lies strictly between rows next to each other.
     if low_rise(places[4 * tail + 2], places[4 * head + 2]) {
         return false;
     }
-    if hit_among(low, 0, columns, places, n, tail, head) {
-        return true;
-    }
-    hit_among(high, 64, columns, places, n, tail, head)
+    hit_among(low, 0, columns, places, n, tail, head)
+        || hit_among(high, 64, columns, places, n, tail, head)
 }
 
 // One bend in a row, beside column x on the side of column z; straight where the columns are equal.
 fn bend_beside(x: u16, z: u16, row: u8) -> Course
     ensures { result ≡ bend_beside x z row }
 {
-    if x < z {
-        return Course::Bent(x + BEND_OFFSET, row);
+    match x.cmp(&z) {
+        Ordering::Less => Course::Bent(x + BEND_OFFSET, row),
+        Ordering::Greater => Course::Bent(x - BEND_OFFSET, row),
+        Ordering::Equal => Course::Straight,
     }
-    if z < x {
-        return Course::Bent(x - BEND_OFFSET, row);
-    }
-    Course::Straight
 }
 
 // The course of the cross edge tail -> head, where only candidates can be in its way: the vertices in the set of two masks. The vertices
 // are those that both lists have; straight where an end is none of them, where the edge does not rise, and where its ends stand in one
 // column.
+// Parameters that go together, as in `blocked_among`.
 pub fn course_among<'a>(
     low: u64,
     high: u64,

@@ -1,5 +1,7 @@
 -- Kinds by their numbers, and the cases of a kind by tables. Assumes nothing.
-use Rattle.counting.proofs.Prelude.{◌≡◌, refl, sym, ap, ◌∙◌, true, false, List, ℕ, ◌+◌, min, eqb, eq-eqb, ne_eqb}
+use Rattle.counting.proofs.Prelude.{◌≡◌, refl, true, false, ◌||◌, List, ℕ, ◌+◌, min, arith, eqb, eq-eqb, ne_eqb}
+use Rattle.std.specs.Int.{abs_diff}
+use native.Mathlib.Decide.{ℕ_discrete}
 use Rattle.counting.specs.Quads.{quad}
 use Rattle.specification.specs.Bundles.{adjacent?}
 use Rattle.geometry.specs.Segment.{point_of, vertex_count}
@@ -8,7 +10,6 @@ use Rattle.specification.specs.Chart.{crossing}
 use Rattle.specification.specs.declared.Kind.{Kind}
 use Rattle.specification.specs.declared.Kind.TheVariants.{Path, PathTransitive, Straight, Bent}
 use Rattle.specification.specs.declared.Course.{Course}
-use Rattle.specification.specs.declared.Code.{Code}
 use Rattle.kinds.specs.Codes.{kind_of}
 use Rattle.specification.specs.Numbers.{code_of}
 use Rattle.kinds.specs.Kinds.{kind_in, candidate?, kind_among}
@@ -21,15 +22,20 @@ kind_coded (PathTransitive b) = refl
 kind_coded Straight = refl
 kind_coded (Bent b) = refl
 
--- ---- neighbours
+-- ---- neighbours are one apart
 
-pub next-adjacent : (p q : ℕ) → p + 1 ≡ q → adjacent? p q ≡ true
+pub one_apart : (p q : ℕ) → abs_diff p q ≡ 1 → adjacent? p q ≡ true
 unfolding adjacent?
-next-adjacent p q e = rw (eq-eqb (p + 1) q e) refl
+one_apart p q e = go (ℕ_discrete (p + 1) q)
+  where
+    go : Dec (p + 1 ≡ q) → (eqb (p + 1) q || eqb (q + 1) p) ≡ true
+    go (yes h) = rw (eq-eqb (p + 1) q h) refl
+    go (no ne) = rw (ne_eqb (p + 1) q ne, eq-eqb (q + 1) p (omega (arith, e, ne))) refl
 
-pub else_adjacent : (p q : ℕ) → (p + 1 ≡ q → ⊥) → adjacent? p q ≡ eqb (q + 1) p
+pub not_one_apart : (p q : ℕ) → (abs_diff p q ≡ 1 → ⊥) → adjacent? p q ≡ false
 unfolding adjacent?
-else_adjacent p q e = rw (ne_eqb (p + 1) q e) refl
+not_one_apart p q ne =
+    rw (ne_eqb (p + 1) q (λ h. ne (omega (arith, h))), ne_eqb (q + 1) p (λ h. ne (omega (arith, h)))) refl
 
 -- ---- the three cases
 
@@ -43,28 +49,17 @@ module _ (c d p q into out_of : ℕ) (columns places below left : List ℕ) (u v
       course_among (candidate? below left (quad 2 places u) (quad 2 places v) c d) (point_of columns places) (vertex_count columns places)
       u v
 
-  between-path : c ≡ d → adjacent? p q ≡ true → kind ≡ Path
+  pub between-path : c ≡ d → adjacent? p q ≡ true → kind ≡ Path
   unfolding kind_among
   between-path e a = rw (eq-eqb c d e) (rw a refl)
 
-  between_bundle : c ≡ d → adjacent? p q ≡ false → kind ≡ PathTransitive (min into out_of)
+  pub between_bundle : c ≡ d → adjacent? p q ≡ false → kind ≡ PathTransitive (min into out_of)
   unfolding kind_among
   between_bundle e a = rw (eq-eqb c d e) (rw a refl)
 
   pub between_across : (c ≡ d → ⊥) → kind ≡ crossing course
   unfolding kind_among
   between_across e = rw (ne_eqb c d e) refl
-
-  pub code_path : c ≡ d → adjacent? p q ≡ true → record { code = 0; value = 0; row = 0 } ≡ code_of kind
-  unfolding code_of
-  code_path e a = ap code_of (sym (between-path e a))
-
-  pub code_bundle : (r : ℕ) → r ≡ min into out_of → c ≡ d → adjacent? p q ≡ false → record { code = 1; value = r; row = 0 } ≡ code_of kind
-  unfolding code_of
-  code_bundle r er e a = ap (λ x. record { code = 1; value = x; row = 0 }) er ∙ ap code_of (sym (between_bundle e a))
-
-  pub code_across : (x : Course) (r : Code) → r ≡ code_of (crossing x) → x ≡ course → (c ≡ d → ⊥) → r ≡ code_of kind
-  code_across x r er ex ne = er ∙ ap (λ y. code_of (crossing y)) ex ∙ ap code_of (sym (between_across ne))
 
   -- ---- and with every vertex in place of the candidates
 

@@ -2,76 +2,27 @@
 // few vertices whose row and channel are strictly between those of its ends. An entry that a list lacks counts as 0.
 #![tactic(auto)]
 
-ghost use Rattle.std.specs.Prelude.{◌≡◌, ◌<◌, min, max, get_or};
+ghost use Rattle.std.specs.Prelude.{◌≡◌, get_or};
 ghost use Rattle.counting.specs.Quads.{quad};
 ghost use Rattle.geometry.specs.Segment.{point_of, vertex_count};
 ghost use Rattle.specification.specs.Geometry.{course_among};
-ghost use Rattle.specification.specs.Bundles.{adjacent?};
-ghost use Rattle.specification.specs.Chart.{crossing};
-ghost use Rattle.specification.specs.Numbers.{code_of};
 ghost use Rattle.kinds.specs.Kinds.{candidate?, kind_among};
-ghost use Rattle.kinds.specs.Steps.{between};
+ghost use Rattle.kinds.specs.Steps.{less};
 
-use specification::{Code, Course};
-
-// A byte as a usize.
-fn wide(x: u8) -> usize
-    ensures { (result ≡ x) × (result < 256) }
-{
-    x as usize
-}
-
-fn least(a: usize, b: usize) -> usize
-    ensures { result ≡ min a b }
-{
-    if a < b {
-        return a;
-    }
-    b
-}
-
-fn largest(a: usize, b: usize) -> usize
-    ensures { result ≡ max a b }
-{
-    if a < b {
-        return b;
-    }
-    a
-}
+use specification::{Bend, Course, Kind};
 
 // The row of v, the third of its four bytes; 0 past the list's end.
 fn row_at(places: &[u8], v: u8) -> u8
     ensures { result ≡ quad 2 places.now v }
 {
-    let i = 4 * wide(v) + 2;
-    if i < places.len() {
-        return places[i];
-    }
-    0
+    places.get(4 * v as usize + 2).copied().unwrap_or(0)
 }
 
-// Entry i of a list, 0 past its end.
-fn mask_at(list: &[u64], i: usize) -> u64
-    ensures { result ≡ get_or list.now i 0 }
+// One mask of the vertices that a set of a table has and another of it lacks, by the numbers of the sets' masks.
+fn less(sets: &[u64], more: usize, fewer: usize) -> u64
+    ensures { result ≡ less (get_or sets.now more 0) (get_or sets.now fewer 0) }
 {
-    if i < list.len() {
-        return list[i];
-    }
-    0
-}
-
-// One mask of the vertices that a set of each table has and another lacks, by the numbers of the sets' masks.
-fn inner<'a>(
-    below: &'a [u64],
-    left: &'a [u64],
-    high: usize,
-    low: usize,
-    to: usize,
-    from: usize,
-) -> u64
-    ensures { result ≡ between (get_or below.now high 0) (get_or below.now low 0) (get_or left.now to 0) (get_or left.now from 0) }
-{
-    (mask_at(below, high) & !mask_at(below, low)) & (mask_at(left, to) & !mask_at(left, from))
+    sets.get(more).copied().unwrap_or(0) & !sets.get(fewer).copied().unwrap_or(0)
 }
 
 // The course of the edge u -> v from channel c to channel d, by the sets of the vertices below each row and left of each channel.
@@ -93,59 +44,21 @@ fn course_between<'a>(
     if geometry::low_rise(a, b) {
         return Course::Straight;
     }
-    let p = wide(c);
-    let q = wide(d);
-    let to = 2 * largest(p, q);
-    let from = 2 * (least(p, q) + 1);
+    let to = 2 * c.max(d) as usize;
+    let from = 2 * (c.min(d) as usize + 1);
     if to == from {
         return Course::Straight;
     }
-    let high = 2 * wide(b);
-    let low = 2 * (wide(a) + 1);
-    let first = inner(below, left, high, low, to, from);
-    let second = inner(below, left, high + 1, low + 1, to + 1, from + 1);
-    geometry::course_among(first, second, columns, places, wide(u), wide(v))
+    let high = 2 * b as usize;
+    let low = 2 * (a as usize + 1);
+    let first = less(below, high, low) & less(left, to, from);
+    let second = less(below, high + 1, low + 1) & less(left, to + 1, from + 1);
+    geometry::course_among(first, second, columns, places, u as usize, v as usize)
 }
 
-// Whether positions are next to each other.
-fn adjacent(p: u8, q: u8) -> bool
-    ensures { result ≡ adjacent? p q }
-{
-    if wide(p) + 1 == wide(q) {
-        return true;
-    }
-    wide(q) + 1 == wide(p)
-}
-
-fn lesser(a: u16, b: u16) -> u16
-    ensures { result ≡ min a b }
-{
-    if a < b {
-        return a;
-    }
-    b
-}
-
-// The code of an edge across channels.
-fn crossed(c: Course) -> Code
-    ensures { result ≡ code_of (crossing c) }
-{
-    match c {
-        Course::Straight => Code {
-            code: 2,
-            value: 0,
-            row: 0,
-        },
-        Course::Bent(column, row) => Code {
-            code: 3,
-            value: column,
-            row,
-        },
-    }
-}
-
-// The code of the edge u -> v from channel c and position p to channel d and position q, by the numbers of the bundles of the edges
+// The kind of the edge u -> v from channel c and position p to channel d and position q, by the numbers of the bundles of the edges
 // into v and out of u, by columns and places, and by the sets of the vertices below each row and left of each channel.
+// Parameters that travel together: those of `kind_among`, in its order.
 pub fn kind_of<'a>(
     c: u8,
     d: u8,
@@ -159,22 +72,17 @@ pub fn kind_of<'a>(
     left: &'a [u64],
     u: u8,
     v: u8,
-) -> Code
-    ensures { result ≡ code_of (kind_among c d p q into out_of columns.now places.now below.now left.now u v) }
+) -> Kind
+    ensures { result ≡ kind_among c d p q into out_of columns.now places.now below.now left.now u v }
 {
     if c == d {
-        if adjacent(p, q) {
-            return Code {
-                code: 0,
-                value: 0,
-                row: 0,
-            };
+        if p.abs_diff(q) == 1 {
+            return Kind::Path;
         }
-        return Code {
-            code: 1,
-            value: lesser(into, out_of),
-            row: 0,
-        };
+        return Kind::PathTransitive(into.min(out_of));
     }
-    crossed(course_between(below, left, c, d, columns, places, u, v))
+    match course_between(below, left, c, d, columns, places, u, v) {
+        Course::Straight => Kind::Straight,
+        Course::Bent(column, row) => Kind::Bent(Bend { column, row }),
+    }
 }

@@ -1,9 +1,9 @@
 -- A whole number below 2 ^ 24 times 0.25 is that number of quarters, exactly. Assumes nothing.
-use Rattle.counting.proofs.Prelude.{◌≡◌, refl, sym, ap, ◌∙◌, Bool, false, ℕ, ◌*◌, ◌^◌, ◌<◌, arith, T, le→leb, lit≤}
+use Rattle.counting.proofs.Prelude.{◌≡◌, refl, sym, ap, ◌∙◌, Bool, false, ℕ, ◌*◌, ◌^◌, ◌<◌, arith, lit≤}
 use native.Mathlib.Nat.{mul_assoc, lt_of_lt_of_le}
 use lib.Pow.{shl_lt}
 use lib.IntN.{pos, negsuc}
-use lib.Ieee.{Float, nan, inf, fin, binary32, up, down, round, mul, of_int, unlike, of_bits, in_float}
+use lib.Ieee.{Float, nan, inf, fin, binary32, up, down, round, mul, of_int, unlike, of_bits}
 use lib.Ieee.Exact.{HasValue, round_exact}
 use lib.Ieee.Scale.{round_same}
 use lib.Ieee.Back.{round_whole}
@@ -33,11 +33,6 @@ by_quarter (fin s m e) n v =
     ap (λ (t : Bool). round binary32 (unlike t false) (m * up e * 1) (down e * per_point)) v.0
     ∙ round_same binary32 false (m * up e * 1) (down e * per_point) n per_point (omega (arith, down_pos e)) (omega arith)
     (ap (λ (k : ℕ). k * per_point) v.1 ∙ mul_assoc n (down e) per_point)
-
--- the cast loses nothing
-pub casts : (n : ℕ) → n < 2 ^ 24 → T (in_float binary32 (pos n))
-unfolding in_float
-casts n h = le→leb n (2 ^ 24) (omega arith)
 
 -- what the code computes
 pub made : (n : ℕ) → n < 2 ^ 24 → mul binary32 (of_int binary32 (pos n)) (of_bits binary32 1048576000) ≡ to_points n

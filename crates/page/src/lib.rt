@@ -2,7 +2,8 @@
 #![tactic(auto)]
 
 ghost use Rattle.std.specs.Prelude.{◌≡◌, false, [], ◌∷◌, ◌<◌, ◌^◌};
-ghost use Rattle.specification.specs.Page.{to_points, point_of, off_page, Answers};
+ghost use Rattle.specification.specs.Page.{to_points, off_page, Answers};
+ghost use Rattle.page.specs.Places.{place_of};
 
 use specification::{Cell, Point, Polyline};
 
@@ -33,43 +34,45 @@ fn off_page(cell: Cell) -> bool
     (COLUMNS <= cell.column) | (ROWS <= cell.row)
 }
 
-// Where a cell of the page is.
-fn point_at(cell: Cell) -> Point
-    requires { off_page cell ≡ false }
-    ensures { result ≡ point_of cell }
+// Where a cell is, if it is on the page.
+fn point_at(cell: Cell) -> Option<Point>
+    ensures { result ≡ place_of cell }
 {
-    Point {
+    if off_page(cell) {
+        return None;
+    }
+    Some(Point {
         x: quarters(cell.column * COLUMN_PITCH),
         y: quarters(cell.row * ROW_PITCH),
-    }
+    })
 }
 
 // The line from a to b. Like the other two it is off the page where any of its cells is.
 pub fn straight(a: Cell, b: Cell) -> Polyline
     ensures { Answers (a ∷ b ∷ []) result }
 {
-    if off_page(a) | off_page(b) {
-        return Polyline::OffPage;
+    match (point_at(a), point_at(b)) {
+        (Some(a), Some(b)) => Polyline::Straight(a, b),
+        _ => Polyline::OffPage,
     }
-    Polyline::Straight(point_at(a), point_at(b))
 }
 
 // The line from a to c that bends at b.
 pub fn bent(a: Cell, b: Cell, c: Cell) -> Polyline
     ensures { Answers (a ∷ b ∷ c ∷ []) result }
 {
-    if off_page(a) | off_page(b) | off_page(c) {
-        return Polyline::OffPage;
+    match (point_at(a), point_at(b), point_at(c)) {
+        (Some(a), Some(b), Some(c)) => Polyline::Bent(a, b, c),
+        _ => Polyline::OffPage,
     }
-    Polyline::Bent(point_at(a), point_at(b), point_at(c))
 }
 
 // The line from a to d with corners at b and c, in a side column.
 pub fn side(a: Cell, b: Cell, c: Cell, d: Cell) -> Polyline
     ensures { Answers (a ∷ b ∷ c ∷ d ∷ []) result }
 {
-    if off_page(a) | off_page(b) | off_page(c) | off_page(d) {
-        return Polyline::OffPage;
+    match (point_at(a), point_at(b), point_at(c), point_at(d)) {
+        (Some(a), Some(b), Some(c), Some(d)) => Polyline::Side(a, b, c, d),
+        _ => Polyline::OffPage,
     }
-    Polyline::Side(point_at(a), point_at(b), point_at(c), point_at(d))
 }

@@ -1,51 +1,9 @@
-use Rattle.counting.proofs.Prelude.{◌≡◌, refl, sym, ap, ap₂, ◌∙◌, ◌||◌, List, [], ◌∷◌, rules}
-use Rattle.specification.specs.declared.Cell.{Cell}
-use Rattle.specification.specs.Page.{accepted}
-use Rattle.page.proofs.Drawing.{AllOn, test, refuse, clear, draw}
-use Rattle.page.proofs.straight.Lts as lts
-use Rattle.page.proofs.straight.Reads as reads
-use Rattle.page.proofs.straight.Tie as tie
+use Rattle.counting.proofs.Prelude.{refl, sym, ◌∙◌}
+use Rattle.page.proofs.Drawing.{draw}
 use Rattle.page.proofs.straight.Goals as goal
 
-abbrev Start : Type 0
-Start = lts.Start tie.the-claims reads.Pre reads.Post
-
-abbrev After-off_page-2 : Type 0
-After-off_page-2 = lts.After-off_page2 tie.the-claims reads.Pre reads.Post
-
-abbrev Else-off_page : Type 0
-Else-off_page = lts.Else1 tie.the-claims reads.Pre reads.Post
-
--- `page::straight` meets its contract: the test fails where every cell is on the
--- page, and then `point_at` gives its points. Assumes nothing.
-abbrev cells : Start → List Cell
-cells s = s.args.a ∷ s.args.b ∷ []
-
--- the code's test is that of the cells
-tested : (c : After-off_page-2)
-    → test (cells c.before.before)
-    ≡ (c.off_page.result || c.off_page-2.result)
-tested c =
-    sym
-    (ap₂ ◌||◌ c.off_page.ensures
-    c.off_page-2.ensures)
-
-on : (c : Else-off_page) → AllOn (cells c.before.before.before)
-on c =
-    clear (cells c.before.before.before) (tested c.before ∙ c.if-off_page.false)
-
-pub returns-then-off_page : goal.returns-then-off_page
-returns-then-off_page c = refuse _ (tested c.before ∙ c.if-off_page.true)
-
-pub point_at-requires : goal.point_at-requires
-point_at-requires c = let o = on c in search rules
-
-pub point_at-requires-2 : goal.point_at-requires-2
-point_at-requires-2 c = let o = on c.before in search rules
-
-pub returns : goal.returns
-returns c =
-    draw _ (tested c.before.before.before ∙ c.if-off_page.false)
-    (ap accepted
-    (ap₂ ◌∷◌ c.point_at.ensures
-    (ap₂ ◌∷◌ c.point_at-2.ensures refl)))
+-- `page::straight` meets its contract: where each cell has a place, these are the points. Assumes nothing.
+pub returns-in-Some-Some : goal.returns-in-Some-Some
+returns-in-Some-Some c =
+    let w = c.in-Some-Some in
+    draw _ _ _ (sym c.point_at.ensures ∙ w.is-0, (sym c.point_at-2.ensures ∙ w.is-1, tt)) refl
