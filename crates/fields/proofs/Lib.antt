@@ -1,2 +1,3 @@
 pub mod Lining
+pub mod Parting
 pub mod Standing

@@ -1,15 +1,17 @@
 -- The fields of a record that is laid out as it must be lie within it. Assumes nothing.
-use Rattle.counting.proofs.Prelude.{◌≡◌, refl, subst, Bool, true, false, true≢false, List, ℕ, ◌+◌, ◌*◌, ◌/◌, ◌%◌, ◌≤◌, zero-le, arith}
+use Rattle.counting.proofs.Prelude.{◌≡◌, refl, sym, subst, Bool, true, false, true≢false, List, ℕ, ◌+◌, ◌*◌, ◌/◌, ◌%◌, ◌≤◌, zero-le, arith}
 use Rattle.counting.proofs.Prelude.{eqb, leb, length, get_or, take, drop, eqb-true}
+use Rattle.std.specs.Prelude.{Some, None}
 use Rattle.specification.specs.Count.{choose}
-use Rattle.specification.specs.declared.Field.{Field}
-use Rattle.specification.specs.declared.Field.TheVariants.{Found, Missing}
-use Rattle.specification.specs.declared.Fields.{Fields}
-use Rattle.specification.specs.declared.Layout.TheVariants.{Good}
+use Rattle.specification.specs.Layout.{Field, Found, Missing, Fields, Good}
 use Rattle.specification.specs.Limits.{most_bytes}
 use Rattle.specification.specs.Layout.{field_at, lined, bare_fields, lined_fields, floored_fields}
 use Rattle.specification.specs.Layout.{with_floors, after_lines, with_lines, after_edges, with_edges, with_vertices, layout_of}
+use Rattle.specification.specs.Layout.{layout_answer}
 use Rattle.specification.proofs.Placing.{found_inside, bad_good, good_same, chosen}
+use Rattle.specification.proofs.Cases.{same_layout}
+use Rattle.fields.specs.declared.Fields.{Fields as Spans}
+use Rattle.fields.specs.Parts.{start_of, size_of, fields_told, layout_told, Paired, Within}
 
 pub record LaidOut (b : List ℕ) (f : Fields) : Type 0 where
   pub edges : f.edges + 2 * f.count ≤ length b
@@ -83,3 +85,18 @@ module _ (b : List ℕ) (f : Fields) where
   pub layout_good : layout_of b ≡ Good f → LaidOut b f
   unfolding layout_of
   layout_good p = vertices_good (field_at 1 b 0) (chosen (leb (length b) most_bytes) (with_vertices b (field_at 1 b 0)) f p).1
+
+-- the parts that are found lie within the record
+pub record Held (b : List ℕ) (f : Spans) : Type 0 where
+  pub edges : Within b (Some f.edges)
+  pub given : Within b f.given
+  pub floors : Within b f.floors
+
+pub spans_held : (b : List ℕ) (f : Spans) → layout_answer (layout_told (Some f)) ≡ layout_answer (layout_of b) → Paired (Some f) → Held b f
+spans_held b f e p =
+    let h = layout_good b (fields_told f) (sym (same_layout (layout_told (Some f)) (layout_of b) e)) in
+    record {
+      edges = omega (arith, h.edges);
+      given = elim f.given as (λ s. start_of s + size_of s ≤ length b → Within b s) [ None ↦ λ _. tt | Some s ↦ λ w. w ] h.lines;
+      floors = elim f.floors as (λ s. start_of s + size_of s ≤ length b → Within b s) [ None ↦ λ _. tt | Some s ↦ λ w. w ] h.floors;
+    }

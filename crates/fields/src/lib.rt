@@ -1,155 +1,167 @@
-// Where the fields of a record stand (SPECIFICATION.md, 1).
+// Where the fields of a record stand (SPECIFICATION.md, 1), and the graph that they say.
 #![tactic(auto)]
 
-ghost use Rattle.std.specs.Prelude.{◌≡◌, ◌≤◌, ◌<◌, length};
+ghost use Rattle.std.specs.Prelude.{◌≡◌, ◌+◌, ◌/◌, ◌%◌, ◌≤◌, length, take, drop};
 ghost use Rattle.specification.specs.Layout.{field_at, layout_of, layout_answer, lined, with_floors, after_lines, with_lines, with_edges};
+ghost use Rattle.fields.specs.Parts.{field_told, fields_told, layout_told, Within, Paired, Tells, Parted};
 
-use specification::{Field, Fields, Layout};
+use specification::{Graph, Refusal};
+
 // The most bytes of a record.
 const MOST_BYTES: usize = 65535;
 
-// A byte as a usize: asks nothing of the byte, where a cast of an element asks that it fits.
-fn wide(x: u8) -> usize
-    ensures { (result ≡ x) × (result < 256) }
-{
-    x as usize
+// A part of a record: so many bytes, the first of them at `start`.
+#[derive(Clone, Copy)]
+pub struct Span {
+    pub start: usize,
+    pub size: usize,
+}
+
+// How many vertices a record has, and where its fields stand: the edges, two bytes each, the given channels, if any are given, and the
+// floors, if there are any.
+#[derive(Clone, Copy)]
+pub struct Fields {
+    pub vertices: usize,
+    pub edges: Span,
+    pub given: Option<Span>,
+    pub floors: Option<Span>,
 }
 
 // The field with this tag at a place.
-fn field_at(b: &[u8], tag: u8, at: usize) -> Field
+// a bound that stands in four contracts: where a field may begin is no fact of a value that goes along
+#[tactic(auto, unfolding(specification::specs::Layout::field_at, specification::specs::Layout::size_at))]
+fn field_at(b: &[u8], tag: u8, at: usize) -> Option<Span>
     requires { at ≤ 65535 }
-    ensures { result ≡ field_at tag b.now at }
+    ensures told { field_told result ≡ field_at tag b.now at }
+    ensures within { Within b.now result }
 {
-    if b.len() < at + 3 {
-        return Field::Missing;
-    }
-    if b[at] != tag {
-        return Field::Missing;
-    }
-    let size = wide(b[at + 1]) * 256 + wide(b[at + 2]);
     let start = at + 3;
-    if b.len() - start < size {
-        return Field::Missing;
+    if b.len() < start || b[at] != tag {
+        return None;
     }
-    Field::Found { start, size }
+    let size = b[at + 1] as usize * 256 + b[at + 2] as usize;
+    if b.len() - start < size {
+        return None;
+    }
+    Some(Span { start, size })
 }
 
 // Whether bytes are channels, each a length above 0 and so many bytes, ending exactly.
 fn is_lined(b: &[u8]) -> bool
     ensures { result ≡ lined 0 b.now }
 {
-    let mut left: usize = 0;
-    let mut i: usize = 0;
-    while i < b.len() {
-        let next = i + 1;
-        if left == 0 {
-            left = wide(b[i]);
-            if left == 0 {
-                return false;
-            }
-        } else {
+    let mut left: u8 = 0;
+    for &v in b {
+        if left > 0 {
             left -= 1;
+        } else if v > 0 {
+            left = v;
+        } else {
+            return false;
         }
-        i = next;
     }
     left == 0
 }
 
 // Tag 4 at a place: the floors, to the end of the record.
-fn with_floors(b: &[u8], f: Fields, at: usize) -> Layout
-    requires { at ≤ 65535 }
-    ensures { result ≡ with_floors b.now f (field_at 4 b.now at) }
+#[tactic(auto, unfolding(specification::specs::Layout::with_floors))]
+fn with_floors(b: &[u8], fields: Fields, at: usize) -> Option<Fields>
+    requires { (at ≤ 65535) × Paired (Some fields) }
+    ensures { Tells result (with_floors b.now (fields_told fields) (field_at 4 b.now at)) }
 {
-    let field = field_at(b, 4, at);
-    let Field::Found { start, size } = field else {
-        return Layout::Bad;
-    };
-    let end = start + size;
-    if end != b.len() {
-        return Layout::Bad;
+    let floors = field_at(b, 4, at)?;
+    if floors.start + floors.size != b.len() {
+        return None;
     }
-    Layout::Good(Fields {
-        vertices: f.vertices,
-        edges: f.edges,
-        count: f.count,
-        given: f.given,
-        lines: f.lines,
-        size: f.size,
-        floored: true,
-        floors: start,
-        extent: size,
+    Some(Fields {
+        floors: Some(floors),
+        ..fields
     })
 }
 
 // After the given channels: the end of the record, or tag 4.
-fn after_lines(b: &[u8], f: Fields, end: usize) -> Layout
-    requires { end ≤ 65535 }
-    ensures { result ≡ after_lines b.now f end }
+#[tactic(auto, unfolding(specification::specs::Layout::after_lines))]
+fn after_lines(b: &[u8], fields: Fields, end: usize) -> Option<Fields>
+    requires { (end ≤ 65535) × Paired (Some fields) }
+    ensures { Tells result (after_lines b.now (fields_told fields) end) }
 {
     if end == b.len() {
-        return Layout::Good(f);
+        return Some(fields);
     }
-    with_floors(b, f, end)
+    with_floors(b, fields, end)
 }
 
 // Tag 3 at a place: the given channels, and what comes after them. They may be left out.
-fn with_lines(b: &[u8], n: usize, edges: usize, m: usize, at: usize) -> Layout
-    requires { (at ≤ 65535) × (length b.now ≤ 65535) }
-    ensures { result ≡ with_lines b.now n edges m at (field_at 3 b.now at) }
+#[tactic(auto, unfolding(specification::specs::Layout::with_lines))]
+fn with_lines(b: &[u8], vertices: usize, edges: Span, at: usize) -> Option<Fields>
+    requires { (at ≤ 65535) × (length b.now ≤ 65535) × (edges.size % 2 ≡ 0) }
+    ensures { Tells result (with_lines b.now vertices edges.start (edges.size / 2) at (field_at 3 b.now at)) }
 {
-    let mut f = Fields {
-        vertices: n,
+    let given = field_at(b, 3, at);
+    let fields = Fields {
+        vertices,
         edges,
-        count: m,
-        given: false,
-        lines: 0,
-        size: 0,
-        floored: false,
-        floors: 0,
-        extent: 0,
+        given,
+        floors: None,
     };
-    let field = field_at(b, 3, at);
-    let Field::Found { start, size } = field else {
-        return after_lines(b, f, at);
+    let Some(lines) = given else {
+        return after_lines(b, fields, at);
     };
-    let end = start + size;
-    if is_lined(&b[start..end]) {
-        f.given = true;
-        f.lines = start;
-        f.size = size;
-        return after_lines(b, f, end);
+    let end = lines.start + lines.size;
+    if !is_lined(&b[lines.start..end]) {
+        return None;
     }
-    Layout::Bad
+    after_lines(b, fields, end)
 }
 
 // Tag 2 at a place: the edges, two bytes each.
-fn with_edges(b: &[u8], n: usize, at: usize) -> Layout
+#[tactic(auto, unfolding(specification::specs::Layout::with_edges, specification::specs::Layout::after_edges))]
+fn with_edges(b: &[u8], vertices: usize, at: usize) -> Option<Fields>
     requires { (at ≤ 65535) × (length b.now ≤ 65535) }
-    ensures { result ≡ with_edges b.now n (field_at 2 b.now at) }
+    ensures { Tells result (with_edges b.now vertices (field_at 2 b.now at)) }
 {
-    let field = field_at(b, 2, at);
-    let Field::Found { start, size } = field else {
-        return Layout::Bad;
-    };
-    if size % 2 != 0 {
-        return Layout::Bad;
+    let edges = field_at(b, 2, at)?;
+    if edges.size % 2 != 0 {
+        return None;
     }
-    with_lines(b, n, start, size / 2, start + size)
+    with_lines(b, vertices, edges, edges.start + edges.size)
 }
 
-// Where the fields of a record stand, or that they do not stand as they must.
-pub fn layout_of(b: &[u8]) -> Layout
-    ensures { layout_answer result ≡ layout_answer (layout_of b.now) }
+// Where the fields of a record stand, none where they do not stand as they must. The edges have an even number of bytes.
+#[tactic(auto, unfolding(specification::specs::Layout::layout_of, specification::specs::Layout::with_vertices))]
+pub fn layout_of(b: &[u8]) -> Option<Fields>
+    ensures laid { layout_answer (layout_told result) ≡ layout_answer (layout_of b.now) }
+    ensures paired { Paired result }
 {
-    if MOST_BYTES < b.len() {
-        return Layout::Bad;
+    if b.len() > MOST_BYTES {
+        return None;
     }
-    let field = field_at(b, 1, 0);
-    let Field::Found { start, size } = field else {
-        return Layout::Bad;
+    let count = field_at(b, 1, 0)?;
+    if count.size != 1 {
+        return None;
+    }
+    with_edges(b, b[count.start] as usize, count.start + count.size)
+}
+
+// The bytes of a part that lies within the record.
+fn part(b: &[u8], span: Span) -> &[u8]
+    requires { span.start + span.size ≤ length b.now }
+    ensures { result.now ≡ take span.size (drop span.start b.now) }
+{
+    &b[span.start..span.start + span.size]
+}
+
+// The graph that a record says, in the record's own bytes. Refused with 1 where its fields do not stand as they must.
+pub fn graph_of(b: &[u8]) -> Result<Graph<'_>, Refusal>
+    ensures { Parted b.now (layout_of b.now) result }
+{
+    let Some(fields) = layout_of(b) else {
+        return Err(Refusal::Layout);
     };
-    if size != 1 {
-        return Layout::Bad;
-    }
-    with_edges(b, wide(b[start]), start + size)
+    Ok(Graph {
+        vertices: fields.vertices,
+        ends: part(b, fields.edges),
+        given: fields.given.map(|lines| part(b, lines)),
+        floors: fields.floors.map(|floors| part(b, floors)),
+    })
 }

@@ -7,12 +7,11 @@ use Rattle.specification.specs.Sets.{member?, at, has?}
 use Rattle.specification.specs.Connection.{connection}
 use Rattle.specification.specs.declared.Connection.{Connection}
 use Rattle.specification.specs.declared.Connection.TheVariants.{Unreached}
-use Rattle.specification.specs.declared.Reply.{Reply}
+use Rattle.specification.specs.Asked.{Reply}
 use Rattle.specification.specs.Checks.{record_refusal, said, connection_in, Sound}
 use Rattle.specification.specs.Asked.{reply_by, ask_refusal, asked}
 use Rattle.reach.proofs.Connecting.{same_answer}
-use Rattle.record.specs.declared.reading.Judged.{Judged}
-use Rattle.record.specs.Steps.{Judges}
+use Rattle.record.specs.Steps.{Judged, Judges}
 use Rattle.record.proofs.Accepted.{said-passes}
 use Rattle.record.proofs.Soundness.{accepted_sound, sound_edges}
 

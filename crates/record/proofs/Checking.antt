@@ -1,7 +1,10 @@
 -- What the checks of a graph hand over, by what the layers below promise. Assumes nothing.
 use Rattle.counting.proofs.Prelude.{◌≡◌, refl, sym, ap, ◌∙◌, subst, ◌≢◌, Bool, true, false, true≢false, ◌&&◌, List, ℕ, zero, suc, ◌*◌}
 use Rattle.counting.proofs.Prelude.{◌≤◌, ◌<◌}
-use Rattle.counting.proofs.Prelude.{min, arith, leb, length, eq-eqb, ne_eqb}
+use Rattle.counting.proofs.Prelude.{min, arith, leb, length}
+use Rattle.std.specs.Prelude.{Option, Some, None}
+use Rattle.std.specs.Borrow.{Bor}
+use Rattle.specification.specs.Parts.{present?, bytes_of}
 use Rattle.counting.proofs.Sizes.{size-taken, sized}
 use Rattle.specification.specs.Count.{choose}
 use Rattle.specification.specs.Graph.{outsized?, verdict, edge?, tails_of, heads_of, unsized?, size_refusal}
@@ -13,16 +16,14 @@ use Rattle.reach.proofs.Refusing.{accepted-within}
 use Rattle.specification.specs.Connection.{connects}
 use Rattle.reach.specs.Closure.{connection_by}
 use Rattle.reach.proofs.Connecting as connecting
-use Rattle.descent.specs.Promise.{edges_refusal}
+use Rattle.descent.specs.Promise.{Descent, edges_refusal}
 use Rattle.floors.specs.Promise.{Roomy, Raised, Raises}
-use Rattle.descent.specs.declared.Descent.{Descent}
 use Rattle.specification.specs.Sets.{has?}
 use Rattle.channels.specs.Promise.{Answers, Plans, Gives}
 use Rattle.matching.proofs.Beside.{given_none}
-use Rattle.planning.specs.declared.Channels.{Channels}
-use Rattle.record.specs.declared.checks.Checked.{Checked}
-use Rattle.record.specs.Checked.{unchecked_by, channels_by, Tables, Checks}
-use Rattle.record.specs.Steps.{channels_refusal, settled_by}
+use Rattle.planning.specs.Promise.{Channels}
+use Rattle.record.specs.Checked.{Checked, unchecked_by, channels_by, Tables, Checks}
+use Rattle.record.specs.Steps.{channels_refusal}
 use Rattle.record.proofs.Judging.{refused-edges, raised-passes, passes-raised, edges-accepted, bare-refusal, given-refusal}
 use Rattle.record.proofs.Judging.{first-high}
 
@@ -36,6 +37,23 @@ nonempty (suc n) tails heads e z = absurd (omega arith)
 never_none : (t : Bool) (k : ℕ) → k ≢ 0 → choose {A = ℕ} t (λ _. 3) (λ _. k) ≢ 0
 never_none true k h e = let q : ◌≡◌ {A = ℕ} 3 0 = e in absurd (omega arith)
 never_none false k h e = h e
+
+-- ---- the channels, given or planned
+
+module _ (n : ℕ) (e l t : List ℕ) (x : Option (Bor (List ℕ))) (p : List ℕ) (ch : Channels) (p' : List ℕ) where
+  abbrev Laid : Option (Bor (List ℕ)) → Type 0
+  Laid y = Answers n (channels_refusal n e l (present? y) (bytes_of y)) (channels_by n t (present? y) (bytes_of y)) p ch p'
+
+  -- the others are planned by what reaches what
+  pub given_laid : (lines : Bor (List ℕ)) → x ≡ Some lines → Gives n e l t lines.now p ch p' → Laid x
+  unfolding given_lines
+  given_laid lines q a = subst Laid (sym q) a
+
+  pub planned_laid : x ≡ None → Plans n t p ch p' → Laid x
+  unfolding given_lines
+  planned_laid q a = subst Laid (sym q) (subst (λ ls. Answers n (size_refusal n) ls p ch p') (sym (given_none (has? 2 t) n)) a)
+
+-- ---- the whole
 
 module _ (n : ℕ) (ends : List ℕ) (given : Bool) (field : List ℕ) (floored : Bool) (floors e b t l p : List ℕ) (d : Descent)
     (e' b' t' l' p₁ : List ℕ) (promised : Raises n ends floored floors e b t l p d e' b' t' l' p₁) where
@@ -148,7 +166,7 @@ module _ (n : ℕ) (ends : List ℕ) (given : Bool) (field : List ℕ) (floored 
       tables = record { used = d.used; raised = raised; past = promised.sets_past passed }
 
       -- the given channels are refused
-      channels_fail : (r : Checked) → ch.refusal ≢ 0 → r ≡ unchecked_by ch.refusal
+      pub channels_fail : (r : Checked) → ch.refusal ≢ 0 → r ≡ unchecked_by ch.refusal
           → Checks n ends given field floored floors e b t l p r e' b' t' l' p'
       channels_fail r ne made =
           let same : r.refusal ≡ ch.refusal = ap (λ (x : Checked). x.refusal) made in
@@ -165,7 +183,7 @@ module _ (n : ℕ) (ends : List ℕ) (given : Bool) (field : List ℕ) (floored 
             long = long;
           }
 
-      all_pass : (r : Checked) → ch.refusal ≡ 0 → r ≡ record { refusal = 0; used = d.used; channels = ch.count }
+      pub all_pass : (r : Checked) → ch.refusal ≡ 0 → r ≡ record { refusal = 0; used = d.used; channels = ch.count }
           → Checks n ends given field floored floors e b t l p r e' b' t' l' p'
       all_pass r z made =
           subst (λ (x : Checked). Checks n ends given field floored floors e b t l p x e' b' t' l' p') (sym made) (record {
@@ -180,30 +198,3 @@ module _ (n : ℕ) (ends : List ℕ) (given : Bool) (field : List ℕ) (floored 
             past = past;
             long = long;
           })
-
-      settled_when : (k : ℕ) → ch.refusal ≡ k → (r : Checked) → r ≡ settled_by d.used ch
-          → Checks n ends given field floored floors e b t l p r e' b' t' l' p'
-      settled_when zero z r made = all_pass r z (made ∙ simp (eq-eqb ch.refusal 0 z))
-      settled_when (suc k) q r made =
-          let ne : ch.refusal ≢ 0 = λ z. absurd (omega arith) in
-          channels_fail r ne (made ∙ simp (ne_eqb ch.refusal 0 ne))
-
-    settles : (g : Bool) → given ≡ g → (ch : Channels) (p' : List ℕ)
-        → Answers n (channels_refusal n e' l' g field) (channels_by n t' g field) p₁ ch p'
-        → (r : Checked) → r ≡ settled_by d.used ch → Checks n ends given field floored floors e b t l p r e' b' t' l' p'
-    settles g q ch p' lined =
-        settled_when ch p'
-        (subst (λ (x : Bool). Answers n (channels_refusal n e' l' x field) (channels_by n t' x field) p₁ ch p') (sym q) lined)
-        ch.refusal refl
-
-    module _ (ch : Channels) (p' : List ℕ) (r : Checked) (made : r ≡ settled_by d.used ch) where
-      -- channels are given, and the others planned, by what reaches what
-      pub given_settles : given ≡ true → Gives n e' l' t' field p₁ ch p' → Checks n ends given field floored floors e b t l p r e' b' t'
-          l' p'
-      unfolding given_lines
-      given_settles g a = settles true g ch p' a r made
-
-      pub plan_settles : given ≡ false → Plans n t' p₁ ch p' → Checks n ends given field floored floors e b t l p r e' b' t' l' p'
-      unfolding given_lines
-      plan_settles g a =
-          settles false g ch p' (subst (λ ls. Answers n (size_refusal n) ls p₁ ch p') (sym (given_none (has? 2 t') n)) a) r made

@@ -1,5 +1,5 @@
 -- The checks one after the other: by the refusal of the edges and the floors, and then by the given channels. Assumes nothing.
-use Rattle.counting.proofs.Prelude.{◌≡◌, refl, sym, ap, ◌∙◌, ◌≢◌, Bool, true, false, true≢false, ◌&&◌, ◌||◌, List, ℕ, ◌≤◌, ◌<◌, arith}
+use Rattle.counting.proofs.Prelude.{◌≡◌, refl, sym, ap, ◌∙◌, ◌≢◌, Bool, true, false, true≢false, ◌&&◌, ◌||◌, List, ℕ, ◌<◌, arith}
 use Rattle.counting.proofs.Prelude.{eqb, leb, le-leb, lt-leb, ne_eqb}
 use native.Mathlib.Decide.{ℕ_discrete}
 use Rattle.specification.specs.Count.{choose, some}
@@ -150,24 +150,7 @@ module _ (n : ℕ) (tails heads : List ℕ) (field : List ℕ) (floored : Bool) 
       (λ _. choose (broken? (connects (edge? tails heads) n) (lines_of field)) (λ _. 7) (λ _. 0))))) small
       ∙ sym (passed-edges n tails heads true field floored floors passes floors-pass)
 
--- ---- the same, case by case
+-- ---- the same, where k is neither 4 nor 5
 
-module _ (k : ℕ) (given unknown : Bool) where
-  abbrev first : ℕ
-  first = choose ((leb 4 k && leb k 5) && (given && unknown)) (λ _. 3) (λ _. k)
-
-  pub first-low : k < 4 → k ≡ first
-  first-low h = sym (rw (lt-leb 4 k h) refl)
-
-  pub first-high : 5 < k → k ≡ first
-  first-high h = sym (rw (le-leb 4 k (omega arith), lt-leb k 5 h) refl)
-
-  module _ (low : 4 ≤ k) (high : k ≤ 5) where
-    pub first-bare : given ≡ false → k ≡ first
-    first-bare e = sym (rw (le-leb 4 k low, le-leb k 5 high, e) refl)
-
-    pub first_known : given ≡ true → unknown ≡ false → k ≡ first
-    first_known e u = sym (rw (le-leb 4 k low, le-leb k 5 high, e, u) refl)
-
-    pub first-unknown : given ≡ true → unknown ≡ true → 3 ≡ first
-    first-unknown e u = sym (rw (le-leb 4 k low, le-leb k 5 high, e, u) refl)
+pub first-high : (k : ℕ) (given unknown : Bool) → 5 < k → k ≡ choose ((leb 4 k && leb k 5) && (given && unknown)) (λ _. 3) (λ _. k)
+first-high k given unknown h = sym (rw (le-leb 4 k (omega arith), lt-leb k 5 h) refl)

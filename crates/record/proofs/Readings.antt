@@ -1,18 +1,16 @@
 -- What a record says, by whether it is accepted. Assumes nothing.
-use Rattle.counting.proofs.Prelude.{◌≡◌, refl, sym, ap, ◌∙◌, subst, ◌≢◌, ◌↔◌, Bool, List, [], ℕ, ◌+◌, ◌-◌, ◌*◌, ◌<◌, arith, length}
-use Rattle.counting.proofs.Prelude.{take, drop, eq-eqb, ne_eqb}
+use Rattle.counting.proofs.Prelude.{◌≡◌, refl, sym, ap, ◌∙◌, subst, ◌≢◌, ◌↔◌, Bool, List, [], ℕ, ◌<◌, arith, length}
+use Rattle.counting.proofs.Prelude.{eq-eqb, ne_eqb}
 use Rattle.specification.specs.Count.{choose}
 use Rattle.specification.specs.Sets.{at}
-use Rattle.specification.specs.Graph.{tails_of, heads_of, refusal, verdict, outsized?, Reachable, unsized?}
-use Rattle.specification.specs.declared.Fields.{Fields}
-use Rattle.specification.specs.declared.Layout.TheVariants.{Good, Bad}
+use Rattle.specification.specs.Graph.{refusal, verdict, outsized?, Reachable, unsized?}
+use Rattle.specification.specs.Layout.{Fields}
+use Rattle.specification.specs.Layout.{Good, Bad}
 use Rattle.specification.specs.Layout.{layout_of}
-use Rattle.specification.specs.Checks.{Content, content, refusal_of, content_of, nothing, refusal_in, record_refusal, content_in, said}
+use Rattle.specification.specs.Checks.{Content, refusal_of, content_of, nothing, refusal_in, record_refusal, content_in, said}
 use Rattle.masks.proofs.Tables.{at_zeros}
-use Rattle.record.specs.declared.reading.Reading.{Reading}
-use Rattle.record.specs.declared.reading.Judged.{Judged}
-use Rattle.record.specs.Reading.{unread_by, Reads}
-use Rattle.record.specs.Steps.{Judges}
+use Rattle.record.specs.Reading.{Reading, unread_by, Reads}
+use Rattle.record.specs.Steps.{Judged, Judges}
 
 pub refused_says : (b : List ℕ) → (record_refusal b ≡ 0 → ⊥) → said b ≡ nothing
 unfolding said
@@ -30,21 +28,6 @@ pub accepted_says : (b : List ℕ) (f : Fields) → layout_of b ≡ Good f → r
 unfolding said
 accepted_says b f e z =
     ap (λ (t : Bool). choose t (λ _. content_in b (layout_of b)) (λ _. nothing)) (eq-eqb (record_refusal b) 0 z) ∙ ap (content_in b) e
-
--- the parts of the bytes that are lent are those of the content
-pub parts-content : (b : List ℕ) (f : Fields)
-    → content f.vertices (tails_of (take ((f.edges + 2 * f.count) - f.edges) (drop f.edges b)))
-    (heads_of (take ((f.edges + 2 * f.count) - f.edges) (drop f.edges b))) f.given
-    (take ((f.lines + f.size) - f.lines) (drop f.lines b)) f.floored
-    (take ((f.floors + f.extent) - f.floors) (drop f.floors b))
-    ≡ content_of b f
-unfolding content_of
-parts-content b f =
-    rw (
-      (let e : (f.edges + 2 * f.count) - f.edges ≡ 2 * f.count = omega arith in e),
-      (let e : (f.lines + f.size) - f.lines ≡ f.size = omega arith in e),
-      (let e : (f.floors + f.extent) - f.floors ≡ f.extent = omega arith in e),
-    ) refl
 
 -- ---- what reading answers
 
@@ -79,15 +62,6 @@ judged-refused b r e l t a ne n long = record {
   tables = λ z. absurd (ne z);
 }
 
-module _ (b : List ℕ) (j : Judged) (e l t : List ℕ) (judges : Judges b j e l t) (r : Reading) where
-  pub read-refused : j.refusal ≢ 0 → r ≡ unread_by j.refusal → Reads b r
-  read-refused ne q = unread_reads b j.refusal r (sym judges.answer) ne q
-
-  pub read-passed : j.refusal ≡ 0 → r ≡ record { refusal = 0; vertices = j.vertices; table = t } → Reads b r
-  read-passed z q = subst (Reads b) (sym q) (record {
-    answer = sym z ∙ judges.answer;
-    vertices = judges.vertices;
-    masks = judges.long;
-    bits = (judges.tables z).bits;
-    none = λ h. absurd (h refl);
-  })
+pub read-refused : (b : List ℕ) (j : Judged) (e l t : List ℕ) → Judges b j e l t → (r : Reading) → j.refusal ≢ 0 → r ≡ unread_by j.refusal
+    → Reads b r
+read-refused b j e l t judges r ne q = unread_reads b j.refusal r (sym judges.answer) ne q

@@ -10,8 +10,8 @@ use Rattle.specification.specs.Checks.{repeated?, unled?, loose_checks}
 use Rattle.specification.specs.Checks.{later_checks, first_of, refusal_of, content_of, refusal_in, record_refusal, given_line, Sized}
 use Rattle.specification.specs.Checks.{EndsKnown, GivenKnown, Distinct, Acyclic, Leads, Once, Led, Sound, SoundRecord}
 use Rattle.specification.specs.Connection.{connection_number, leading?, Means}
-use Rattle.specification.specs.declared.Layout.{Layout}
-use Rattle.specification.specs.declared.Layout.TheVariants.{Good, Bad}
+use Rattle.specification.specs.Layout.{Layout}
+use Rattle.specification.specs.Layout.{Good, Bad}
 use Rattle.specification.specs.Layout.{layout_of}
 use Rattle.counting.proofs.Falsity.{not-true, neither}
 use Rattle.counting.proofs.Truth.{lt-or-le, and_intro, and_elim, or_neither}
@@ -21,8 +21,7 @@ use Rattle.reach.proofs.Decide.{reachable_decided}
 use Rattle.reach.proofs.Routes.{begins_below}
 use Rattle.reach.proofs.Connecting.{graph_means, means_leading}
 use Rattle.channels.proofs.Checks.{unknown-within, repeats_once, once_repeats, broken_linked}
-use Rattle.record.specs.declared.reading.Reading.{Reading}
-use Rattle.record.specs.Reading.{Reads}
+use Rattle.record.specs.Reading.{Reading, Reads}
 use Rattle.counting.proofs.Sizes.{sized, outsized_back}
 
 -- ---- none of a list of tests fails

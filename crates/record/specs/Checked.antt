@@ -1,5 +1,5 @@
 -- What the checks of a graph hand over. Assumes nothing.
-use Rattle.std.specs.Prelude.{◌≡◌, ◌≢◌, Bool, true, false, List, [], ℕ, ◌+◌, ◌*◌, ◌≤◌, ◌<◌, length}
+use Rattle.std.specs.Prelude.{◌≡◌, ◌≢◌, Bool, true, false, List, [], ℕ, ◌+◌, ◌*◌, ◌≤◌, ◌<◌, length, Result, Ok, Err}
 use Rattle.counting.specs.Quads.{quad}
 use Rattle.specification.specs.Graph.{tails_of, heads_of}
 use Rattle.descent.specs.Promise.{edges_refusal, Left}
@@ -8,13 +8,26 @@ use Rattle.specification.specs.Sets.{has?}
 use Rattle.specification.specs.Channels.{given_lines}
 use Rattle.specification.specs.Given.{with_given}
 use Rattle.planning.specs.Arranged.{Arranged}
-use Rattle.record.specs.declared.checks.Checked.{Checked}
+use Rattle.specification.specs.declared.Refusal.{Refusal}
+use Rattle.specification.specs.Refusals.{refusal_number}
+use Rattle.record.specs.declared.checks.Checked.{Checked as Counts}
 use Rattle.specification.specs.Checks.{content, unfloored?, floor_at, refusal_of}
 use Rattle.specification.specs.Lent.{Untouched, KeptFrom}
+
+-- why a graph is refused, or 0; how many rows are used, and how many channels there are
+pub record Checked : Type 0 where
+  pub refusal : ℕ
+  pub used : ℕ
+  pub channels : ℕ
 
 -- a refusal with no count
 abbrev pub unchecked_by : ℕ → Checked
 unchecked_by k = record { refusal = k; used = 0; channels = 0 }
+
+-- what a call says
+abbrev pub checked_of : Result Counts Refusal → Checked
+checked_of (Ok r) = record { refusal = 0; used = r.used; channels = r.channels }
+checked_of (Err k) = unchecked_by (refusal_number k)
 
 -- ---- the channels: the given ones, and then those planned by the table t
 

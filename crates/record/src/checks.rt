@@ -3,91 +3,69 @@
 ghost use Rattle.std.specs.Prelude.{◌≡◌, ◌&&◌, leb};
 ghost use Rattle.specification.specs.Count.{choose};
 ghost use Rattle.specification.specs.Channels.{vertices_of, unknown?};
-ghost use Rattle.record.specs.Checked.{unchecked_by, Checks};
-ghost use Rattle.record.specs.Steps.{settled_by};
+ghost use Rattle.specification.specs.Parts.{present?, bytes_of};
+ghost use Rattle.specification.specs.Refusals.{refusal_number};
+ghost use Rattle.planning.specs.Promise.{channels_of};
+ghost use Rattle.channels.specs.Promise.{Answers};
+ghost use Rattle.record.specs.Checked.{channels_by, checked_of, Checks};
+ghost use Rattle.record.specs.Steps.{channels_refusal};
 
 use floors::raised;
-use planning::Channels;
+use specification::{Graph, Refusal};
 
-// Why a graph is refused, or 0; how many rows are used, and how many channels there are. On a refusal both are 0.
+// How many rows are used, and how many channels there are.
 #[derive(Clone, Copy)]
 pub struct Checked {
-    pub refusal: u8,
     pub used: u8,
     pub channels: u8,
 }
 
-fn refused(refusal: u8) -> Checked
-    ensures { result ≡ unchecked_by refusal }
+// The refusal of a graph whose edges or floors are refused: an unknown vertex in the given channels goes before duplicates and cycles.
+fn first_of(refusal: Refusal, g: &Graph) -> Refusal
+    ensures { let k = refusal_number refusal in refusal_number result ≡ choose ((leb 4 k && leb k 5) && (present? g.now.given && unknown? g.now.vertices (vertices_of (bytes_of g.now.given)))) (λ _. 3) (λ _. k) }
 {
-    Checked {
-        refusal,
-        used: 0,
-        channels: 0,
-    }
-}
-
-// The refusal of a graph whose edges or floors are refused with k: an unknown vertex in the given channels goes before duplicates and cycles.
-fn first_of(k: u8, n: usize, given: bool, field: &[u8]) -> u8
-    ensures { result ≡ choose ((leb 4 k && leb k 5) && (given && unknown? n (vertices_of field.now))) (λ _. 3) (λ _. k) }
-{
-    if k < 4 {
-        return k;
-    }
-    if 5 < k {
-        return k;
-    }
-    if given {
-        if channels::unknown(n, field) {
-            return 3;
+    match (refusal, g.given) {
+        (Refusal::Double | Refusal::Ring, Some(lines)) if channels::unknown(g.vertices, lines) => {
+            Refusal::Stranger
         }
-    }
-    k
-}
-
-// The answer where nothing but the channels may still be refused, and so many rows are used.
-fn settled(used: u8, laid: Channels) -> Checked
-    ensures { result ≡ settled_by used laid }
-{
-    if laid.refusal != 0 {
-        return refused(laid.refusal);
-    }
-    Checked {
-        refusal: 0,
-        used,
-        channels: laid.count,
+        _ => refusal,
     }
 }
 
-// The checks of n vertices, the edges whose ends are bytes, tail and head in turn, the given channels in the bytes of their field, and the
-// floors, if there are any of either: the first that fails refuses. The lists get the edges' masks, the sets of vertices by row, what reaches what, what does by
-// two edges or more, and four bytes a vertex: its channel, its position there, its row, and how many vertices it reaches; 8, and nothing
-// changed, where one has too little room.
-pub fn check<'a, 'f, 'g, 'e, 'b, 't, 'l, 'p>(
-    n: usize,
-    ends: &'a [u8],
-    given: bool,
-    field: &'f [u8],
-    floored: bool,
-    floors: &'g [u8],
-    edges: &'e mut [u64],
-    below: &'b mut [u64],
-    table: &'t mut [u64],
-    longer: &'l mut [u64],
-    places: &'p mut [u8],
-) -> Checked
-    ensures { Checks n ends.now given field.now floored floors.now edges.old below.old table.old longer.old places.old result edges.new below.new table.new longer.new places.new }
+// Lays the channels of a graph whose edges are accepted, the given ones first, and says how many there are.
+fn laid(
+    g: &Graph,
+    edges: &[u64],
+    longer: &[u64],
+    table: &[u64],
+    places: &mut [u8],
+) -> Result<u8, Refusal>
+    ensures { Answers g.now.vertices (channels_refusal g.now.vertices edges.now longer.now (present? g.now.given) (bytes_of g.now.given)) (channels_by g.now.vertices table.now (present? g.now.given) (bytes_of g.now.given)) places.old (channels_of result) places.new }
 {
-    let d = raised(
-        n, ends, floored, floors, edges, below, table, longer, places,
-    );
-    if d.refusal != 0 {
-        return refused(first_of(d.refusal, n, given, field));
+    match g.given {
+        Some(lines) => channels::given(g.vertices, edges, longer, table, lines, places),
+        None => channels::plan(g.vertices, table, places),
     }
-    if given {
-        let laid = channels::given(n, edges, longer, table, field, places);
-        return settled(d.used, laid);
-    }
-    let laid = channels::plan(n, table, places);
-    settled(d.used, laid)
+}
+
+// The checks of a graph: the first that fails refuses. The lists get the edges' masks, the sets of vertices by row, what reaches what, what
+// does by two edges or more, and four bytes a vertex: its channel, its position there, its row, and how many vertices it reaches; refused as
+// `Short`, and nothing changed, where one has too little room.
+// Parameters that travel together: no struct of the lists, as in chart_plan::planned.
+pub fn check(
+    g: &Graph,
+    edges: &mut [u64],
+    below: &mut [u64],
+    table: &mut [u64],
+    longer: &mut [u64],
+    places: &mut [u8],
+) -> Result<Checked, Refusal>
+    ensures { Checks g.now.vertices g.now.ends.now (present? g.now.given) (bytes_of g.now.given) (present? g.now.floors) (bytes_of g.now.floors) edges.old below.old table.old longer.old places.old (checked_of result) edges.new below.new table.new longer.new places.new }
+{
+    let used = match raised(g, edges, below, table, longer, places) {
+        Ok(used) => used,
+        Err(refusal) => return Err(first_of(refusal, g)),
+    };
+    let channels = laid(g, edges, longer, table, places)?;
+    Ok(Checked { used, channels })
 }

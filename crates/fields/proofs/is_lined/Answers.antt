@@ -1,36 +1,24 @@
-use Rattle.counting.proofs.Prelude.{refl, sym, ap, ◌∙◌, ℕ, ◌+◌, zero-le, arith, drop}
+use Rattle.counting.proofs.Prelude.{sym, ap, ◌∙◌, ℕ, ◌+◌, arith, drop}
 use Rattle.specification.specs.Layout.{lined}
-use Rattle.fields.proofs.Lining.{lined-empty, lined-begins, lined_goes, lined-ends}
+use Rattle.fields.proofs.Lining.{lined_goes, lined_begins, lined_empty, lined_ends}
 use Rattle.fields.proofs.is_lined.Goals as goal
+use Rattle.fields.proofs.is_lined.Goals.{then-left-gt0, else-left-gt0+then-v-gt0}
 
-pub loop-i-init : goal.loop-i-init
-loop-i-init c = (zero-le, omega arith, refl)
+pub returns-else-v-gt0 : goal.returns-else-v-gt0
+returns-else-v-gt0 c =
+    let l = c.loop-v in sym (lined_empty l.left _ l.v-index c.loop-v-test.true c.if-left-gt0.false c.if-v-gt0.false) ∙ l.invariant
 
-pub returns-then-left-eq0-2 : goal.returns-then-left-eq0-2
-returns-then-left-eq0-2 c =
-    let b = c.args.b.now in
-    let l = c.loop-i in
-    sym (sym l.invariant.2 ∙ ap (λ (k : ℕ). lined k (drop l.i b)) c.if-left-eq0.true
-    ∙ lined-empty b l.i c.loop-i-test.true (sym c.wide-left.ensures.0 ∙ c.if-left-eq0-2.true))
-
-pub loop-i-preserved-else-left-eq0-2 : goal.loop-i-preserved-else-left-eq0-2
-loop-i-preserved-else-left-eq0-2 c =
-    let b = c.args.b.now in
-    let l = c.loop-i in
-    let h = c.loop-i-test.true in (
-      omega arith,
-      c.wide-left.ensures.1,
-      ap (λ (k : ℕ). lined k (drop (l.i + 1) b)) c.wide-left.ensures.0
-          ∙ sym (lined-begins b l.i h (λ e. c.if-left-eq0-2.false (c.wide-left.ensures.0 ∙ e)))
-          ∙ ap (λ (k : ℕ). lined k (drop l.i b)) (sym c.if-left-eq0.true) ∙ l.invariant.2,
-    )
-
-pub loop-i-preserved : goal.loop-i-preserved
-loop-i-preserved c =
-    let b = c.args.b.now in
-    let l = c.loop-i in
-    (omega arith, omega arith, sym (lined_goes l.left b l.i c.loop-i-test.true c.if-left-eq0.false) ∙ l.invariant.2)
+pub loop-v-preserved : goal.loop-v-preserved
+loop-v-preserved c =
+    let l = c.loop-v in
+    let rest = drop (l.v-index + 1) c.args.b.now in
+    elim c.if-left-gt0.branch [
+      | then-left-gt0 w ↦
+          ap (λ (k : ℕ). lined k rest) w.left-is ∙ sym (lined_goes l.left _ l.v-index c.loop-v-test.true w.if-left-gt0.true) ∙ l.invariant
+      | else-left-gt0+then-v-gt0 w ↦
+          ap (λ (k : ℕ). lined k rest) w.left-is
+          ∙ sym (lined_begins l.left _ l.v-index c.loop-v-test.true w.if-left-gt0.false w.if-v-gt0.true) ∙ l.invariant
+    ]
 
 pub returns : goal.returns
-returns c =
-    sym (lined-ends c.loop-i.left c.args.b.now c.loop-i.i (omega arith)) ∙ c.loop-i.invariant.2
+returns c = let l = c.loop-v in sym (lined_ends l.left _ l.v-index (omega arith)) ∙ l.invariant

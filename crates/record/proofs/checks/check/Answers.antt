@@ -1,20 +1,26 @@
-use Rattle.record.proofs.Checking.{edges_fail, given_settles, plan_settles}
+use Rattle.counting.proofs.Prelude.{refl}
+use Rattle.std.proofs.lemmas.Result.{err_from_is_err_and}
+use Rattle.specification.proofs.Cases.{refusal_numbered}
+use Rattle.specification.specs.Parts.{present?, bytes_of}
+use Rattle.record.proofs.Checking.{edges_fail, channels_fail, all_pass}
 use Rattle.record.proofs.checks.check.Goals as goal
 
-pub returns-then-d-ne0 : goal.returns-then-d-ne0
-returns-then-d-ne0 c =
-    let a = c.args in
-    edges_fail _ _ a.given a.field.now a.floored a.floors.now _ _ _ _ _ _ _ _ _ _ _ c.raised-d.ensures _ _ c.if-d-ne0.true
-    c.first_of.ensures c.refused.ensures
+pub returns-in-Err : goal.returns-in-Err
+returns-in-Err c =
+    let g = c.args.g.now in
+    edges_fail _ _ (present? g.given) (bytes_of g.given) _ _ _ _ _ _ _ _ _ _ _ _ _ c.in-Err.ensures _ _ (refusal_numbered _)
+    c.first_of.ensures refl
 
-pub returns-then-given : goal.returns-then-given
-returns-then-given c =
-    let a = c.args in
-    given_settles _ _ a.given a.field.now a.floored a.floors.now _ _ _ _ _ _ _ _ _ _ _ c.raised-d.ensures c.if-d-ne0.false
-    _ _ _ c.settled.ensures c.if-given.true c.given-laid.ensures
+pub returns-in_err-channels : goal.returns-in_err-channels
+returns-in_err-channels c =
+    let g = c.args.g.now in
+    let p = err_from_is_err_and c.from_residual.result c.from_residual.ensures.1 in
+    rw (p.1, p.2)
+    (channels_fail _ _ (present? g.given) (bytes_of g.given) _ _ _ _ _ _ _ _ _ _ _ _ _ c.in-Ok.ensures refl _ _
+    c.in_err-channels.ensures _ (refusal_numbered _) refl)
 
 pub returns : goal.returns
 returns c =
-    let a = c.args in
-    plan_settles _ _ a.given a.field.now a.floored a.floors.now _ _ _ _ _ _ _ _ _ _ _ c.raised-d.ensures c.if-d-ne0.false
-    _ _ _ c.settled-2.ensures c.if-given.false c.plan-laid.ensures
+    let g = c.args.g.now in
+    all_pass _ _ (present? g.given) (bytes_of g.given) _ _ _ _ _ _ _ _ _ _ _ _ _ c.in-Ok.ensures refl _ _ c.in_ok-channels.ensures _ refl
+    refl

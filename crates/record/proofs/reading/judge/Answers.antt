@@ -1,43 +1,19 @@
-use Rattle.counting.proofs.Prelude.{refl, sym, arith}
-use Rattle.specification.proofs.Cases.{case_layout}
-use Rattle.fields.proofs.Standing.{layout_good}
-use Rattle.record.proofs.Readings.{bad_refusal, judged-refused}
-use Rattle.record.proofs.Handing.{judge-refused, judge-passed}
+use Rattle.counting.proofs.Prelude.{refl}
+use Rattle.std.proofs.lemmas.Result.{err_from_is_err_and}
+use Rattle.specification.proofs.Cases.{refusal_numbered}
+use Rattle.record.proofs.Handing.{judge_bad, judge_refused, judge_passed}
 use Rattle.record.proofs.reading.judge.Goals as goal
 
-pub returns-in_default : goal.returns-in_default
-returns-in_default c =
-    let bad = case_layout _ _ _ c.layout_of-layout.ensures c.in_default.is in
-    judged-refused c.args.b.now _ _ _ _ (sym (bad_refusal _ bad)) (λ z. absurd (omega arith)) refl c.requires.2
+pub returns-in_err-graph : goal.returns-in_err-graph
+returns-in_err-graph c =
+    let p = err_from_is_err_and c.from_residual.result c.from_residual.ensures.1 in
+    rw (p.1, p.2) (judge_bad _ _ _ _ _ c.in_err-graph.ensures c.requires.2)
 
--- the fields that were found lie within the record
-pub overflow_mul-to : goal.overflow_mul-to
-overflow_mul-to c = omega (arith, (layout_good _ _ (case_layout _ _ _ c.layout_of-layout.ensures c.in-Good.is)).edges)
-
-pub overflow_add-to : goal.overflow_add-to
-overflow_add-to c = omega (arith, (layout_good _ _ (case_layout _ _ _ c.layout_of-layout.ensures c.in-Good.is)).edges)
-
-pub overflow_add-end : goal.overflow_add-end
-overflow_add-end c = omega (arith, (layout_good _ _ (case_layout _ _ _ c.layout_of-layout.ensures c.in-Good.is)).lines)
-
-pub overflow_add-high : goal.overflow_add-high
-overflow_add-high c = omega (arith, (layout_good _ _ (case_layout _ _ _ c.layout_of-layout.ensures c.in-Good.is)).floors)
-
-pub slice_bounds-check-end : goal.slice_bounds-check-end
-slice_bounds-check-end c = omega (arith, (layout_good _ _ (case_layout _ _ _ c.layout_of-layout.ensures c.in-Good.is)).edges)
-
-pub slice_bounds-check-end-2 : goal.slice_bounds-check-end-2
-slice_bounds-check-end-2 c = omega (arith, (layout_good _ _ (case_layout _ _ _ c.layout_of-layout.ensures c.in-Good.is)).lines)
-
-pub slice_bounds-check-end-3 : goal.slice_bounds-check-end-3
-slice_bounds-check-end-3 c = omega (arith, (layout_good _ _ (case_layout _ _ _ c.layout_of-layout.ensures c.in-Good.is)).floors)
-
-pub returns-then-checked-ne0 : goal.returns-then-checked-ne0
-returns-then-checked-ne0 c =
-    judge-refused _ _ (case_layout _ _ _ c.layout_of-layout.ensures c.in-Good.is) _ _ _ _ _ _ _ _ _
-    c.requires c.check-checked.ensures c.if-checked-ne0.true _ refl refl
+pub returns-in_err-check : goal.returns-in_err-check
+returns-in_err-check c =
+    let p = err_from_is_err_and c.from_residual-in_err-check.result c.from_residual-in_err-check.ensures.1 in
+    rw (p.1, p.2)
+    (judge_refused _ _ c.in_ok-graph.ensures _ _ _ _ _ _ _ _ _ c.requires c.in_err-check.ensures (refusal_numbered _))
 
 pub returns : goal.returns
-returns c =
-    judge-passed _ _ (case_layout _ _ _ c.layout_of-layout.ensures c.in-Good.is) _ _ _ _ _ _ _ _ _
-    c.requires c.check-checked.ensures c.if-checked-ne0.false _ refl refl
+returns c = judge_passed _ _ c.in_ok-graph.ensures _ _ _ _ _ _ _ _ _ c.requires c.in_ok-check.ensures refl

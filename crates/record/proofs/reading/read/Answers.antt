@@ -1,11 +1,11 @@
 use Rattle.counting.proofs.Prelude.{refl}
-use Rattle.record.proofs.Readings.{read-refused, read-passed}
+use Rattle.std.proofs.lemmas.Result.{err_from_is_err_and}
+use Rattle.specification.proofs.Cases.{refusal_numbered}
+use Rattle.record.proofs.Readings.{read-refused}
 use Rattle.record.proofs.reading.read.Goals as goal
 
 -- `record::reading::read` meets its contract, by what is judged (`Readings.antt`). Assumes nothing.
-pub returns-then-judged-ne0 : goal.returns-then-judged-ne0
-returns-then-judged-ne0 c =
-    read-refused _ _ _ _ _ c.judge-judged.ensures _ c.if-judged-ne0.true c.unread.ensures
-
-pub returns : goal.returns
-returns c = read-passed _ _ _ _ _ c.judge-judged.ensures _ c.if-judged-ne0.false refl
+pub returns-in_err-vertices : goal.returns-in_err-vertices
+returns-in_err-vertices c =
+    let p = err_from_is_err_and c.from_residual.result c.from_residual.ensures.1 in
+    rw (p.1, p.2) (read-refused _ _ _ _ _ c.in_err-vertices.ensures _ (refusal_numbered _) refl)
