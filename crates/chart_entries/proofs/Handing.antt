@@ -2,7 +2,8 @@
 use Rattle.counting.proofs.Prelude.{◌≡◌, sym, ap, subst, ◌∙◌, Bool, List, ℕ, ◌≤◌, arith, length}
 use native.Mathlib.Nat.{mul-one, div-one}
 use Rattle.lists.specs.Marking.{Marking}
-use Rattle.lists.proofs.Marking.{entries_legible, after_same, marking, marked-filled, marked_reduced}
+use Rattle.counting.proofs.Stores.{filled_none}
+use Rattle.lists.proofs.Marking.{after_none, entries_legible, after_same, marking, marked-filled, marked_reduced}
 use Rattle.lists.proofs.Written.{refilled}
 use Rattle.specification.specs.Lent.{Filled}
 use Rattle.specification.specs.Pass.{as_entries, state, after}
@@ -12,12 +13,12 @@ use Rattle.specification.specs.Numbers.{arrow_number}
 use Rattle.specification.specs.declared.VertexEntry.{VertexEntry}
 use Rattle.specification.specs.declared.EdgeEntry.{EdgeEntry}
 use Rattle.specification.specs.declared.BundleEntry.{BundleEntry}
-use Rattle.specification.specs.Drawn.{Drawn, graph_drawn, record_drawn}
-use Rattle.chart_entries.specs.declared.Sheet.{Sheet}
+use Rattle.specification.specs.Drawn.{Drawn, graph_drawn}
+use Rattle.chart_entries.specs.Steps.Sheet.{Sheet, blank_of}
 use Rattle.specification.specs.declared.ChartCounts.{ChartCounts}
 use Rattle.chart_entries.specs.Promise.{HandedOver}
 use Rattle.chart_entries.specs.Steps.Entries.{edge_at}
-use Rattle.chart_entries.specs.Steps.Sheets.{Tables, SheetOf, GraphSheet, RecordSheet, ends_of, floors_if, floors_of, Leaves}
+use Rattle.chart_entries.specs.Steps.Sheets.{Tables, SheetOf, GraphSheet, floors_if, summary_of, Leaves}
 
 -- THE PASS over the edges, by what `fill_edges` promises: the states are the chart's
 passed : (c : Content) (p : Plan) (ends floors : List ℕ) (d : Sheet) → Tables c p ends floors d → (es es' : List EdgeEntry) (x : ℕ)
@@ -68,9 +69,14 @@ module _ (vs vs' : List VertexEntry) (es es' : List EdgeEntry) (bs bs' : List Bu
       handed (graph_drawn n ends given field floored floors) ends (floors_if floored floors) s
       (subst (λ (l : List ℕ). Leaves d ends l vs es bs r vs' es' bs') is h)
 
-  pub of_record : (bytes ends floors : List ℕ) → RecordSheet bytes (length vs) (length es) (length bs) d → ends ≡ ends_of bytes
-      → floors ≡ floors_of bytes → Leaves d ends floors vs es bs r vs' es' bs' → HandedOver (record_drawn bytes) vs es bs r vs' es' bs'
-  of_record bytes ends floors s is are h =
-      handed (record_drawn bytes) (ends_of bytes) (floors_of bytes) s
-      (subst (λ (l : List ℕ). Leaves d (ends_of bytes) l vs es bs r vs' es' bs') are
-      (subst (λ (l : List ℕ). Leaves d l floors vs es bs r vs' es' bs') is h))
+  -- a refusal leaves the lists as they were
+  pub refused_handed : (x : Drawn) (ends floors : List ℕ) (k : ℕ) → d ≡ blank_of k
+      → SheetOf x ends floors (length vs) (length es) (length bs) d
+      → r ≡ summary_of (blank_of k) 0 → vs' ≡ vs → es' ≡ es → bs' ≡ bs → HandedOver x vs es bs r vs' es' bs'
+  refused_handed x ends floors k b s h v e w = handed x ends floors s (rw (b, v, e, w) (record {
+    reduced = 0;
+    answer = h;
+    vertices = filled_none _ _;
+    edges = after_none as_entries _ _;
+    bundles = filled_none _ _;
+  }))

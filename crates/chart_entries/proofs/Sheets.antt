@@ -1,62 +1,25 @@
 -- What a sheet has: the entries of the chart, over a plan's tables, or none. Cites drawing's laws. Assumes nothing.
-use Rattle.counting.proofs.Prelude.{◌≡◌, refl, sym, ap, ap₂, subst, ◌∙◌, Bool, true, false, List, ℕ, ◌+◌, ◌-◌, ◌*◌, ◌/◌, ◌<◌, ◌≤◌}
-use Rattle.counting.proofs.Prelude.{min, arith, ltb, length, get_or, take, drop, replicate, ltb-false}
-use Rattle.counting.proofs.Truth.{or_neither}
+use Rattle.counting.proofs.Prelude.{◌≡◌, refl, sym, ap, ap₂, subst, ◌∙◌, Bool, true, false, List, ℕ, ◌+◌, ◌*◌, ◌/◌, ◌<◌, ◌≤◌}
+use Rattle.counting.proofs.Prelude.{min, arith, ltb, length, get_or, take, replicate, lt-ltb, le-ltb, ◌||◌}
 use Rattle.counting.specs.Quads.{quad}
 use Rattle.counting.proofs.Zeros.{zeros}
 use Rattle.specification.specs.Checks.{Content, edges_of, floor_at, nothing}
-use Rattle.specification.specs.Layout.{layout_of}
-use Rattle.specification.specs.declared.Fields.{Fields}
-use Rattle.specification.specs.declared.Layout.TheVariants.{Good, Bad}
 use Rattle.specification.specs.Chart.{plan_of, tail_of, head_of, floor_of, kind_between, transitive_edge?, vertex_entry, edge_entry}
 use Rattle.specification.specs.Chart.{bundle_entry}
 use Rattle.specification.specs.declared.Kind.{Kind}
-use Rattle.specification.specs.declared.VertexEntry.{VertexEntry}
 use Rattle.specification.specs.Drawn.{chart_refusal, Drawn, graph_content, graph_drawn, short?, lent, refused_by}
 use Rattle.reach.proofs.Ends.{tail_at, head_at}
-use Rattle.kinds.specs.Codes.{kind_of}
-use Rattle.specification.specs.Numbers.{code_of}
 use Rattle.prefixes.specs.Prefixes.{last_set, Prefixes}
-use Rattle.specification.specs.declared.Code.{Code}
-use Rattle.kinds.proofs.Coding.{kind_coded}
 use Rattle.chart_plan.specs.Laid.{Lists, lists, Roomy, Laid, Plans}
-use Rattle.chart_plan.specs.declared.Plan.{Plan}
+use Rattle.chart_plan.specs.Laid.{Plan}
 use Rattle.chart_plan.proofs.Entries.{edges-counted, small, edges_few, bundles-few, vertex_drawn, bundle_drawn, kind-among, mark-drawn}
-use Rattle.chart_plan.proofs.Judging.{graph_refused, graph_whole, record_good}
+use Rattle.chart_plan.proofs.Judging.{graph_refused, graph_whole}
 use Rattle.chart_plan.proofs.Nothing.{empty}
 use Rattle.reduction.specs.Reduction.{transitive_in?}
 use Rattle.chart_plan.proofs.Shortage.{enough, lent-short, lent-whole}
-use Rattle.fields.proofs.Standing.{layout_good}
-use Rattle.chart_entries.specs.declared.Sheet.{Sheet}
+use Rattle.chart_entries.specs.Steps.Sheet.{Sheet, blank_of}
 use Rattle.chart_entries.specs.Steps.Entries.{vertex_at, kind_by, kind_at, edge_at, bundle_at}
-use Rattle.chart_entries.specs.Steps.Sheets.{blank_of, sheet_of, Drafted, Tables, Room, SheetOf, GraphSheet, RecordSheet, ends_in}
-use Rattle.chart_entries.specs.Steps.Sheets.{too_short?, ends_of, floors_if, floors_in, floors_of}
-
--- ---- the entries of a vertex and of an edge
-
--- from its floor
-pub vertex_made : (d : Sheet) (floors : List ℕ) (v f : ℕ) → f ≡ get_or floors v 0 → ◌≡◌ {A = VertexEntry}
-    (record {
-      channel = quad 0 d.places v;
-      position = quad 1 d.places v;
-      column = get_or d.column v 0;
-      row = quad 2 d.places v;
-      descendants = quad 3 d.places v;
-      floor = f;
-    })
-    (vertex_at d floors v)
-unfolding vertex_at
-vertex_made d floors v f h = rw h refl
-
--- a kind, from its code
-pub kind-made : (k : Code) (x : Kind) → k ≡ code_of x → kind_of k.code k.value k.row ≡ x
-kind-made k x h = ap (λ (y : Code). kind_of y.code y.value y.row) h ∙ kind_coded x
-
--- from its ends, its kind and its mark
-pub edge_made : (d : Sheet) (ends : List ℕ) (e u v : ℕ) (k : Kind) (t : Bool) → u ≡ get_or ends (2 * e) 0 → v ≡ get_or ends (2 * e + 1) 0
-    → k ≡ kind_at d u v → t ≡ transitive_in? d.longer u v → record { number = e; kind = k; transitive = t } ≡ edge_at d ends e
-unfolding edge_at
-edge_made d ends e u v k t hu hv hk ht = rw (hk, ht, hu, hv) refl
+use Rattle.chart_entries.specs.Steps.Sheets.{sheet_of, Drafted, Tables, Room, SheetOf, GraphSheet, floors_if}
 
 -- ---- a refusal
 
@@ -255,8 +218,7 @@ module _ (n : ℕ) (ends : List ℕ) (given : Bool) (field : List ℕ) (floored 
   pub graph_unplanned : (p.refusal ≡ 0 → ⊥) → d ≡ blank_of p.refusal → Made
   graph_unplanned ne h = refused-sheet _ _ _ _ _ _ _ _ (graph_refused n ends given field floored floors _ answer ne) h
 
-  -- the test of the lists' lengths, and its outcome
-  module _ (ok : p.refusal ≡ 0) (r : Bool) (test : r ≡ too_short? n (length ends / 2) p.bundles v e b) where
+  module _ (ok : p.refusal ≡ 0) where
     abbrev laid : Laid (graph_content n ends given field floored floors) p s
     laid = q.laid ok
 
@@ -264,66 +226,21 @@ module _ (n : ℕ) (ends : List ℕ) (given : Bool) (field : List ℕ) (floored 
         ≡ record { refusal = 0; graph = graph_content n ends given field floored floors }
     drawn-whole = graph_whole n ends given field floored floors (sym ok ∙ answer)
 
-    pub graph_short : r ≡ true → d ≡ blank_of 8 → Made
-    unfolding too_short? short?
+    graph_short : (ltb v n || (ltb e (length ends / 2) || ltb b p.bundles)) ≡ true → d ≡ blank_of 8 → Made
+    unfolding short?
     graph_short h is =
         let z = sizes n ends given field floored floors p s laid drawn-whole in
-        short-sheet _ _ _ _ _ _ _ (rw (z.0, z.1, z.2) (sym test ∙ h)) is
+        short-sheet _ _ _ _ _ _ _ (rw (z.0, z.1, z.2) h) is
 
-    pub graph_drafted : r ≡ false → Drafted n (length ends / 2) p s d → Made
-    unfolding too_short?
-    graph_drafted h w =
-        let a = or_neither (ltb v n) _ (sym test ∙ h) in
-        let k = or_neither (ltb e (length ends / 2)) _ a.1 in
-        whole-sheet n ends given field floored floors p s laid _ w.lefts q.long.used v e b d drawn-whole
-        (ltb-false _ _ a.0) (ltb-false _ _ k.0) (ltb-false _ _ k.1) w.tables
+    pub short_vertices : v < n → d ≡ blank_of 8 → Made
+    short_vertices h = graph_short (rw (lt-ltb _ _ h) refl)
 
--- ---- a record is read part by part
+    pub short_edges : n ≤ v → e < length ends / 2 → d ≡ blank_of 8 → Made
+    short_edges g h = graph_short (rw (le-ltb _ _ g, lt-ltb _ _ h) refl)
 
-module _ (b : List ℕ) where
-  pub ends_bad : layout_of b ≡ Bad → take 0 b ≡ ends_of b
-  unfolding ends_of
-  ends_bad e = sym (ap (ends_in b) e)
+    pub short_bundles : n ≤ v → length ends / 2 ≤ e → b < p.bundles → d ≡ blank_of 8 → Made
+    short_bundles g k h = graph_short (rw (le-ltb _ _ g, le-ltb _ _ k, lt-ltb _ _ h) refl)
 
-  pub floors_bad : layout_of b ≡ Bad → take 0 b ≡ floors_of b
-  unfolding floors_of
-  floors_bad e = sym (ap (floors_in b) e)
-
-  module _ (f : Fields) (good : layout_of b ≡ Good f) where
-    ends_good : ends_of b ≡ take (2 * f.count) (drop f.edges b)
-    unfolding ends_of
-    ends_good = ap (ends_in b) good
-
-    floors_good : floors_of b ≡ take f.extent (drop f.floors b)
-    unfolding floors_of
-    floors_good = ap (floors_in b) good
-
-    part : (f.edges + 2 * f.count) - f.edges ≡ 2 * f.count
-    part = omega arith
-
-    floors-part : (f.floors + f.extent) - f.floors ≡ f.extent
-    floors-part = omega arith
-
-    pub ends_read : take ((f.edges + 2 * f.count) - f.edges) (drop f.edges b) ≡ ends_of b
-    ends_read = ap (λ k. take k (drop f.edges b)) part ∙ sym ends_good
-
-    pub floors-read : take ((f.floors + f.extent) - f.floors) (drop f.floors b) ≡ floors_of b
-    floors-read = ap (λ k. take k (drop f.floors b)) floors-part ∙ sym floors_good
-
-    -- a record without floors has no bytes of them
-    floors-had : floors_if f.floored (take f.extent (drop f.floors b)) ≡ floors_of b
-    floors-had = go f.floored (layout_good b f good).unfloored ∙ sym floors_good
-      where
-        go : (t : Bool) → (t ≡ false → f.extent ≡ 0)
-            → floors_if t (take f.extent (drop f.floors b)) ≡ take f.extent (drop f.floors b)
-        go true h = refl
-        go false h = rw (h refl) refl
-
-    pub record_sheet : (v e k : ℕ) (d : Sheet)
-        → GraphSheet f.vertices (take ((f.edges + 2 * f.count) - f.edges) (drop f.edges b)) f.given
-        (take ((f.lines + f.size) - f.lines) (drop f.lines b)) f.floored
-        (take ((f.floors + f.extent) - f.floors) (drop f.floors b)) v e k d
-        → RecordSheet b v e k d
-    record_sheet v e k d h =
-        let j : (f.lines + f.size) - f.lines ≡ f.size = omega arith in
-        rw (record_good b f good, ends_good) (rw floors-had at (rw (part, j, floors-part) at h))
+    pub graph_drafted : n ≤ v → length ends / 2 ≤ e → p.bundles ≤ b → Drafted n (length ends / 2) p s d → Made
+    graph_drafted g k h w =
+        whole-sheet n ends given field floored floors p s laid _ w.lefts q.long.used v e b d drawn-whole g k h w.tables

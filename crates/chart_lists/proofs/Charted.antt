@@ -12,11 +12,10 @@ use Rattle.specification.specs.declared.VertexEntry.{VertexEntry}
 use Rattle.specification.specs.declared.BundleEntry.{BundleEntry}
 use Rattle.specification.specs.Drawn.{graph_content}
 use Rattle.chart_plan.specs.Laid.{Lists, Laid}
-use Rattle.chart_plan.specs.declared.Plan.{Plan}
+use Rattle.chart_plan.specs.Laid.{Plan}
 use Rattle.chart_plan.proofs.Entries.{edges-counted, small, edges_few, bundles-few, ends_known, vertex_drawn, bundle_drawn, kind-among}
 use Rattle.chart_plan.proofs.Entries.{mark-drawn}
-use Rattle.chart_lists.specs.declared.Counts.{Counts}
-use Rattle.chart_lists.specs.Chart.{Numbered, whole}
+use Rattle.chart_lists.specs.Chart.{Counts, Numbered, whole}
 use Rattle.specification.specs.Numbers.{word_number, bundle_number, words, bundles}
 use Rattle.specification.specs.Pass.{as_numbers, state, after}
 use Rattle.reduction.specs.Reduction.{transitive_in?}
@@ -27,8 +26,8 @@ use Rattle.chart_lists.specs.Steps.Numbers as numbers
 use Rattle.chart_lists.specs.Steps.Hand.{LeftFor}
 
 -- the counts of what is planned of n vertices and m edges
-abbrev counts_of : ℕ → ℕ → ℕ → Plan → Counts
-counts_of n m firm p = record {
+abbrev counts_drawn : ℕ → ℕ → ℕ → Plan → Counts
+counts_drawn n m firm p = record {
   refusal = 0;
   words = n;
   arrows = m;
@@ -146,7 +145,7 @@ module _ (n : ℕ) (ends : List ℕ) (given : Bool) (field : List ℕ) (floored 
       pub charted : (ws es bs ws' es' bs' : List ℕ) (x : ℕ) → 128 ≤ length t.used
           → Filled ws (words (word_from t.places t.column floored floors)) (n * 6) ws'
           → Marking as_numbers c (plan_of c) es es' x → Filled bs (bundles (bundle_from t.spans)) (p.bundles * 4) bs'
-          → Numbered c (plan_of c) ws es bs (whole (counts_of n m x p) (take 128 t.used)) ws' es' bs'
+          → Numbered c (plan_of c) ws es bs (whole (counts_drawn n m x p) (take 128 t.used)) ws' es' bs'
       unfolding graph_content
       charted ws es bs ws' es' bs' x long hw he hb = record {
         summary = record {

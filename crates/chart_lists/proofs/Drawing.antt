@@ -1,9 +1,8 @@
 -- What the whole promises, from what is planned and handed over. Assumes nothing.
 use Rattle.counting.proofs.Prelude.{ap, ap₂, ◌∙◌, Bool, List, ℕ, arith}
 use Rattle.chart_plan.specs.Laid.{Lists, lists, Long, Plans}
-use Rattle.chart_plan.specs.declared.Plan.{Plan}
-use Rattle.chart_lists.specs.declared.Counts.{Counts}
-use Rattle.chart_lists.specs.Chart.{no_counts}
+use Rattle.chart_plan.specs.Laid.{Plan}
+use Rattle.chart_lists.specs.Chart.{Counts, no_counts}
 use Rattle.chart_lists.specs.Promise.{blank, Draws}
 use Rattle.chart_lists.specs.Steps.Hand.{Hands}
 

@@ -1,6 +1,12 @@
 -- From the lists and the counts to the promise. Assumes nothing.
 use Rattle.counting.proofs.Prelude.{◌≡◌, refl, sym, ap, ap₂, subst, ◌∙◌, Bool, true, false, ◌||◌, List, ℕ, ◌*◌, ◌/◌, ◌≤◌, arith}
-use Rattle.counting.proofs.Prelude.{ltb, length, replicate, eq-eqb, ne_eqb, ltb-false, ◌∷◌, zero, suc, take}
+use Rattle.counting.proofs.Prelude.{ltb, length, replicate, eq-eqb, ne_eqb, ltb-false, ◌∷◌, zero, suc, take, ◌<◌, lt-ltb, le-ltb}
+use Rattle.std.specs.Prelude.{Result, Ok, Err}
+use Rattle.std.specs.Result.{IsErrAnd}
+use Rattle.specification.specs.declared.Refusal.{Refusal}
+use Rattle.specification.specs.declared.Refusal.TheVariants.{Short}
+use Rattle.chart_plan.specs.declared.Plan as told
+use Rattle.specification.specs.Refusals.{refusal_number}
 use native.Mathlib.Decide.{ℕ_discrete}
 use Rattle.specification.specs.Count.{choose}
 use Rattle.specification.specs.Checks.{Content, edges_of, nothing}
@@ -9,16 +15,16 @@ use Rattle.specification.specs.Drawn.{chart_refusal, Drawn, graph_content, graph
 use Rattle.counting.proofs.Zeros.{zeros}
 use Rattle.counting.proofs.Truth.{or_neither}
 use Rattle.counting.proofs.Stores.{filled_none, filled_to}
+use Rattle.specification.proofs.Cases.{refusal_numbered}
 use Rattle.chart_plan.specs.Laid.{Lists, Laid}
-use Rattle.chart_plan.specs.declared.Plan.{Plan}
+use Rattle.chart_plan.specs.Laid.{Plan}
 use Rattle.chart_plan.proofs.Entries.{edges-counted}
 use Rattle.chart_plan.proofs.Judging.{graph_refused, graph_whole}
 use Rattle.chart_plan.proofs.Nothing.{empty}
 use Rattle.chart_plan.proofs.Shortage.{enough, lent-short, lent-whole}
 use Rattle.specification.specs.declared.ChartCounts.{ChartCounts}
-use Rattle.chart_lists.specs.declared.Counts.{Counts}
-use Rattle.chart_lists.specs.Chart.{Numbered, Left, whole, no_counts}
-use Rattle.chart_lists.specs.Steps.Hand.{room_refusal}
+use Rattle.chart_lists.specs.Chart.{Counts, Numbered, Left, whole, no_counts}
+use Rattle.chart_lists.specs.Steps.Hand.{room_refusal, Accepts}
 
 -- ---- a refusal
 
@@ -63,6 +69,39 @@ module _ (ws es bs : List ℕ) where
   short-left : (d : Drawn) (r : Counts) (used : List ℕ) → short? (length ws / 6) (length es / 5) (length bs / 4) d ≡ true → r ≡ no_counts 8
       → used ≡ replicate 128 0 → Left (lent (length ws / 6) (length es / 5) (length bs / 4) d) ws es bs (whole r used) ws es bs
   short-left d r used s h z = rw (lent-short _ _ _ d s) (nothing_left 8 r used h z)
+
+-- ---- what is planned, or why it is not drawn
+
+module _ (planned : Result told.Plan Refusal) (n m words arrows bundles : ℕ) where
+  pub accept_refused : (r : Result told.Plan Refusal) (k : Refusal) → planned ≡ Err k → IsErrAnd r (λ e. e ≡ k)
+      → Accepts planned n m words arrows bundles r
+  unfolding room_refusal
+  accept_refused (Ok p) k e h = absurd h
+  accept_refused (Err x) k e h = rw e (record {
+    refusal = rw h (rw (ne_eqb (refusal_number k) 0 (refusal_numbered k)) refl);
+    same = λ p q. absurd cc;
+  })
+
+  module _ (p : told.Plan) (e : planned ≡ Ok p) where
+    pub accept_room : n ≤ words → m ≤ arrows → p.bundles ≤ bundles → Accepts planned n m words arrows bundles (Ok p)
+    unfolding room_refusal
+    accept_room w a b = rw e (record {
+      refusal = rw (le-ltb _ _ w, le-ltb _ _ a, le-ltb _ _ b) refl;
+      same = λ q h. h;
+    })
+
+    accept_short : (ltb words n || (ltb arrows m || ltb bundles p.bundles)) ≡ true → Accepts planned n m words arrows bundles (Err Short)
+    unfolding room_refusal
+    accept_short l = rw e (record { refusal = rw l refl; same = λ q h. absurd cc })
+
+    pub accept_words : words < n → Accepts planned n m words arrows bundles (Err Short)
+    accept_words w = accept_short (rw (lt-ltb _ _ w) refl)
+
+    pub accept_arrows : n ≤ words → arrows < m → Accepts planned n m words arrows bundles (Err Short)
+    accept_arrows w a = accept_short (rw (le-ltb _ _ w, lt-ltb _ _ a) refl)
+
+    pub accept_bundles : n ≤ words → m ≤ arrows → bundles < p.bundles → Accepts planned n m words arrows bundles (Err Short)
+    accept_bundles w a b = accept_short (rw (le-ltb _ _ w, le-ltb _ _ a, lt-ltb _ _ b) refl)
 
 -- ---- one or the other, by the number k that the call tells
 

@@ -1,4 +1,5 @@
 pub mod Charted
 pub mod Leaving
 pub mod Passing
+pub mod Handing
 pub mod Drawing

@@ -11,6 +11,7 @@ use Rattle.specification.specs.Pass.{as_numbers, stored, state, next}
 use Rattle.reduction.specs.Reduction.{transitive_in?}
 use Rattle.kinds.specs.Kinds.{kind_among}
 use Rattle.specification.specs.declared.Code.{Code}
+use Rattle.specification.specs.declared.Kind.{Kind}
 use Rattle.chart_lists.specs.Steps.Numbers.{Given, tail_at, head_at, kind_at, arrow_from, word_from, bundle_from}
 
 -- ---- five or six numbers, and the count of a mark
@@ -60,14 +61,14 @@ bundle_at spans i =
 -- ---- an edge
 
 module _ (g : Given) (e : ℕ) where
-  pub kind-here : (k : Code) → k ≡ code_of
-      (kind_among (quad 0 g.places (tail_at g e)) (quad 0 g.places (head_at g e)) (quad 1 g.places (tail_at g e))
+  pub kind-here : (k : Kind)
+      → k ≡ kind_among (quad 0 g.places (tail_at g e)) (quad 0 g.places (head_at g e)) (quad 1 g.places (tail_at g e))
       (quad 1 g.places (head_at g e)) (get_or g.number (2 * head_at g e) 0) (get_or g.number (2 * tail_at g e + 1) 0) g.columns
-      g.places g.below g.left (tail_at g e) (head_at g e)) → k ≡ code_of (kind_at g e)
+      g.places g.below g.left (tail_at g e) (head_at g e) → k ≡ kind_at g e
   unfolding kind_at
   kind-here k h = h
 
-  -- what is left where k is what `kinds::kind_of` answers and the mark what `mark_at` does: one step of the pass
+  -- what is left where k is the code of what `kinds::kind_of` answers and the mark what `mark_at` does: one step of the pass
   pub arrow_next : (mark firm : ℕ) (k : Code) (l x : List ℕ)
       → k ≡ code_of (kind_at g e)
       → mark ≡ indicator (transitive_in? g.longer (tail_at g e) (head_at g e))

@@ -5,8 +5,7 @@ use Rattle.specification.specs.Numbers.{word_numbers, arrow_numbers, bundle_numb
 use Rattle.specification.specs.Drawn.{graph_drawn, lent}
 use Rattle.specification.specs.Lent.{Untouched}
 use Rattle.chart_plan.specs.Laid.{Lists, lists, Roomy, Long}
-use Rattle.chart_lists.specs.declared.Counts.{Counts}
-use Rattle.chart_lists.specs.Chart.{Left, whole, no_counts}
+use Rattle.chart_lists.specs.Chart.{Counts, Left, whole, no_counts}
 
 -- no side column
 abbrev pub blank : Lists → Lists

@@ -1,20 +1,20 @@
 // What is planned of a graph as three lent lists of numbers (SPECIFICATION.md, 9.4): no table of edges between.
 #![tactic(auto)]
 
-ghost use Rattle.std.specs.Prelude.{◌≡◌, ◌<◌};
+ghost use Rattle.specification.specs.Parts.{present?, bytes_of};
 ghost use Rattle.chart_plan.specs.Laid.{lists};
-ghost use Rattle.chart_lists.specs.Chart.{no_counts};
+ghost use Rattle.chart_lists.specs.Chart.{counts_of};
 ghost use Rattle.chart_lists.specs.Promise.{Draws};
 
 use hand::hand_over;
+use specification::{Graph, Refusal};
 
 mod entries;
 mod hand;
 
-// `ChartCounts` without the side columns: these are lent from above, so that they are copied once.
+// `ChartCounts` without the refusal and the side columns: these are lent from above, so that they are copied once.
 #[derive(Clone, Copy)]
 pub struct Counts {
-    pub refusal: u8,
     pub words: usize,
     pub arrows: usize,
     pub bundles: usize,
@@ -24,38 +24,11 @@ pub struct Counts {
     pub width: u16,
 }
 
-// A byte as a usize: asks nothing of the byte, where a cast of an element asks that it fits.
-pub(crate) fn wide(x: u8) -> usize
-    ensures { (result ≡ x) × (result < 256) }
-{
-    x as usize
-}
-
-// No count.
-pub fn refused(refusal: u8) -> Counts
-    ensures { result ≡ no_counts refusal }
-{
-    Counts {
-        refusal,
-        words: 0,
-        arrows: 0,
-        bundles: 0,
-        rows: 0,
-        lines: 0,
-        firm: 0,
-        width: 0,
-    }
-}
-
-// The chart of a neutral graph into three lists and its side columns into `used`, by work lists; 8, and nothing changed but that `used` is
-// cleared, where one of these has no room.
-pub fn drawn<'g, 'f, 'h, 'e, 'b, 't, 'l, 'p, 's, 'n, 'c, 'u>(
-    n: usize,
-    ends: &'g [u8],
-    given: bool,
-    field: &'f [u8],
-    floored: bool,
-    floors: &'h [u8],
+// The chart of a neutral graph into three lists and its side columns into `used`, by work lists; 'short', and nothing changed but that
+// `used` is cleared, where one of these has no room.
+// Parameters that travel together: no struct of the lists, as in chart_plan::planned.
+pub fn drawn<'e, 'b, 't, 'l, 'p, 's, 'n, 'c, 'u>(
+    g: &Graph<'_>,
     words: &mut [u16],
     arrows: &mut [u16],
     bundles: &mut [u16],
@@ -68,16 +41,14 @@ pub fn drawn<'g, 'f, 'h, 'e, 'b, 't, 'l, 'p, 's, 'n, 'c, 'u>(
     number: &'n mut [u16],
     column: &'c mut [u16],
     used: &'u mut [u16],
-) -> Counts
-    ensures { Draws n ends.now given field.now floored floors.now words.old arrows.old bundles.old (lists edges.old below.old table.old longer.old places.old spans.old number.old used.old column.old) result words.new arrows.new bundles.new (lists edges.new below.new table.new longer.new places.new spans.new number.new used.new column.new) }
+) -> Result<Counts, Refusal>
+    ensures { Draws g.now.vertices g.now.ends.now (present? g.now.given) (bytes_of g.now.given) (present? g.now.floors) (bytes_of g.now.floors) words.old arrows.old bundles.old (lists edges.old below.old table.old longer.old places.old spans.old number.old used.old column.old) (counts_of result) words.new arrows.new bundles.new (lists edges.new below.new table.new longer.new places.new spans.new number.new used.new column.new) }
 {
-    let p = chart_plan::planned(
-        n, ends, given, field, floored, floors, edges, below, table, longer, places, spans, number,
-        used, column,
+    let plan = chart_plan::planned(
+        g, edges, below, table, longer, places, spans, number, used, column,
     );
     // what reaches what is not read any more: its list takes the sets left of channels
     hand_over(
-        words, arrows, bundles, ends, floored, floors, longer, below, table, places, spans, number,
-        column, used, n, p,
+        g, words, arrows, bundles, longer, below, table, places, spans, number, column, used, plan,
     )
 }

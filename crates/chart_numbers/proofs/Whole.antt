@@ -2,8 +2,7 @@
 use Rattle.counting.proofs.Prelude.{◌≡◌, sym, subst, ◌∙◌, List, ℕ, arith, length, take}
 use lib.Seq.{get_or-take, length-take-le, ext_get_or}
 use Rattle.specification.specs.Drawn.{Drawn}
-use Rattle.chart_lists.specs.declared.Counts.{Counts}
-use Rattle.chart_lists.specs.Chart.{Left, whole}
+use Rattle.chart_lists.specs.Chart.{Counts, Left, whole}
 
 pub left-whole : (d : Drawn) (ws es bs : List ℕ) (r : Counts) (used ws' es' bs' : List ℕ) → length used ≡ 128
     → Left d ws es bs (whole r (take 128 used)) ws' es' bs' → Left d ws es bs (whole r used) ws' es' bs'

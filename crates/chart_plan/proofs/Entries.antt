@@ -34,8 +34,7 @@ use Rattle.chart_laws.proofs.Bundling.{side_edge, side-number}
 use Rattle.prefixes.specs.Prefixes.{last_set, Prefixes}
 use Rattle.kinds.specs.Kinds.{kind_in, kind_among}
 use Rattle.kinds.proofs.Candidates.{Ready, kind_candidates}
-use Rattle.chart_plan.specs.Laid.{Lists, Laid}
-use Rattle.chart_plan.specs.declared.Plan.{Plan}
+use Rattle.chart_plan.specs.Laid.{Plan, Lists, Laid}
 
 -- ---- of the graph alone
 

@@ -22,7 +22,7 @@ use Rattle.matching.proofs.Beside.{given-same}
 use Rattle.reach.proofs.Closures.{same_test}
 use Rattle.reach.proofs.Connecting.{same_edge, same_longer}
 use Rattle.planning.specs.Arranged.{Arranged}
-use Rattle.record.specs.declared.checks.Checked.{Checked}
+use Rattle.record.specs.Checked.{Checked}
 use Rattle.record.proofs.Soundness.{accepted_sound}
 use Rattle.bundles.specs.Sides.{table_side?}
 use Rattle.bundles.specs.Promise.{vertices, Bundled, Listed, bundles_in}
@@ -36,9 +36,8 @@ use Rattle.chart_laws.proofs.Leading.{graph_accepted}
 use Rattle.chart_laws.proofs.Channels.{channels-few, channel_below, vertices_small}
 use Rattle.chart_laws.proofs.Bundling.{bundle_intervals}
 use Rattle.chart_laws.proofs.Columns.{width_on_page}
-use Rattle.chart_plan.specs.Laid.{Lists, lists, Laid}
+use Rattle.chart_plan.specs.Laid.{Plan, Lists, lists, Laid}
 use Rattle.chart_plan.specs.Steps.{Spaceable, Spaced, Passed, Filled}
-use Rattle.chart_plan.specs.declared.Plan.{Plan}
 use Rattle.chart_plan.proofs.Spacing.{start-same, own_same}
 use Rattle.counting.proofs.Above.{above_ext}
 

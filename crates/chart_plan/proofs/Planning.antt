@@ -8,14 +8,12 @@ use Rattle.specification.specs.Limits.{most_channels}
 use Rattle.specification.specs.Checks.{Content, refusal_of}
 use Rattle.specification.specs.Chart.{channels_of}
 use Rattle.planning.specs.Arranged.{Arranged}
-use Rattle.record.specs.Checked.{Checks}
-use Rattle.record.specs.declared.checks.Checked.{Checked}
+use Rattle.record.specs.Checked.{Checked, Checks}
 use Rattle.specification.specs.Drawn.{graph_content, broad?}
 use Rattle.chart_laws.proofs.Broad.{chart_refused, chart_broad, chart_whole}
 use Rattle.chart_plan.proofs.Laying as laying
-use Rattle.chart_plan.specs.Laid.{Lists, lists, Roomy, Long, Plans, unplanned_by}
+use Rattle.chart_plan.specs.Laid.{Plan, Lists, lists, Roomy, Long, Plans, unplanned_by}
 use Rattle.chart_plan.specs.Steps.{roomy?, Passed, Filled}
-use Rattle.chart_plan.specs.declared.Plan.{Plan}
 
 -- the test of the lists that are not of masks
 abbrev pub tested : ℕ → Lists → Bool

@@ -6,8 +6,8 @@ use Rattle.specification.specs.Count.{choose}
 use Rattle.specification.specs.Checks.{Content, edges_of, size?, floor?, stranger?, double?, ring?, repeated?, unled?, loose_checks}
 use Rattle.specification.specs.Checks.{later_checks, first_of, nothing, content_of, refusal_in}
 use Rattle.specification.specs.Layout.{layout_of}
-use Rattle.specification.specs.declared.Layout.{Layout}
-use Rattle.specification.specs.declared.Layout.TheVariants.{Good, Bad}
+use Rattle.specification.specs.Layout.{Layout}
+use Rattle.specification.specs.Layout.{Good, Bad}
 use Rattle.specification.specs.Chart.{plan_of}
 use Rattle.specification.specs.Drawn.{broad?, chart_checks, chart_refusal, Drawn, judged, graph_content, record_drawn, graph_drawn, short?}
 use Rattle.specification.specs.Drawn.{lent}

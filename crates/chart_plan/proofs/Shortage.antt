@@ -1,6 +1,6 @@
 -- When a lent list is short, and what is drawn then. Assumes nothing.
-use Rattle.counting.proofs.Prelude.{◌≡◌, refl, ◌⊎◌, ⊎_elim, inl, inr, true, false, ◌||◌, ℕ, ◌<◌, ◌≤◌, ltb, length, ltb-true, lt-ltb, le-ltb}
-use Rattle.counting.proofs.Truth.{or_left, or_right, or_elim}
+use Rattle.counting.proofs.Prelude.{◌≡◌, refl, ◌⊎◌, ⊎_elim, inl, inr, true, false, ◌||◌, ℕ, ◌<◌, ◌≤◌, ltb, length, ltb-true, le-ltb}
+use Rattle.counting.proofs.Truth.{or_elim}
 use Rattle.counting.proofs.Falsity.{neither}
 use Rattle.specification.specs.Checks.{edges_of}
 use Rattle.specification.specs.Chart.{plan_of}
@@ -15,18 +15,6 @@ module _ (v e b : ℕ) (x : Drawn) where
 
   abbrev bundles : ℕ
   bundles = length (plan_of x.graph).bundles
-
-  pub short-vertices : v < vertices → short? v e b x ≡ true
-  unfolding short?
-  short-vertices h = or_left (ltb v vertices) (ltb e edges || ltb b bundles) (lt-ltb v vertices h)
-
-  pub short-edges : e < edges → short? v e b x ≡ true
-  unfolding short?
-  short-edges h = or_right (ltb v vertices) (ltb e edges || ltb b bundles) (or_left (ltb e edges) (ltb b bundles) (lt-ltb e edges h))
-
-  pub short-bundles : b < bundles → short? v e b x ≡ true
-  unfolding short?
-  short-bundles h = or_right (ltb v vertices) (ltb e edges || ltb b bundles) (or_right (ltb e edges) (ltb b bundles) (lt-ltb b bundles h))
 
   pub enough : vertices ≤ v → edges ≤ e → bundles ≤ b → short? v e b x ≡ false
   unfolding short?

@@ -1,5 +1,5 @@
 -- What is planned of a sound graph. Assumes nothing.
-use Rattle.std.specs.Prelude.{◌≡◌, ◌≢◌, ◌↔◌, Bool, true, false, List, [], ℕ, ◌*◌, ◌≤◌, ◌<◌, min, length, get_or}
+use Rattle.std.specs.Prelude.{◌≡◌, ◌≢◌, ◌↔◌, Bool, true, false, List, [], ℕ, ◌*◌, ◌≤◌, ◌<◌, min, length, get_or, Result, Ok, Err}
 use Rattle.counting.specs.Quads.{quad}
 use Rattle.specification.specs.Limits.{most_vertices}
 use Rattle.specification.specs.Sets.{member?, at}
@@ -16,7 +16,17 @@ use Rattle.floors.specs.Promise as raising
 use Rattle.planning.specs.Arranged.{Arranged}
 use Rattle.record.specs.Checked.{Tables}
 use Rattle.bundles.specs.Promise.{Listed}
-use Rattle.chart_plan.specs.declared.Plan.{Plan}
+use Rattle.specification.specs.declared.Refusal.{Refusal}
+use Rattle.specification.specs.Refusals.{refusal_number}
+use Rattle.chart_plan.specs.declared.Plan.{Plan as Counts}
+
+-- why a graph is refused, or 0; how many rows, channels and bundles it has, and the columns of all channels
+pub record Plan : Type 0 where
+  pub refusal : ℕ
+  pub rows : ℕ
+  pub channels : ℕ
+  pub bundles : ℕ
+  pub width : ℕ
 
 -- the lists that are lent: four of masks; of each vertex the channel, its position there, its row and how many vertices it
 -- reaches, in turn; of each bundle the channel, the first row, the last row and the track; the bundle at each end of a
@@ -83,6 +93,17 @@ unplanned_by k = record {
   bundles = 0;
   width = 0;
 }
+
+-- what a call says
+abbrev pub plan_told : Result Counts Refusal → Plan
+plan_told (Ok p) = record {
+  refusal = 0;
+  rows = p.rows;
+  channels = p.channels;
+  bundles = p.bundles;
+  width = p.width;
+}
+plan_told (Err k) = unplanned_by (refusal_number k)
 
 -- every list is as long as it was
 pub record Long (t s : Lists) : Type 0 where

@@ -4,11 +4,9 @@ use Rattle.counting.specs.Quads.{quad}
 use Rattle.specification.specs.Geometry.{Widths, even_gaps, block_start, own_column}
 use Rattle.specification.specs.Limits.{page_columns, most_vertices}
 use Rattle.specification.specs.Checks.{refusal_of}
-use Rattle.record.specs.Checked.{Passes}
-use Rattle.record.specs.declared.checks.Checked.{Checked}
+use Rattle.record.specs.Checked.{Checked, Passes}
 use Rattle.specification.specs.Drawn.{graph_content}
-use Rattle.chart_plan.specs.Laid.{lists, Roomy, Laid}
-use Rattle.chart_plan.specs.declared.Plan.{Plan}
+use Rattle.chart_plan.specs.Laid.{Plan, lists, Roomy, Laid}
 
 -- the first j entries of a table are those of f, and the others as they were
 pub record Tabled (was : List ℕ) (f : ℕ → ℕ) (j : ℕ) (t : List ℕ) : Type 0 where

@@ -9,8 +9,8 @@ use Rattle.specification.specs.Count.{indicator, count}
 use Rattle.specification.specs.Graph.{Reaches, one, more, Edge, alternate, tails_of, heads_of}
 use Rattle.specification.specs.Channels.{times, has, front, lines, filled, lines_of, given_lines, vertices_of}
 use Rattle.specification.specs.Given.{Whole}
-use Rattle.specification.specs.declared.Fields.{Fields}
-use Rattle.specification.specs.declared.Layout.TheVariants.{Good}
+use Rattle.specification.specs.Layout.{Fields}
+use Rattle.specification.specs.Layout.{Good}
 use Rattle.specification.specs.Layout.{bare_fields, lined_fields, size_at, field_at, lined, after_lines, with_lines, after_edges}
 use Rattle.specification.specs.Layout.{with_edges}
 use Rattle.specification.specs.Layout.{with_vertices, layout_of}

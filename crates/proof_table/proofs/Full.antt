@@ -5,8 +5,8 @@ use lib.Seq.{take-length}
 use Rattle.specification.specs.Count.{some}
 use Rattle.specification.specs.Graph.{Reaches, one, more, edge_count, Edge, outsized?, strange?, reachable?, alternate, tails_of, heads_of}
 use Rattle.specification.specs.Graph.{alike?, duplicate?, unsized?}
-use Rattle.specification.specs.declared.Fields.{Fields}
-use Rattle.specification.specs.declared.Layout.TheVariants.{Good}
+use Rattle.specification.specs.Layout.{Fields}
+use Rattle.specification.specs.Layout.{Good}
 use Rattle.specification.specs.Layout.{bare_fields, size_at, field_at, after_lines, with_lines, after_edges, with_edges, with_vertices}
 use Rattle.specification.specs.Layout.{layout_of}
 use Rattle.specification.specs.Checks.{content, edges_of, size?, unfloored?, floor?, stranger?, double?, ring?, repeated?, unled?}

@@ -5,8 +5,8 @@ use Rattle.counting.proofs.Truth.{lt-or-le}
 use Rattle.counting.proofs.Above.{above_each, above-le}
 use Rattle.specification.specs.Graph.{Reaches, one, more, edge_count, Edge, edge?, alternate, tails_of, heads_of}
 use Rattle.specification.specs.Channels.{given_lines}
-use Rattle.specification.specs.declared.Fields.{Fields}
-use Rattle.specification.specs.declared.Layout.TheVariants.{Good}
+use Rattle.specification.specs.Layout.{Fields}
+use Rattle.specification.specs.Layout.{Good}
 use Rattle.specification.specs.Layout.{bare_fields, floored_fields, size_at, field_at, with_floors, after_lines, with_lines, after_edges}
 use Rattle.specification.specs.Layout.{with_edges}
 use Rattle.specification.specs.Layout.{with_vertices, layout_of}

@@ -5,4 +5,4 @@ use Rattle.chart_entries.proofs.drafted.Goals as goal
 pub returns : goal.returns
 returns c =
     let made = c.by_channel.ensures in
-    λ edges table. record { tables = refl; lefts = rw c.wide.ensures.0 at (rw made.0 at made.1) }
+    λ edges table. record { tables = refl; lefts = rw made.0 at made.1 }

@@ -1,5 +1,5 @@
 -- `chart_entries::mark_at` meets its contract: the mark is that of the mask that holds v, read back. Assumes nothing.
-use Rattle.counting.proofs.Prelude.{ap, ap₂, ◌∙◌, ℕ, ◌+◌, ◌*◌, ◌/◌, eqb}
+use Rattle.counting.proofs.Prelude.{refl, ap, ◌∙◌, ℕ, eqb}
 use Rattle.reduction.specs.Reduction.{marked?}
 use Rattle.reduction.proofs.Marks.{transitive_mask}
 use Rattle.lists.proofs.Marking.{mark_back}
@@ -8,5 +8,5 @@ use Rattle.chart_entries.proofs.mark_at.Goals as goal
 pub returns : goal.returns
 returns c =
     let a = c.args in
-    ap (λ (x : ℕ). eqb x 1) c.mark_in.ensures ∙ mark_back _ ∙ ap (λ (x : ℕ). marked? x a.v) c.mask_at.ensures
-    ∙ transitive_mask _ a.u a.v _ (ap₂ (λ (x y : ℕ). 2 * x + y / 64) c.wide.ensures.0 c.wide-i.ensures.0)
+    ap (λ (x : ℕ). eqb x 1) c.mark_in.ensures ∙ mark_back _ ∙ ap (λ (x : ℕ). marked? x a.v) c.mask_at-mask.ensures
+    ∙ transitive_mask _ a.u a.v _ refl

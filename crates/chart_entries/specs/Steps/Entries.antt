@@ -8,7 +8,7 @@ use Rattle.specification.specs.declared.EdgeEntry.{EdgeEntry}
 use Rattle.specification.specs.declared.BundleEntry.{BundleEntry}
 use Rattle.reduction.specs.Reduction.{transitive_in?}
 use Rattle.kinds.specs.Kinds.{kind_among}
-use Rattle.chart_entries.specs.declared.Sheet.{Sheet}
+use Rattle.chart_entries.specs.Steps.Sheet.{Sheet}
 
 -- a vertex past the last floor has 0
 unfoldable pub vertex_at : Sheet → List ℕ → ℕ → VertexEntry

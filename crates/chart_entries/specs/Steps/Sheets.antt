@@ -1,48 +1,25 @@
 -- What the steps of a call promise, by the sheet. Assumes nothing.
-use Rattle.std.specs.Prelude.{◌≡◌, Bool, ◌||◌, List, [], ℕ, ◌*◌, ◌/◌, ◌≤◌, ◌<◌, min, ltb, length, get_or, take, drop, replicate}
+use Rattle.std.specs.Prelude.{◌≡◌, Bool, List, [], ℕ, ◌/◌, ◌≤◌, ◌<◌, min, length, get_or}
 use Rattle.specification.specs.Limits.{most_vertices, most_edges, most_bundles}
 use Rattle.specification.specs.Count.{choose}
 use Rattle.counting.specs.Quads.{quad}
 use Rattle.specification.specs.Lent.{Filled}
 use Rattle.specification.specs.Pass.{as_entries, state, after}
 use Rattle.specification.specs.Checks.{Content, edges_of}
-use Rattle.specification.specs.Layout.{layout_of}
-use Rattle.specification.specs.declared.Layout.{Layout}
-use Rattle.specification.specs.declared.Layout.TheVariants.{Good, Bad}
 use Rattle.specification.specs.Chart as chart
 use Rattle.specification.specs.Chart.{plan_of, row_count, width_of, tracks_in, vertex_entry, edge_entry, bundle_entry}
 use Rattle.specification.specs.declared.VertexEntry.{VertexEntry}
 use Rattle.specification.specs.declared.EdgeEntry.{EdgeEntry}
 use Rattle.specification.specs.declared.BundleEntry.{BundleEntry}
 use Rattle.prefixes.specs.Prefixes.{last_set, Prefixes}
-use Rattle.specification.specs.Drawn.{Drawn, graph_drawn, record_drawn, lent}
+use Rattle.specification.specs.Drawn.{Drawn, graph_drawn, lent}
 use Rattle.chart_plan.specs.Laid.{Lists}
-use Rattle.chart_plan.specs.declared.Plan.{Plan}
-use Rattle.chart_entries.specs.declared.Sheet.{Sheet}
+use Rattle.chart_plan.specs.Laid.{Plan}
+use Rattle.chart_entries.specs.Steps.Sheet.{Sheet}
 use Rattle.specification.specs.declared.ChartCounts.{ChartCounts}
 use Rattle.chart_entries.specs.Steps.Entries.{vertex_at, edge_at, bundle_at}
 
 -- ---- sheets
-
--- a refusal, with no entry
-abbrev pub blank_of : ℕ → Sheet
-blank_of k = record {
-  refusal = k;
-  vertices = 0;
-  edges = 0;
-  bundles = 0;
-  rows = 0;
-  channels = 0;
-  width = 0;
-  tracks = replicate 128 0;
-  places = replicate 512 0;
-  column = replicate 128 0;
-  longer = replicate 256 0;
-  below = replicate 512 0;
-  left = replicate 258 0;
-  number = replicate 256 0;
-  spans = replicate 1024 0;
-}
 
 -- the tables of a plan of n vertices and m edges
 abbrev pub sheet_of : ℕ → ℕ → Plan → Lists → List ℕ → Sheet
@@ -82,10 +59,6 @@ pub record Room (d : Sheet) (v e b : ℕ) : Type 0 where
   pub edges : d.edges ≤ e
   pub bundles : d.bundles ≤ b
 
--- whether lists of v, e and b entries are too short for n vertices, m edges and k bundles
-unfoldable pub too_short? : ℕ → ℕ → ℕ → ℕ → ℕ → ℕ → Bool
-too_short? n m k v e b = ltb v n || (ltb e m || ltb b k)
-
 -- every count but that of the reduced edges, and every entry, of the chart of c
 pub record Tables (c : Content) (p : chart.Plan) (ends floors : List ℕ) (d : Sheet) : Type 0 where
   pub vertices : d.vertices ≡ c.vertices
@@ -112,25 +85,6 @@ floors_if floored floors = choose floored (λ _. floors) (λ _. [])
 
 abbrev pub GraphSheet : ℕ → List ℕ → Bool → List ℕ → Bool → List ℕ → ℕ → ℕ → ℕ → Sheet → Type 0
 GraphSheet n ends given field floored floors = SheetOf (graph_drawn n ends given field floored floors) ends (floors_if floored floors)
-
--- the bytes of a record's edges
-abbrev pub ends_in : List ℕ → Layout → List ℕ
-ends_in b Bad = []
-ends_in b (Good f) = take (2 * f.count) (drop f.edges b)
-
-unfoldable pub ends_of : List ℕ → List ℕ
-ends_of b = ends_in b (layout_of b)
-
--- .. and of its floors
-abbrev pub floors_in : List ℕ → Layout → List ℕ
-floors_in b Bad = []
-floors_in b (Good f) = take f.extent (drop f.floors b)
-
-unfoldable pub floors_of : List ℕ → List ℕ
-floors_of b = floors_in b (layout_of b)
-
-abbrev pub RecordSheet : List ℕ → ℕ → ℕ → ℕ → Sheet → Type 0
-RecordSheet b = SheetOf (record_drawn b) (ends_of b) (floors_of b)
 
 -- ---- what is handed over
 

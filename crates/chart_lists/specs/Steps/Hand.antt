@@ -1,16 +1,19 @@
 -- What is planned of a graph, handed over, and the answer. Assumes nothing.
-use Rattle.std.specs.Prelude.{◌≡◌, ◌≢◌, Bool, ◌||◌, List, ℕ, ◌*◌, ◌/◌, ◌≤◌, ◌<◌, min, eqb, ltb, length, replicate, take}
+use Rattle.std.specs.Prelude.{◌≡◌, ◌≢◌, Bool, ◌||◌, List, ℕ, ◌*◌, ◌/◌, ◌≤◌, ◌<◌, Result, Ok, min, eqb, ltb, length, replicate, take}
 use Rattle.specification.specs.Limits.{most_vertices}
 use Rattle.specification.specs.Count.{choose}
 use Rattle.counting.specs.Quads.{quad}
 use Rattle.specification.specs.Drawn.{chart_refusal, graph_content, graph_drawn, lent}
 use Rattle.chart_plan.specs.Laid.{lists, Laid}
-use Rattle.chart_plan.specs.declared.Plan.{Plan}
+use Rattle.chart_plan.specs.Laid.{Plan}
+use Rattle.chart_plan.specs.declared.Plan as told
+use Rattle.specification.specs.declared.Refusal.{Refusal}
+use Rattle.specification.specs.Refusals.{number_in}
+use Rattle.chart_plan.specs.Laid.{plan_told}
 use Rattle.specification.specs.Numbers.{word_numbers, arrow_numbers, bundle_numbers}
 use Rattle.prefixes.specs.Prefixes.{last_set, Prefixes}
 use Rattle.specification.specs.Lent.{Untouched}
-use Rattle.chart_lists.specs.declared.Counts.{Counts}
-use Rattle.chart_lists.specs.Chart.{Left, whole, no_counts}
+use Rattle.chart_lists.specs.Chart.{Counts, Left, whole, no_counts}
 
 -- ---- a plan handed over
 
@@ -58,3 +61,8 @@ LeftFor n count places size left =
 unfoldable pub room_refusal : ℕ → ℕ → ℕ → ℕ → ℕ → ℕ → ℕ → ℕ
 room_refusal refusal n m b words arrows bundles =
     choose (eqb refusal 0) (λ _. choose (ltb words n || (ltb arrows m || ltb bundles b)) (λ _. 8) (λ _. 0)) (λ _. refusal)
+
+-- r is what is planned of n vertices and m edges, or why no chart is drawn of it
+pub record Accepts (planned : Result told.Plan Refusal) (n m words arrows bundles : ℕ) (r : Result told.Plan Refusal) : Type 0 where
+  pub refusal : number_in r ≡ room_refusal (plan_told planned).refusal n m (plan_told planned).bundles words arrows bundles
+  pub same : (p : told.Plan) → r ≡ Ok p → planned ≡ Ok p

@@ -1,77 +1,51 @@
-use Rattle.counting.proofs.Prelude.{◌≡◌, true, arith}
+use Rattle.counting.proofs.Prelude.{◌≡◌, refl, true, min, arith, rules}
+use Rattle.std.proofs.lemmas.Result.{err_from_is_err_and}
+use Rattle.specification.specs.Parts.{present?}
+use Rattle.specification.proofs.Cases.{refusal_numbered}
 use Rattle.chart_plan.specs.Laid.{Lists, lists}
 use Rattle.chart_plan.proofs.Planning.{tested, tested_so, cramped_plan, refused-plan, passed, broad_plan, laid-plan}
-use Rattle.chart_plan.proofs.planned.Lts as lts
-use Rattle.chart_plan.proofs.planned.Reads as reads
-use Rattle.chart_plan.proofs.planned.Tie as tie
 use Rattle.chart_plan.proofs.planned.Goals as goal
-
-abbrev Start : Type 0
-Start = lts.Start tie.the-claims reads.Pre reads.Post
-
-abbrev After-check-k : Type 0
-After-check-k = lts.After-check tie.the-claims reads.Pre reads.Post
-
--- the places that facts are read from
-abbrev start_of : After-check-k → Start
-start_of c =
-    let d = c.before.before.before.before.before.before.before.before.before.before.before.before.before.before in
-    d.before.before.before.before.before.before.before
-
-abbrev start_of-2 : goal.After-unplanned → Start
-start_of-2 c = c.before.before.before.before.before.before.before.before.before.before.before.before.before.before.before.before.before
-
-abbrev after-check-k_of : goal.After-unplanned-then-k-ne0 → After-check-k
-after-check-k_of c = c.before.before.before.before.before.before.before.before.before.before.before.before.before.before
-
-abbrev after-check-k_of-2 : goal.After-unplanned-then-k-gt-MOST_CHANNELS → After-check-k
-after-check-k_of-2 c = c.before.before.before.before.before.before.before.before.before.before.before.before.before.before.before.before
-
-abbrev after-check-k_of-3 : goal.After-filled-arg-4-1 → After-check-k
-after-check-k_of-3 c =
-    c.before.before.before.before.before.before.before.before.before.before.before.before.before.before.before.before.before.before.before
-
-abbrev after-check-k_of-4 : goal.After-slice_known-18-1 → After-check-k
-after-check-k_of-4 c =
-    let d = c.before.before.before.before.before.before.before.before.before.before.before.before.before.before in
-    d.before.before.before.before.before.before.before.before.before.before.before.before.before.before
+use Rattle.chart_plan.proofs.planned.Goals.{After-is_roomy}
 
 -- the lists that are lent
-abbrev lent : Start → Lists
-lent s =
-    lists s.args.edges.now s.args.below.now s.args.table.now s.args.longer.now s.args.places.now
-    s.args.spans.now s.args.number.now s.args.used.now s.args.column.now
-
-abbrev lent_to : After-check-k → Lists
-lent_to k = lent (start_of k)
+abbrev lent : After-is_roomy → Lists
+lent k =
+    let a = k.args in
+    lists a.edges.now a.below.now a.table.now a.longer.now a.places.now a.spans.now a.number.now a.used.now a.column.now
 
 -- where the checks are made, those that are not of masks have room
-fine : (k : After-check-k) → tested k.args.n (lent_to k) ≡ true
-fine k =
-    tested_so _ true (lent_to k) k.capped.ensures k.is_roomy.ensures k.if-not-is_roomy.false
+fine : (k : After-is_roomy) → k.is_roomy.result ≡ true → tested k.args.g.now.vertices (lent k) ≡ true
+fine k h =
+    tested_so k.args.g.now.vertices (present? k.args.g.now.floors) (lent k)
+    (let e : k.min.result ≡ min k.args.g.now.vertices 128 = search rules in e) k.is_roomy.ensures h
 
 pub returns-then-not-is_roomy : goal.returns-then-not-is_roomy
 returns-then-not-is_roomy c =
-    cramped_plan c.args.n c.args.floored (lent (start_of-2 c)) _ _ _ _
-    (tested_so c.args.n c.args.floored (lent (start_of-2 c)) c.capped.ensures c.is_roomy.ensures
-    c.if-not-is_roomy.true) _
-    c.unplanned.ensures
+    let k = (goal.at.returns-then-not-is_roomy c).After-is_roomy in
+    let g = c.args.g.now in
+    cramped_plan g.vertices (present? g.floors) (lent k) _ _ _ _
+    (tested_so g.vertices (present? g.floors) (lent k)
+    (let e : k.min.result ≡ min g.vertices 128 = search rules in e) k.is_roomy.ensures c.if-not-is_roomy.true) _ refl
 
-pub returns-then-k-ne0 : goal.returns-then-k-ne0
-returns-then-k-ne0 c =
-    refused-plan (lent_to (after-check-k_of c)) (fine (after-check-k_of c)) c.check-k.ensures c.if-k-ne0.true _
-    c.unplanned-then-k-ne0.ensures
+pub returns-in_err-checked : goal.returns-in_err-checked
+returns-in_err-checked c =
+    let k = (goal.at.returns-in_err-checked c).After-is_roomy in
+    let p = err_from_is_err_and c.from_residual.result c.from_residual.ensures.1 in
+    rw (p.1, p.2) (refused-plan (lent k) (fine k c.if-not-is_roomy.false) c.in_err-checked.ensures (refusal_numbered _) _ refl)
 
-pub returns-then-k-gt-MOST_CHANNELS : goal.returns-then-k-gt-MOST_CHANNELS
-returns-then-k-gt-MOST_CHANNELS c =
-    broad_plan (lent_to (after-check-k_of-2 c)) (fine (after-check-k_of-2 c)) c.check-k.ensures c.if-k-ne0.false
-    (omega (arith, c.if-k-gt-MOST_CHANNELS.true)) _ c.unplanned-then-k-gt-MOST_CHANNELS.ensures
+pub returns-then-checked-gt-MOST_CHANNELS : goal.returns-then-checked-gt-MOST_CHANNELS
+returns-then-checked-gt-MOST_CHANNELS c =
+    let k = (goal.at.returns-then-checked-gt-MOST_CHANNELS c).After-is_roomy in
+    broad_plan (lent k) (fine k c.if-not-is_roomy.false) c.in_ok-checked.ensures refl
+    (omega (arith, c.if-checked-gt-MOST_CHANNELS.true)) _ refl
 
 pub filled-requires : goal.filled-requires
 filled-requires c =
-    passed (lent_to (after-check-k_of-3 c)) (fine (after-check-k_of-3 c)) c.check-k.ensures c.if-k-ne0.false
+    let k = (goal.at.filled-requires c).After-is_roomy in
+    passed (lent k) (fine k c.if-not-is_roomy.false) c.in_ok-checked.ensures refl
 
 pub returns : goal.returns
 returns c =
-    laid-plan (lent_to (after-check-k_of-4 c)) (fine (after-check-k_of-4 c)) c.check-k.ensures c.if-k-ne0.false
-    (omega (arith, c.if-k-gt-MOST_CHANNELS.false)) c.filled.ensures
+    let k = (goal.at.returns c).After-is_roomy in
+    laid-plan (lent k) (fine k c.if-not-is_roomy.false) c.in_ok-checked.ensures refl
+    (omega (arith, c.if-checked-gt-MOST_CHANNELS.false)) c.filled.ensures

@@ -1,4 +1,4 @@
-use Rattle.counting.proofs.Prelude.{ap, ap₂, ◌∙◌, ℕ, ◌+◌, ◌*◌, ◌/◌}
+use Rattle.counting.proofs.Prelude.{refl, ap, ◌∙◌}
 use Rattle.specification.specs.Count.{indicator}
 use Rattle.reduction.proofs.Marks.{transitive_mask}
 use Rattle.chart_lists.proofs.entries.mark_at.Goals as goal
@@ -7,6 +7,4 @@ use Rattle.chart_lists.proofs.entries.mark_at.Goals as goal
 pub returns : goal.returns
 returns c =
     let a = c.args in
-    c.mark_in.ensures
-    ∙ ap indicator (transitive_mask a.longer.now a.u a.v _
-    (ap₂ (λ (x y : ℕ). 2 * x + y / 64) c.wide.ensures.0 c.wide-2.ensures.0))
+    c.mark_in.ensures ∙ ap indicator (transitive_mask a.longer.now a.u a.v _ refl)

@@ -1,4 +1,5 @@
-use Rattle.counting.proofs.Prelude.{refl, arith, length-set}
+use Rattle.counting.proofs.Prelude.{refl, ap, ◌∙◌, arith, length-set}
+use Rattle.specification.specs.Numbers.{code_of}
 use Rattle.chart_lists.specs.Steps.Numbers.{given}
 use Rattle.chart_lists.proofs.Passing.{arrow_next, kind-here, mark-low}
 use Rattle.chart_lists.proofs.entries.put_arrow.Goals as goal
@@ -16,5 +17,5 @@ pub returns : goal.returns
 returns c =
     let a = c.args in
     let g = given a.ends.now a.longer.now a.places.now a.number.now a.columns.now a.below.now a.left.now in
-    arrow_next g a.e _ a.firm _ _ _ (kind-here g a.e _ c.kind_at-k.ensures) c.mark_at-mark.ensures
-    c.put_five.ensures
+    arrow_next g a.e _ a.firm _ _ _ (c.from-kind.ensures ∙ ap code_of (kind-here g a.e _ c.kind_at.ensures))
+    c.mark_at-mark.ensures c.put_five.ensures

@@ -6,9 +6,6 @@ use Rattle.chart_lists.proofs.entries.put_bundles.Goals as goal
 pub loop-i-init : goal.loop-i-init
 loop-i-init c = (omega arith, filled_none _ _)
 
-pub overflow_cast-out : goal.overflow_cast-out
-overflow_cast-out c = let fit = (c.shared_slice_known-1.given c.loop-i.i).fits in record { fits = omega arith }
-
 pub bounds-out-i : goal.bounds-out-i
 bounds-out-i c = omega (arith, c.loop-i.invariant.1.as_long)
 

@@ -5,7 +5,7 @@ use Rattle.chart_lists.specs.Steps.Numbers.{bundle_from}
 use Rattle.chart_lists.proofs.entries.put_bundles.Given as goal
 
 abbrev pub invariant-loop-i : goal.invariant-loop-i
-invariant-loop-i l = (l.i ≤ l.top) × Filled l.initial.out (bundles (bundle_from l.spans)) l.i l.out
+invariant-loop-i l = (l.i ≤ l.i-end) × Filled l.initial.out (bundles (bundle_from l.spans)) l.i l.out
 
 abbrev pub decreases-loop-i : goal.decreases-loop-i
-decreases-loop-i l = l.top - l.i
+decreases-loop-i l = l.i-end - l.i

@@ -1,13 +1,20 @@
-use Rattle.counting.proofs.Prelude.{arith}
+use Rattle.counting.proofs.Prelude.{refl, ◌≤◌, arith, length}
+use Rattle.chart_plan.proofs.Owning.{start_part, owns_part}
+use Rattle.chart_plan.proofs.Tabling.{tabled_part}
 use Rattle.chart_plan.proofs.columns.columns_of.Goals as goal
 
-pub vertex_columns-requires : goal.vertex_columns-requires
-vertex_columns-requires c =
+pub own_columns-width-requires : goal.own_columns-width-requires
+own_columns-width-requires c =
     let p = c.requires in
-    let all = p.few_channels in
-    (p.few, p.sizes.2, p.sizes.0, c.own_columns-width.ensures.columns.long, λ v h. omega (arith, p.known v h))
+    let room : c.args.channels ≤ length c.args.tracks.now = omega (arith, p.few_channels, p.sizes.1) in
+    (omega (arith, p.few_channels, (start_part _ _ room).0), refl, omega (arith, (start_part _ _ room).1, p.page))
 
 pub returns : goal.returns
 returns c =
-    let own = c.own_columns-width in
-    record { own = own.new.own; owns = own.ensures; standing = c.vertex_columns.ensures }
+    let p = c.requires in
+    let room : c.args.channels ≤ length c.args.tracks.now = omega (arith, p.few_channels, p.sizes.1) in
+    record {
+      own = c.own_columns-width.new.own;
+      owns = owns_part _ _ room c.own_columns-width.ensures;
+      standing = tabled_part p.sizes.2 c.vertex_columns.ensures;
+    }
