@@ -2,4 +2,3 @@ pub mod Changing
 pub mod Refusing
 pub mod Sequences
 pub mod Spelling
-pub mod Stroking

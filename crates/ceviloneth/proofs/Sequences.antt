@@ -8,7 +8,7 @@ use Rattle.editing.specs.Promise.{reply_answer, change_answer}
 use Rattle.specification.specs.Connection.{numbered}
 use Rattle.specification.proofs.Cases.{connection-told}
 use Rattle.specification.specs.declared.Connection.TheVariants.{Unreached}
-use Rattle.specification.specs.declared.Reply.{Reply}
+use Rattle.specification.specs.Asked.{Reply}
 use Rattle.specification.specs.declared.Leading.{Leading}
 use Rattle.ceviloneth.specs.State.{session_of, Starts, Tells}
 use Rattle.editing.specs.Meaning.{Asks}

@@ -1,11 +1,13 @@
--- Sessions and the lists that spell them. Assumes nothing.
-use Rattle.counting.proofs.Prelude.{◌≡◌, refl, sym, ap, ◌∙◌, List, ℕ, ◌+◌, ◌-◌, ◌<◌, ◌≤◌, arith, length, get_or, take, drop, replicate}
-use Rattle.counting.proofs.Prelude.{length-drop, length-replicate, ne_eqb, lt-ltb, le-ltb}
-use lib.Seq.{length-take-le, get_or-take, get_or-drop, ext_get_or}
-use Rattle.specification.specs.Lent.{Filled}
+-- What is written into a part of a list, and the session that the list spells then. Assumes nothing.
+use Rattle.counting.proofs.Prelude.{◌≡◌, refl, sym, ap, ap₂, ◌∙◌, List, ℕ, ◌+◌, ◌<◌, ◌≤◌, ◌++◌, arith, length, get_or, set, take}
+use Rattle.counting.proofs.Prelude.{drop, length-drop}
+use lib.Seq.{length-take-le, get_or-take, get_or-drop, ext_get_or, take_at, drop_at}
+use borrow.Rule.Slice.PartMut.{put_mid, post_of, same_len_mid}
+use Rattle.std.proofs.lemmas.List.{length-set, get_or-set_same, get_or-set_other}
+use Rattle.std.proofs.lemmas.Slice.{take-put_mid_below, drop-put_mid}
 use Rattle.editing.specs.declared.Session.{Session}
 use Rattle.ceviloneth.specs.State.{session_of}
-use Rattle.ceviloneth.specs.Steps.{state_number, Stored}
+use Rattle.ceviloneth.specs.Steps.{Stored}
 
 -- ---- a part of a list
 
@@ -15,51 +17,99 @@ long s first h = length-take-le 256 (drop first s) (omega (arith, length-drop fi
 part : (s : List ℕ) (first i : ℕ) → i < 256 → get_or (take 256 (drop first s)) i 0 ≡ get_or s (first + i) 0
 part s first i h = get_or-take 256 (drop first s) i 0 h ∙ get_or-drop first s i 0
 
--- a list of 256 numbers is the part from `first` on where each of its numbers is that of the part
-pub is_part : (s : List ℕ) (first : ℕ) (t : List ℕ) → first + 256 ≤ length s → length t ≡ 256
-    → ((i : ℕ) → i < 256 → get_or t i 0 ≡ get_or s (first + i) 0) → t ≡ take 256 (drop first s)
-is_part s first t h e same =
-    ext_get_or 0 t (take 256 (drop first s)) (e ∙ sym (long s first h)) (λ i l. same i (omega arith) ∙ sym (part s first i (omega arith)))
+-- two lists have the same part where they have the same numbers there
+same_part : (s t : List ℕ) (first : ℕ) → first + 256 ≤ length s → first + 256 ≤ length t
+    → ((i : ℕ) → i < first + 256 → get_or s i 0 ≡ get_or t i 0) → take 256 (drop first s) ≡ take 256 (drop first t)
+same_part s t first h k same =
+    ext_get_or 0 (take 256 (drop first s)) (take 256 (drop first t)) (long s first h ∙ sym (long t first k))
+    (λ i l.
+    let b : i < 256 = omega (arith, l, long s first h) in
+    part s first i b ∙ same (first + i) (omega arith) ∙ sym (part t first i b))
 
-pub copied : (s : List ℕ) (first i : ℕ) (t : List ℕ) → first + 256 ≤ length s → i ≤ 256 → 256 ≤ i
-    → Filled (replicate 256 0) (λ (k : ℕ). get_or s (first + k) 0) i t → t ≡ take 256 (drop first s)
-copied s first i t h le ge f = is_part s first t h (f.as_long ∙ length-replicate {A = ℕ} 256 0) (λ k l. f.made k 0 (omega arith))
+-- ---- the list with 256 other numbers from `first` on
 
--- ---- the numbers of a session
+module _ (s ys : List ℕ) (first : ℕ) (room : first + 256 ≤ length s) (many : length ys ≡ 256) where
+  abbrev written : List ℕ
+  written = put_mid first 256 s ys
 
-module _ (s : Session) where
-  number-edges : (j i : ℕ) → j ≡ 2 + i → i < 256 → state_number s j ≡ get_or s.edges i 0
-  unfolding state_number
-  number-edges j i e h =
-      let back : j - 2 ≡ i = omega arith in
-      simp (ne_eqb j 0 (λ q. omega arith), ne_eqb j 1 (λ q. omega arith), lt-ltb j 258 (omega arith), back)
+  as_long : length written ≡ length s
+  as_long = same_len_mid first 256 s ys (many ∙ sym (long s first room))
 
-  number-reach : (j i : ℕ) → j ≡ 258 + i → state_number s j ≡ get_or s.reach i 0
-  unfolding state_number
-  number-reach j i e =
-      let back : j - 258 ≡ i = omega arith in
-      simp (ne_eqb j 0 (λ q. omega arith), ne_eqb j 1 (λ q. omega arith), le-ltb j 258 (omega arith), back)
+  in_part : take 256 (drop first written) ≡ ys
+  in_part =
+      ap (take 256) (drop_at (take first s) (ys ++ post_of first 256 s) first (length-take-le first s (omega arith)))
+      ∙ take_at ys (post_of first 256 s) 256 many
+
+  before : (i d : ℕ) → i < first → get_or written i d ≡ get_or s i d
+  before i d l =
+      sym (get_or-take first written i d l)
+      ∙ ap (λ (z : List ℕ). get_or z i d) (take-put_mid_below first 256 s ys first (omega arith) (omega arith))
+      ∙ get_or-take first s i d l
+
+  after : (i d : ℕ) → first + 256 ≤ i → get_or written i d ≡ get_or s i d
+  after i d l =
+      let e : i + 0 ≡ i = omega arith in
+      rw e at
+      (sym (get_or-drop i written 0 d)
+      ∙ ap (λ (z : List ℕ). get_or z 0 d) (drop-put_mid first 256 s ys i l (omega arith) many)
+      ∙ get_or-drop i s 0 d)
+
+-- ---- a session
+
+pub spelt : (s e r : List ℕ) → e ≡ take 256 (drop 2 s) → r ≡ take 256 (drop 258 s)
+    → record { vertices = get_or s 0 0; count = get_or s 1 0; edges = e; reach = r } ≡ session_of s
+unfolding session_of
+spelt s e r h k = rw (h, k) refl
 
 abbrev made : ℕ → ℕ → List ℕ → List ℕ → Session
 made n m e r = record { vertices = n; count = m; edges = e; reach = r }
 
-same : (s z : Session) → s.vertices ≡ z.vertices → s.count ≡ z.count → s.edges ≡ z.edges → s.reach ≡ z.reach → s ≡ z
-same s z v c e r =
-    ap (λ (n : ℕ). made n s.count s.edges s.reach) v
-    ∙ ap (λ (n : ℕ). made z.vertices n s.edges s.reach) c
-    ∙ ap (λ (l : List ℕ). made z.vertices z.count l s.reach) e
-    ∙ ap (λ (l : List ℕ). made z.vertices z.count z.edges l) r
+module _ (was : List ℕ) (n m : ℕ) (e r : List ℕ) (room : 514 ≤ length was) (many-e : length e ≡ 256) (many-r : length r ≡ 256) where
+  abbrev counted : List ℕ
+  counted = set (set was 0 n) 1 m
 
-pub stored : (was : List ℕ) (s : Session) (is : List ℕ) → 514 ≤ length was → length s.edges ≡ 256 → length s.reach ≡ 256
-    → Filled was (state_number s) 514 is → Stored was s is
-unfolding session_of state_number
-stored was s is long-enough el rl f =
-    let n : 514 ≤ length is = omega (arith, f.as_long) in
-    record {
-      numbers = f;
-      spells = same _ s (f.made 0 0 (omega arith)) (f.made 1 0 (omega arith))
-          (sym (is_part is 2 s.edges (omega arith) el (λ k l. sym (f.made (2 + k) 0 (omega arith) ∙ number-edges s (2 + k) k refl l))))
-          (sym
-          (is_part is 258 s.reach (omega arith) rl
-          (λ k l. sym (f.made (258 + k) 0 (omega arith) ∙ number-reach s (258 + k) k refl))));
-    }
+  abbrev half : List ℕ
+  half = put_mid 2 256 counted e
+
+  abbrev whole : List ℕ
+  whole = put_mid 258 256 half r
+
+  len : length counted ≡ length was
+  len = length-set (set was 0 n) 1 m ∙ length-set was 0 n
+
+  len-half : length half ≡ length was
+  len-half = as_long counted e 2 (omega (arith, len)) many-e ∙ len
+
+  len-whole : length whole ≡ length was
+  len-whole = as_long half r 258 (omega (arith, len-half)) many-r ∙ len-half
+
+  low : (i d : ℕ) → i < 258 → get_or whole i d ≡ get_or half i d
+  low i d l = before half r 258 (omega (arith, len-half)) many-r i d l
+
+  first : (i d : ℕ) → i < 2 → get_or whole i d ≡ get_or counted i d
+  first i d l = low i d (omega arith) ∙ before counted e 2 (omega (arith, len)) many-e i d l
+
+  kept : (i d : ℕ) → 514 ≤ i → get_or whole i d ≡ get_or was i d
+  kept i d l =
+      after half r 258 (omega (arith, len-half)) many-r i d l
+      ∙ after counted e 2 (omega (arith, len)) many-e i d (omega arith)
+      ∙ get_or-set_other (set was 0 n) 1 i m d (λ z. omega arith)
+      ∙ get_or-set_other was 0 i n d (λ z. omega arith)
+
+  -- the list as the code writes it
+  pub stored : Stored was (made n m e r) whole
+  stored = record {
+    as_long = len-whole;
+    past = kept;
+    spells =
+        sym (spelt whole e r
+        (sym
+        (same_part whole half 2 (omega (arith, len-whole)) (omega (arith, len-half)) (λ i l. low i 0 l)
+        ∙ in_part counted e 2 (omega (arith, len)) many-e))
+        (sym (in_part half r 258 (omega (arith, len-half)) many-r)))
+        ∙ ap₂ (λ (x y : ℕ). made x y e r)
+        (first 0 0 (omega arith)
+        ∙ get_or-set_other (set was 0 n) 1 0 m 0 (λ z. omega arith)
+        ∙ get_or-set_same was 0 n 0 (omega arith))
+        (first 1 0 (omega arith) ∙ get_or-set_same (set was 0 n) 1 m 0 (omega (arith, length-set was 0 n)));
+  }

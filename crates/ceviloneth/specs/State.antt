@@ -7,7 +7,7 @@ use Rattle.specification.specs.Lent.{Untouched}
 use Rattle.editing.specs.Promise.{refusal_of, StartPromise, AddPromise, LeadsPromise}
 use Rattle.editing.specs.declared.Session.{Session}
 use Rattle.specification.specs.declared.Connection.TheVariants.{Unreached}
-use Rattle.specification.specs.declared.Reply.{Reply}
+use Rattle.specification.specs.Asked.{Reply}
 use Rattle.specification.specs.declared.Leading.{Leading}
 use Rattle.specification.specs.Asked.{reply_by, leading_of}
 

@@ -1,23 +1,17 @@
--- A session's numbers one by one, as the private steps write them. Assumes nothing.
-use Rattle.std.specs.Prelude.{◌≡◌, List, ℕ, ◌+◌, ◌-◌, eqb, ltb, get_or}
-use Rattle.specification.specs.Limits.{table_masks}
-use Rattle.specification.specs.Count.{choose}
-use Rattle.specification.specs.Lent.{Filled}
+-- What the private steps write into a list. Assumes nothing.
+use Rattle.std.specs.Prelude.{◌≡◌, List, ℕ, ◌≤◌, length, get_or}
+use Rattle.editing.specs.Promise.{Changed}
 use Rattle.editing.specs.declared.Session.{Session}
-use Rattle.ceviloneth.specs.State.{state_numbers, session_of}
-
--- a session by its parts
-unfoldable pub session_by : ℕ → ℕ → List ℕ → List ℕ → Session
-session_by vertices count edges reach = record { vertices = vertices; count = count; edges = edges; reach = reach }
-
--- number i of a session
-unfoldable pub state_number : Session → ℕ → ℕ
-state_number s i =
-    choose (eqb i 0) (λ _. s.vertices) (λ _.
-    choose (eqb i 1) (λ _. s.count) (λ _.
-    choose (ltb i (2 + table_masks)) (λ _. get_or s.edges (i - 2) 0) (λ _. get_or s.reach (i - (2 + table_masks)) 0)))
+use Rattle.ceviloneth.specs.State.{state_numbers, session_of, Kept}
 
 -- the list `is` is `was` with the session s in it: it spells s, and is as it was past it
 pub record Stored (was : List ℕ) (s : Session) (is : List ℕ) : Type 0 where
-  pub numbers : Filled was (state_number s) state_numbers is
+  pub as_long : length is ≡ length was
+  pub past : (k d : ℕ) → state_numbers ≤ k → get_or is k d ≡ get_or was k d
   pub spells : session_of is ≡ s
+
+-- the change is told by r, and where it is made the list spells its session; else it is as it was
+pub record Changes (was : List ℕ) (change : Changed) (r : ℕ) (is : List ℕ) : Type 0 where
+  pub refusal : r ≡ change.refusal
+  pub kept : Kept was r is
+  pub spells : r ≡ 0 → session_of is ≡ change.session

@@ -13,9 +13,9 @@ ghost use Rattle.specification.specs.Strokes.{cell};
 mod state;
 mod strokes;
 
-use specification::{Cell, ChartCounts, Leading, Stroke};
-use state::{STATE_NUMBERS, fill_state, session_of, told};
-use strokes::stroke_of;
+use specification::{ChartCounts, Leading, Refusal, Stroke};
+use state::{STATE_NUMBERS, session_of, store, told};
+use strokes::{cell, stroke_of};
 
 const VERSION: u32 = 5;
 
@@ -61,15 +61,9 @@ pub extern "C" fn ceviloneth_session_start(state: &mut [u64], words: usize) -> u
     ensures { Starts state.old words result state.new }
 {
     if state.len() < STATE_NUMBERS {
-        return 8;
+        return u8::from(Refusal::Short);
     }
-    let started = editing::start(words);
-    if started.refusal != 0 {
-        return started.refusal;
-    }
-    let s = started.session;
-    fill_state(state, s);
-    0
+    store(state, editing::start(words))
 }
 
 // Adds the arrow. Refused with 3, 4, 5 or 9, the first that applies.
@@ -78,16 +72,10 @@ pub extern "C" fn ceviloneth_session_add(state: &mut [u64], from: usize, to: usi
     ensures { Adds state.old from to result state.new }
 {
     if state.len() < STATE_NUMBERS {
-        return 8;
+        return u8::from(Refusal::Short);
     }
-    let was = session_of(state);
-    let changed = was.add(from, to);
-    if changed.refusal != 0 {
-        return changed.refusal;
-    }
-    let s = changed.session;
-    fill_state(state, s);
-    0
+    let changed = session_of(state).add(from, to);
+    store(state, changed)
 }
 
 // How the first word leads to the second, by the same four numbers. Refused with 3.
@@ -96,13 +84,9 @@ pub extern "C" fn ceviloneth_session_leads(state: &[u64], from: usize, to: usize
     ensures { Tells state.now from to result }
 {
     if state.len() < STATE_NUMBERS {
-        return Leading {
-            refusal: 8,
-            leads: 0,
-        };
+        return told(Err(Refusal::Short));
     }
-    let s = session_of(state);
-    told(s.leads(from, to))
+    told(session_of(state).leads(from, to))
 }
 
 // ---- page strokes
@@ -112,15 +96,7 @@ pub extern "C" fn ceviloneth_session_leads(state: &[u64], from: usize, to: usize
 pub extern "C" fn ceviloneth_stroke_straight(c0: u32, r0: u32, c1: u32, r1: u32) -> Stroke
     ensures { Drawn (cell c0 r0 ∷ cell c1 r1 ∷ []) result }
 {
-    let a = Cell {
-        column: c0,
-        row: r0,
-    };
-    let b = Cell {
-        column: c1,
-        row: r1,
-    };
-    stroke_of(page::straight(a, b))
+    stroke_of(page::straight(cell(c0, r0), cell(c1, r1)))
 }
 
 // The stroke that bends at the second place.
@@ -135,19 +111,7 @@ pub extern "C" fn ceviloneth_stroke_bent(
 ) -> Stroke
     ensures { Drawn (cell c0 r0 ∷ cell c1 r1 ∷ cell c2 r2 ∷ []) result }
 {
-    let a = Cell {
-        column: c0,
-        row: r0,
-    };
-    let b = Cell {
-        column: c1,
-        row: r1,
-    };
-    let c = Cell {
-        column: c2,
-        row: r2,
-    };
-    stroke_of(page::bent(a, b, c))
+    stroke_of(page::bent(cell(c0, r0), cell(c1, r1), cell(c2, r2)))
 }
 
 // The stroke of a side arrow, with corners at the second and third places.
@@ -164,21 +128,5 @@ pub extern "C" fn ceviloneth_stroke_side(
 ) -> Stroke
     ensures { Drawn (cell c0 r0 ∷ cell c1 r1 ∷ cell c2 r2 ∷ cell c3 r3 ∷ []) result }
 {
-    let a = Cell {
-        column: c0,
-        row: r0,
-    };
-    let b = Cell {
-        column: c1,
-        row: r1,
-    };
-    let c = Cell {
-        column: c2,
-        row: r2,
-    };
-    let d = Cell {
-        column: c3,
-        row: r3,
-    };
-    stroke_of(page::side(a, b, c, d))
+    stroke_of(page::side(cell(c0, r0), cell(c1, r1), cell(c2, r2), cell(c3, r3)))
 }

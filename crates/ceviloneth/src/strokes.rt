@@ -1,20 +1,30 @@
 // A polyline as numbers.
 ghost use Rattle.std.specs.Prelude.{◌≡◌};
 ghost use Rattle.specification.specs.Page.{answer_of};
-ghost use Rattle.specification.specs.Strokes.{origin, stroke_for, joined_at};
+ghost use Rattle.specification.specs.Strokes.{cell, stroke_for};
 
-use specification::{Point, Polyline, Stroke};
+use specification::{Cell, Point, Polyline, Refusal, Stroke};
 
 // Stands for a point that a stroke has not.
-fn nowhere() -> Point
-    ensures { result ≡ origin }
+const NOWHERE: Point = Point { x: 0.0, y: 0.0 };
+
+pub(crate) fn cell(column: u32, row: u32) -> Cell
+    ensures { result ≡ cell column row }
 {
-    Point { x: 0.0, y: 0.0 }
+    Cell { column, row }
 }
 
-fn joined(refusal: u8, points: u8, a: Point, b: Point, c: Point, d: Point) -> Stroke
-    ensures { result ≡ joined_at refusal points a b c d }
+// A polyline as the struct for C.
+// No From: both types are another crate's.
+pub(crate) fn stroke_of(p: Polyline) -> Stroke
+    ensures { result ≡ stroke_for (answer_of p) }
 {
+    let (refusal, points, [a, b, c, d]) = match p {
+        Polyline::Straight(a, b) => (0, 2, [a, b, NOWHERE, NOWHERE]),
+        Polyline::Bent(a, b, c) => (0, 3, [a, b, c, NOWHERE]),
+        Polyline::Side(a, b, c, d) => (0, 4, [a, b, c, d]),
+        Polyline::OffPage => (u8::from(Refusal::OffPage), 0, [NOWHERE; 4]),
+    };
     Stroke {
         refusal,
         points,
@@ -26,17 +36,5 @@ fn joined(refusal: u8, points: u8, a: Point, b: Point, c: Point, d: Point) -> St
         y2: c.y,
         x3: d.x,
         y3: d.y,
-    }
-}
-
-pub(crate) fn stroke_of(p: Polyline) -> Stroke
-    ensures { result ≡ stroke_for (answer_of p) }
-{
-    let none = nowhere();
-    match p {
-        Polyline::Straight(a, b) => joined(0, 2, a, b, none, none),
-        Polyline::Bent(a, b, c) => joined(0, 3, a, b, c, none),
-        Polyline::Side(a, b, c, d) => joined(0, 4, a, b, c, d),
-        Polyline::OffPage => joined(10, 0, none, none, none, none),
     }
 }

@@ -6,7 +6,7 @@ use Rattle.counting.proofs.Truth.{true_or_false, or_elim, or_neither}
 use Rattle.specification.specs.Graph.{Reaches, Edge}
 use Rattle.specification.specs.Connection.{connection_number}
 use Rattle.specification.specs.declared.Connection.TheVariants.{Unreached}
-use Rattle.specification.specs.declared.Reply.{Reply}
+use Rattle.specification.specs.Asked.{Reply}
 use Rattle.specification.specs.declared.Leading.{Leading}
 use Rattle.specification.specs.Checks.{record_refusal, said, connection_in, SoundRecord}
 use Rattle.specification.specs.Asked.{reply_by, leading_of, asked}

@@ -32,11 +32,10 @@ use Rattle.specification.specs.Graph.{Edge, edge?}
 use Rattle.specification.specs.Connection.{connection_number}
 use Rattle.specification.specs.Machine.{Graph, Call, Answer, run, fresh}
 use Rattle.specification.specs.Asked.{leading_of, asked}
-use Rattle.specification.specs.declared.Reply.{Reply}
+use Rattle.specification.specs.Asked.{Reply}
 use Rattle.specification.specs.declared.Leading.{Leading}
 use Rattle.editing.specs.declared.Session.{Session}
-use Rattle.editing.specs.declared.Changed.{Changed}
-use Rattle.editing.specs.Promise.{StartPromise, LeadsPromise}
+use Rattle.editing.specs.Promise.{Changed, StartPromise, LeadsPromise}
 use Rattle.editing.specs.Histories.{History}
 use Rattle.editing.specs.Meaning as session
 use Rattle.editing.proofs.Sequences as value

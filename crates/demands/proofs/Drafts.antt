@@ -2,7 +2,7 @@
 use Rattle.counting.proofs.Prelude.{◌≡◌, refl, ap, ◌∙◌, Bool, List, ℕ}
 use mathlib.Core.List.{map}
 use Rattle.specification.specs.Checks.{Content, content, content_of, content_in, refusal_in}
-use Rattle.specification.specs.declared.Layout.{Layout}
+use Rattle.specification.specs.Layout.{Layout}
 use Rattle.specification.specs.Writing.{Draft, written, Writable, fields_of}
 use Rattle.specification.specs.Drawn.{chart_refusal, judged, record_drawn}
 use Rattle.specification.proofs.Written.{written_reads_back}

@@ -1,9 +1,9 @@
 -- What is answered and left of a record: by where its fields stand, and then as of the graph that they say. Assumes nothing.
 use Rattle.counting.proofs.Prelude.{◌≡◌, refl, sym, ap, ◌∙◌, subst, ◌↔◌, List, ℕ, arith, eq-eqb}
 use Rattle.specification.specs.Layout.{layout_of}
-use Rattle.specification.specs.declared.Fields.{Fields}
-use Rattle.specification.specs.declared.Layout.{Layout}
-use Rattle.specification.specs.declared.Layout.TheVariants.{Good, Bad}
+use Rattle.specification.specs.Layout.{Fields}
+use Rattle.specification.specs.Layout.{Layout}
+use Rattle.specification.specs.Layout.{Good, Bad}
 use Rattle.specification.specs.Checks.{Content, EndsKnown, SoundRecord, content_of, content_in, refusal_in, said}
 use Rattle.specification.specs.Drawn.{Drawn, chart_refusal, judged, record_drawn, lent}
 use Rattle.specification.specs.declared.ChartCounts.{ChartCounts}

@@ -2,8 +2,8 @@
 use Rattle.std.specs.Prelude.{◌≡◌, ◌↔◌, List, ℕ, ◌≤◌, ◌<◌, length, get_or}
 use Rattle.specification.specs.Limits.{most_vertices, most_channels}
 use Rattle.specification.specs.Layout.{layout_of}
-use Rattle.specification.specs.declared.Fields.{Fields}
-use Rattle.specification.specs.declared.Layout.TheVariants.{Good}
+use Rattle.specification.specs.Layout.{Fields}
+use Rattle.specification.specs.Layout.{Good}
 use Rattle.specification.specs.Checks.{Content, content_of, Sized, Floored, EndsKnown, GivenKnown, Distinct, Acyclic, Once, Sound}
 use Rattle.specification.specs.Checks.{given_of}
 use Rattle.specification.specs.Lawful.{Divided}

@@ -18,7 +18,7 @@ use Rattle.editing.specs.Meaning.{Closes, Why, Exact, Asks}
 use Rattle.editing.specs.Promise.{outside?, connection_of, Represents, LeadsPromise}
 use Rattle.editing.specs.declared.Session.{Session}
 use Rattle.specification.proofs.Cases.{same-connection}
-use Rattle.specification.specs.declared.Reply.{Reply}
+use Rattle.specification.specs.Asked.{Reply}
 use Rattle.specification.specs.Count.{choose}
 use Rattle.editing.proofs.Sessions.{outside_same, small_ends, connection-same}
 use Rattle.editing.proofs.Machines.{known, reached_decided, insert_extends, add-made, refused_three, unknown-leads}

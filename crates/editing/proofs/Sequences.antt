@@ -1,11 +1,11 @@
 -- Every list of calls after a fresh start: the session's set and every answer are the machine's. Assumes nothing.
 use Rattle.counting.proofs.Prelude.{◌≡◌, refl, ap, ap₂, ◌≢◌, List, [], ◌∷◌, ℕ, length, replicate, ne_eqb}
 use Rattle.editing.specs.declared.Session.{Session}
-use Rattle.editing.specs.declared.Changed.{Changed}
+use Rattle.editing.specs.Promise.{Changed}
 use Rattle.specification.specs.Machine.{Graph, Call, Answer, step, run, answers, empty, start_vertices, fresh}
 use Rattle.specification.specs.Graph.{size_refusal}
 use Rattle.specification.specs.Connection.{connection_number}
-use Rattle.specification.specs.declared.Reply.{Reply}
+use Rattle.specification.specs.Asked.{Reply}
 use Rattle.editing.specs.Promise.{Represents, StartPromise, LeadsPromise}
 use Rattle.editing.specs.Meaning.{Exact, Asks}
 use Rattle.editing.specs.Histories.{Performed, History, Follows}

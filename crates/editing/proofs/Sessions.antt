@@ -1,7 +1,7 @@
 -- A session and the graph that it represents: the tests, the answers, and that an edge more keeps it so. Assumes nothing.
 use Rattle.counting.proofs.Prelude.{◌≡◌, refl, sym, ap, ap₂, ◌∙◌, subst, ◌≢◌, ⊎_elim, Bool, true, false, ◌&&◌, ◌∷◌, ℕ, zero, suc, ◌≤◌, ◌<◌}
-use Rattle.counting.proofs.Prelude.{min, arith, eqb, leb, length, replicate, eq-eqb, le-leb, lt-leb}
-use native.Mathlib.Nat.{lt_of_lt_of_le}
+use Rattle.counting.proofs.Prelude.{min, arith, eqb, leb, length, replicate, eq-eqb, leb-false}
+use native.Mathlib.Nat.{suc-ne-zero, lt_of_lt_of_le}
 use native.Mathlib.Numerals.{add-one}
 use native.Mathlib.Decide.{ℕ_discrete}
 use Rattle.specification.specs.Count.{choose}
@@ -9,10 +9,11 @@ use Rattle.specification.specs.Sets.{has?}
 use Rattle.specification.specs.Asked.{reply_by}
 use Rattle.specification.specs.Connection.{connection, longer?, connects}
 use Rattle.specification.specs.declared.Connection.{Connection}
+use Rattle.specification.specs.declared.Refusal.TheVariants.{Floor}
 use Rattle.specification.specs.declared.Connection.TheVariants.{Unreached}
 use Rattle.counting.proofs.Somes.{some_found, some_which}
-use Rattle.counting.proofs.Truth.{and_intro, and_elim, or_left, or_right, same_truth}
-use Rattle.counting.proofs.Falsity.{not-true, neither}
+use Rattle.counting.proofs.Truth.{and_intro, and_elim, or_neither, same_truth}
+use Rattle.counting.proofs.Falsity.{not-true}
 use Rattle.masks.proofs.Tables.{at_zeros, Put, put_law}
 use Rattle.reach.proofs.Extending.{Extends}
 use Rattle.editing.specs.declared.Session.{Session}
@@ -25,19 +26,13 @@ use Rattle.editing.specs.Promise.{reply_answer, StartPromise, AddPromise, LeadsP
 use Rattle.editing.proofs.Machines.{verdict-unknown, known, reached_decided, insert_extends, Accepted, accepted, insert_lawful}
 use Rattle.editing.proofs.Machines.{insert-reached, add-made, add_kept, none_reached, empty_lawful}
 
--- ---- an end that is no vertex
-
-pub outside_tail : (s : Session) (u v : ℕ) → min s.vertices 128 ≤ u → outside? s u v ≡ true
+-- both ends are vertices, so the tables have them
+pub inside_ends : (s : Session) (u v : ℕ) → outside? s u v ≡ false → (u < 128) × (v < 128)
 unfolding outside?
-outside_tail s u v h = or_left (leb (min s.vertices 128) u) (leb (min s.vertices 128) v) (le-leb _ _ h)
-
-pub outside_head : (s : Session) (u v : ℕ) → min s.vertices 128 ≤ v → outside? s u v ≡ true
-unfolding outside?
-outside_head s u v h = or_right (leb (min s.vertices 128) u) (leb (min s.vertices 128) v) (le-leb _ _ h)
-
-pub inside : (s : Session) (u v : ℕ) → u < min s.vertices 128 → v < min s.vertices 128 → outside? s u v ≡ false
-unfolding outside?
-inside s u v h k = neither (leb (min s.vertices 128) u) (leb (min s.vertices 128) v) (lt-leb _ _ h) (lt-leb _ _ k)
+inside_ends s u v e =
+    let p = or_neither (leb (min s.vertices 128) u) (leb (min s.vertices 128) v) e in
+    let h = leb-false _ _ p.0 in
+    let k = leb-false _ _ p.1 in (omega arith, omega arith)
 
 -- ---- the session represents g: its tests and answers are the machine's
 

@@ -1,8 +1,8 @@
 -- Every list of calls after a fresh start. Assumes nothing.
 use Rattle.std.specs.Prelude.{◌≡◌, List, [], ◌∷◌, ℕ}
 use Rattle.editing.specs.declared.Session.{Session}
-use Rattle.editing.specs.declared.Changed.{Changed}
-use Rattle.specification.specs.declared.Reply.{Reply}
+use Rattle.editing.specs.Promise.{Changed}
+use Rattle.specification.specs.Asked.{Reply}
 use Rattle.specification.specs.Machine.{Graph, Call, Answer, run, answers}
 use Rattle.editing.specs.Promise.{Represents, change_answer, reply_answer, AddPromise, LeadsPromise}
 

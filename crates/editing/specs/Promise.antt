@@ -1,14 +1,16 @@
 -- What the calls promise: of any session value whatever, and of one that represents a graph of the machine. Assumes nothing.
-use Rattle.std.specs.Prelude.{◌≡◌, ◌≢◌, Bool, ◌||◌, ◌&&◌, List, ℕ, zero, suc, ◌+◌, ◌*◌, ◌≤◌, ◌<◌, min, eqb, leb, length, replicate}
+use Rattle.std.specs.Prelude.{◌≡◌, ◌≢◌, Bool, ◌||◌, ◌&&◌, List, ℕ, zero, suc, ◌+◌, ◌*◌, ◌≤◌, ◌<◌, min, eqb, leb, length, replicate, Result}
+use Rattle.std.specs.Prelude.{Ok, Err}
 use Rattle.specification.specs.Count.{choose, some}
 use Rattle.specification.specs.Sets.{at, inserted, has?}
 use Rattle.specification.specs.Connection.{connection}
 use Rattle.specification.specs.Limits.{most_vertices, most_edges, table_masks, mask_bits}
 use Rattle.editing.specs.declared.Session.{Session}
-use Rattle.editing.specs.declared.Changed.{Changed}
+use Rattle.editing.specs.declared.Refused.{Refused}
+use Rattle.specification.specs.Refusals.{refusal_number}
 use Rattle.specification.specs.declared.Connection.{Connection}
 use Rattle.specification.specs.declared.Connection.TheVariants.{Unreached}
-use Rattle.specification.specs.declared.Reply.{Reply}
+use Rattle.specification.specs.Asked.{Reply}
 use Rattle.specification.specs.Machine.{Graph, Call, Answer, contains, reached?, verdict, step, start_vertices, fresh, Lawful}
 use Rattle.specification.specs.Graph.{size_refusal}
 use Rattle.specification.specs.Lent.{Untouched}
@@ -70,6 +72,16 @@ reply_answer zero a = Answer.told a
 reply_answer (suc k) a = Answer.refused (suc k)
 
 -- ---- the calls
+
+-- the refusal, or 0, and the session after the call
+pub record Changed : Type 0 where
+  pub refusal : ℕ
+  pub session : Session
+
+-- what a call says: the next session, or why there is none, and the session as it was
+abbrev pub changed_of : Result Session Refused → Changed
+changed_of (Ok next) = record { refusal = 0; session = next }
+changed_of (Err r) = record { refusal = refusal_number r.refusal; session = r.session }
 
 pub record StartPromise (n : ℕ) (r : Changed) : Type 0 where
   pub refusal : r.refusal ≡ size_refusal n

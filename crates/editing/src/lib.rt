@@ -2,12 +2,14 @@
 // takes it and hands one back. A table has two masks of 64 bits a vertex: bit v mod 64 of mask 2 u + v / 64 says that v is in the set of u.
 #![tactic(auto)]
 
-ghost use Rattle.std.specs.Prelude.{◌≡◌, ◌||◌, ◌≤◌, ◌<◌, min, eqb, length};
+ghost use Rattle.std.specs.Prelude.{◌≡◌, ◌||◌, ◌≤◌, ◌<◌, eqb, length};
+ghost use Rattle.specification.specs.Asked.{reply_of};
+ghost use Rattle.specification.specs.Refusals.{number_in};
 ghost use Rattle.specification.specs.Sets.{has?};
 ghost use Rattle.editing.specs.Steps.{passing?};
-ghost use Rattle.editing.specs.Promise.{blank, refusal_of, detour?, Linked, StartPromise, AddPromise, LeadsPromise};
+ghost use Rattle.editing.specs.Promise.{blank, changed_of, outside?, refusal_of, detour?, Linked, StartPromise, AddPromise, LeadsPromise};
 
-use specification::{Connection, Reply};
+use specification::{Connection, Refusal};
 
 // The most vertices and edges of a graph.
 const MOST_VERTICES: usize = 128;
@@ -23,21 +25,11 @@ pub struct Session {
     pub reach: [u64; 256],
 }
 
-// The refusal, or 0, and the session after the call: as it was where the call is refused.
+// Why a call is refused, and the session after it, as it was before.
 #[derive(Clone, Copy)]
-pub struct Changed {
-    pub refusal: u8,
+pub struct Refused {
+    pub refusal: Refusal,
     pub session: Session,
-}
-
-// As many vertices as a table has sets for.
-fn capped(n: usize) -> usize
-    ensures { result ≡ min n 128 }
-{
-    if n < MOST_VERTICES {
-        return n;
-    }
-    MOST_VERTICES
 }
 
 // Whether u is the tail or has it.
@@ -45,10 +37,7 @@ fn comes(reach: &[u64], u: usize, tail: usize) -> bool
     requires { u < 128 }
     ensures { result ≡ (eqb u tail || has? 2 reach.now u tail) }
 {
-    if u == tail {
-        return true;
-    }
-    masks::contains(reach, 2 * u, tail)
+    masks::contains(reach, 2 * u, tail) || u == tail
 }
 
 // Reachability with one edge more: every vertex that is the tail or reaches it gets the head and all that the head reaches.
@@ -66,17 +55,18 @@ fn link(reach: &mut [u64], tail: usize, head: usize)
 }
 
 // Whether a member of a mask, which begins at vertex `base`, has v.
+// A mask with the vertex of its bit 0, parameters that go together: both are in registers, and the loop takes them apart at once.
 fn passes(reach: &[u64], mask: u64, base: usize, v: usize) -> bool
     requires { base ≤ 64 }
     ensures { result ≡ passing? 2 reach.now mask base v }
 {
     let mut x = mask;
     while x != 0 {
-        let w = base + u64::trailing_zeros(x) as usize;
+        let w = base + x.trailing_zeros() as usize;
         if masks::contains(reach, 2 * w, v) {
             return true;
         }
-        x = x & (x - 1);
+        x &= x - 1;
     }
     false
 }
@@ -86,124 +76,89 @@ fn detour(edges: &[u64], reach: &[u64], tail: usize, head: usize) -> bool
     requires { tail < 128 }
     ensures { result ≡ detour? 2 edges.now reach.now tail head }
 {
-    if passes(reach, masks::mask_at(edges, 2 * tail, 0), 0, head) {
-        return true;
-    }
-    passes(reach, masks::mask_at(edges, 2 * tail, 1), 64, head)
+    passes(reach, masks::mask_at(edges, 2 * tail, 0), 0, head)
+        || passes(reach, masks::mask_at(edges, 2 * tail, 1), 64, head)
 }
 
-// Why the edge is refused, or 0.
-fn refusal_of(s: Session, tail: usize, head: usize) -> u8
-    ensures value { result ≡ refusal_of s tail head }
-    ensures tail_bound { result ≡ 0 → (tail < 128) × (head < 128) × (s.count < 4096) }
+// A session of n vertices and no edges. Refused where n is 0 or more than 128, and then the session has no vertices.
+pub fn start(n: usize) -> Result<Session, Refused>
+    ensures { StartPromise n (changed_of result) }
 {
-    let n = capped(s.vertices);
-    if n <= tail {
-        return 3;
+    if n == 0 || MOST_VERTICES < n {
+        return Err(Refused {
+            refusal: Refusal::Size,
+            session: Session::blank(0),
+        });
     }
-    if n <= head {
-        return 3;
-    }
-    let edges = s.edges;
-    if masks::contains(&edges, 2 * tail, head) {
-        return 4;
-    }
-    let reach = s.reach;
-    if comes(&reach, head, tail) {
-        return 5;
-    }
-    if MOST_EDGES <= s.count {
-        return 9;
-    }
-    0
-}
-
-fn blank_session(n: usize) -> Session
-    ensures { result ≡ blank n }
-{
-    Session {
-        vertices: n,
-        count: 0,
-        edges: [0; 256],
-        reach: [0; 256],
-    }
-}
-
-// A session of n vertices and no edges. Refused with 2 (no vertex, or more than 128), and then it has no vertices.
-pub fn start(n: usize) -> Changed
-    ensures { StartPromise n result }
-{
-    if n == 0 {
-        return Changed {
-            refusal: 2,
-            session: blank_session(0),
-        };
-    }
-    if MOST_VERTICES < n {
-        return Changed {
-            refusal: 2,
-            session: blank_session(0),
-        };
-    }
-    Changed {
-        refusal: 0,
-        session: blank_session(n),
-    }
+    Ok(Session::blank(n))
 }
 
 impl Session {
-    // The session with the edge from tail to head, or as it was: 3 (an end that is no vertex), 4 (the edge is in), 5 (it would close a
-    // cycle) or 9 (4,096 edges are in), the first that applies.
-    #[tactic(auto, using(crate::proofs::Sessions::add_refused))]
-    pub fn add(self, tail: usize, head: usize) -> Changed
-        ensures { AddPromise self tail head result }
+    fn blank(n: usize) -> Session
+        ensures { result ≡ blank n }
     {
-        let count = self.count;
-        let refusal = refusal_of(self, tail, head);
-        if refusal != 0 {
-            return Changed {
-                refusal,
-                session: self,
-            };
-        }
-        let mut edges = self.edges;
-        masks::insert(&mut edges, 2 * tail, head);
-        let mut reach = self.reach;
-        link(&mut reach, tail, head);
-        Changed {
-            refusal: 0,
-            session: Session {
-                vertices: self.vertices,
-                count: count + 1,
-                edges,
-                reach,
-            },
+        Session {
+            vertices: n,
+            count: 0,
+            edges: [0; 256],
+            reach: [0; 256],
         }
     }
 
-    // How the tail reaches the head; 3 where one of them is no vertex.
-    pub fn leads(self, tail: usize, head: usize) -> Reply
-        ensures { LeadsPromise self tail head result }
+    // Whether one of the two is no vertex.
+    fn is_outside(&self, tail: usize, head: usize) -> bool
+        ensures { result ≡ outside? self.now tail head }
     {
-        let n = capped(self.vertices);
-        if n <= tail {
-            return Reply {
-                refusal: 3,
-                connection: Connection::Unreached,
-            };
+        let n = self.vertices.min(MOST_VERTICES);
+        n <= tail || n <= head
+    }
+
+    // Whether the edge may be put in. Refused where an end is no vertex, the edge is in, it would close a cycle, or 4,096 edges are in: the
+    // first that applies.
+    fn allows(&self, tail: usize, head: usize) -> Result<(), Refusal>
+        ensures value { number_in result ≡ refusal_of self.now tail head }
+        ensures room { number_in result ≡ 0 → (tail < 128) × (head < 128) × (self.now.count < 4096) }
+    {
+        if self.is_outside(tail, head) {
+            return Err(Refusal::Stranger);
         }
-        if n <= head {
-            return Reply {
-                refusal: 3,
-                connection: Connection::Unreached,
-            };
+        if masks::contains(&self.edges, 2 * tail, head) {
+            return Err(Refusal::Double);
         }
-        let edges = self.edges;
-        let reach = self.reach;
-        let edge = masks::contains(&edges, 2 * tail, head);
-        Reply {
-            refusal: 0,
-            connection: reach::connected(edge, detour(&edges, &reach, tail, head)),
+        if comes(&self.reach, head, tail) {
+            return Err(Refusal::Ring);
         }
+        if MOST_EDGES <= self.count {
+            return Err(Refusal::Full);
+        }
+        Ok(())
+    }
+
+    // The session with the edge from tail to head; refused as `allows` says.
+    pub fn add(self, tail: usize, head: usize) -> Result<Session, Refused>
+        ensures { AddPromise self tail head (changed_of result) }
+    {
+        if let Err(refusal) = self.allows(tail, head) {
+            return Err(Refused {
+                refusal,
+                session: self,
+            });
+        }
+        let mut next = self;
+        next.count += 1;
+        masks::insert(&mut next.edges, 2 * tail, head);
+        link(&mut next.reach, tail, head);
+        Ok(next)
+    }
+
+    // How the tail reaches the head. Refused where one of them is no vertex.
+    pub fn leads(self, tail: usize, head: usize) -> Result<Connection, Refusal>
+        ensures { LeadsPromise self tail head (reply_of result) }
+    {
+        if self.is_outside(tail, head) {
+            return Err(Refusal::Stranger);
+        }
+        let edge = masks::contains(&self.edges, 2 * tail, head);
+        Ok(reach::connected(edge, detour(&self.edges, &self.reach, tail, head)))
     }
 }

@@ -1,8 +1,11 @@
 -- A line read byte by byte comes to its order. Assumes nothing.
-use Rattle.counting.proofs.Prelude.{◌≡◌, refl, sym, ap, ap₂, ◌∙◌, Bool, true, false, List, [], ◌∷◌, ℕ, zero-le, arith, eqb}
+use Rattle.counting.proofs.Prelude.{◌≡◌, refl, sym, ap, ap₂, ◌∙◌, Bool, true, false, List, [], ◌∷◌, ℕ, zero-le, eqb}
 use Rattle.specification.specs.Count.{choose}
 use Rattle.script.specs.declared.Numeral.{Numeral}
+use Rattle.script.specs.declared.Part.{Part}
+use Rattle.script.specs.declared.Part.TheVariants.{Name, First, Second, Rest}
 use Rattle.script.specs.declared.Scanner.{Scanner}
+use Rattle.std.specs.Prelude.{Option, Some}
 use Rattle.specification.specs.Orders.{Parts, prepend, parts, same, words_name, add_name, leads_name, Number, number_of, Order, with_one}
 use Rattle.specification.specs.Orders.{with_two, read, order}
 use Rattle.script.specs.Scanning.{advanced, extended, within, next_part, scanned, begun, scan, with_number, finished_two, finished_one}
@@ -39,34 +42,36 @@ scan-over s (b ∷ l) = go (eqb b 32) (λ z. scan-over z l)
 
 -- ---- the parts one by one
 
-abbrev state : ℕ → ℕ → ℕ → ℕ → Numeral → Numeral → Scanner
+abbrev state : Part → Option ℕ → Option ℕ → Option ℕ → Numeral → Numeral → Scanner
 state k w a l x y = record { part = k; words = w; add = a; leads = l; first = x; second = y }
 
-absorbed_name : (w a l : ℕ) (x y : Numeral) (p : List ℕ)
-    → absorbed (state 0 w a l x y) p ≡ state 0 (followed words_name w p) (followed add_name a p) (followed leads_name l p) x y
+absorbed_name : (w a l : Option ℕ) (x y : Numeral) (p : List ℕ)
+    → absorbed (state Name w a l x y) p ≡ state Name (followed words_name w p) (followed add_name a p) (followed leads_name l p) x y
 unfolding absorbed within followed
 absorbed_name w a l x y [] = refl
 absorbed_name w a l x y (b ∷ p) = absorbed_name (advanced words_name w b) (advanced add_name a b) (advanced leads_name l b) x y p
 
-absorbed-first : (w a l : ℕ) (x y : Numeral) (p : List ℕ) → absorbed (state 1 w a l x y) p ≡ state 1 w a l (gathered x p) y
+absorbed-first : (w a l : Option ℕ) (x y : Numeral) (p : List ℕ) → absorbed (state First w a l x y) p ≡ state First w a l (gathered x p) y
 unfolding absorbed within gathered
 absorbed-first w a l x y [] = refl
 absorbed-first w a l x y (b ∷ p) = absorbed-first w a l (extended x b) y p
 
-absorbed-second : (w a l : ℕ) (x y : Numeral) (p : List ℕ) → absorbed (state 2 w a l x y) p ≡ state 2 w a l x (gathered y p)
+absorbed-second : (w a l : Option ℕ) (x y : Numeral) (p : List ℕ)
+    → absorbed (state Second w a l x y) p ≡ state Second w a l x (gathered y p)
 unfolding absorbed within gathered
 absorbed-second w a l x y [] = refl
 absorbed-second w a l x y (b ∷ p) = absorbed-second w a l x (extended y b) p
 
-absorbed-rest : (w a l : ℕ) (x y : Numeral) (p : List ℕ) → absorbed (state 3 w a l x y) p ≡ state 3 w a l x y
+absorbed-rest : (w a l : Option ℕ) (x y : Numeral) (p : List ℕ) → absorbed (state Rest w a l x y) p ≡ state Rest w a l x y
 unfolding absorbed within
 absorbed-rest w a l x y [] = refl
 absorbed-rest w a l x y (b ∷ p) = absorbed-rest w a l x y p
 
-over-rest : (w a l : ℕ) (x y : Numeral) (ps : Parts) → over (state 3 w a l x y) ps ≡ state 3 w a l x y
+over-rest : (w a l : Option ℕ) (x y : Numeral) (ps : Parts) → over (state Rest w a l x y) ps ≡ state Rest w a l x y
 unfolding over next_part
 over-rest w a l x y (Parts.last p) = absorbed-rest w a l x y p
-over-rest w a l x y (Parts.more p ps) = ap (λ (s : Scanner). over (next_part s) ps) (absorbed-rest w a l x y p) ∙ over-rest w a l x y ps
+over-rest w a l x y (Parts.more p ps) =
+    ap (λ (s : Scanner). over (next_part s) ps) (absorbed-rest w a l x y p) ∙ over-rest w a l x y ps
 
 -- ---- what they come to
 
@@ -102,20 +107,21 @@ same_number Numeral.Empty f g e = refl
 same_number (Numeral.Value n) f g e = e n
 same_number Numeral.Bad f g e = refl
 
+-- how much of each name a first part matches, with two numbers
+abbrev named : Part → List ℕ → Numeral → Numeral → Scanner
+named k p x y = state k (followed words_name (Some 0) p) (followed add_name (Some 0) p) (followed leads_name (Some 0) p) x y
+
 -- the states after the first, the second and the third part
 module _ (p q r : List ℕ) where
-  first_part : absorbed begun p ≡ state 0 (followed words_name 0 p) (followed add_name 0 p) (followed leads_name 0 p) Numeral.Empty
-      Numeral.Empty
-  first_part = absorbed_name 0 0 0 Numeral.Empty Numeral.Empty p
+  first_part : absorbed begun p ≡ named Name p Numeral.Empty Numeral.Empty
+  first_part = absorbed_name (Some 0) (Some 0) (Some 0) Numeral.Empty Numeral.Empty p
 
-  second-part : absorbed (next_part (absorbed begun p)) q
-      ≡ state 1 (followed words_name 0 p) (followed add_name 0 p) (followed leads_name 0 p) (gathered Numeral.Empty q) Numeral.Empty
+  second-part : absorbed (next_part (absorbed begun p)) q ≡ named First p (gathered Numeral.Empty q) Numeral.Empty
   unfolding next_part
   second-part = ap (λ (s : Scanner). absorbed (next_part s) q) first_part ∙ absorbed-first _ _ _ Numeral.Empty Numeral.Empty q
 
   third_part : absorbed (next_part (absorbed (next_part (absorbed begun p)) q)) r
-      ≡ state 2 (followed words_name 0 p) (followed add_name 0 p) (followed leads_name 0 p) (gathered Numeral.Empty q)
-      (gathered Numeral.Empty r)
+      ≡ named Second p (gathered Numeral.Empty q) (gathered Numeral.Empty r)
   unfolding next_part
   third_part = ap (λ (s : Scanner). absorbed (next_part s) r) second-part ∙ absorbed-second _ _ _ (gathered Numeral.Empty q) Numeral.Empty r
 
@@ -125,13 +131,13 @@ finished-over (Parts.last p) = ap finished (first_part p [] [])
 finished-over (Parts.more p (Parts.last q)) =
     ap finished (second-part p q []) ∙ gathered-number q _
     ∙ ap (λ (t : Bool). with_number (valued (number_of q)) (λ u. choose t (λ _. Order.words u) (λ _. Order.unreadable)))
-    (followed_same words_name (omega arith) 0 p zero-le)
+    (followed_same words_name 0 p zero-le)
     ∙ one_number (same p words_name) (number_of q)
 finished-over (Parts.more p (Parts.more q (Parts.last r))) =
     ap finished (third_part p q r) ∙ gathered-number q _ ∙ same_number (valued (number_of q)) _ _ (λ u. gathered-number r _)
     ∙ ap₂ (λ (t d : Bool). with_number (valued (number_of q)) (λ u. with_number (valued (number_of r)) (λ v.
     choose t (λ _. Order.add u v) (λ _. choose d (λ _. Order.leads u v) (λ _. Order.unreadable)))))
-    (followed_same add_name (omega arith) 0 p zero-le) (followed_same leads_name (omega arith) 0 p zero-le)
+    (followed_same add_name 0 p zero-le) (followed_same leads_name 0 p zero-le)
     ∙ two-numbers (same p add_name) (same p leads_name) (number_of q) (number_of r)
 finished-over (Parts.more p (Parts.more q (Parts.more r ps))) =
     ap finished (ap (λ (s : Scanner). over (next_part s) ps) (third_part p q r) ∙ over-rest _ _ _ _ _ ps)

@@ -2,9 +2,8 @@
 use Rattle.counting.proofs.Prelude.{◌≡◌, refl, sym, ap, ap₂, ◌∙◌, subst, ◌⊎◌, inl, inr, List, ◌∷◌, ℕ, ◌≤◌, ◌<◌, min, arith}
 use Rattle.counting.proofs.Truth.{lt-or-le}
 use Rattle.editing.specs.declared.Session.{Session}
-use Rattle.editing.specs.declared.Changed.{Changed}
 use Rattle.specification.specs.Machine.{Graph, Call, Turn, step, fresh, Lawful}
-use Rattle.editing.specs.Promise.{Represents, change_answer, StartPromise}
+use Rattle.editing.specs.Promise.{Represents, Changed, change_answer, StartPromise}
 use Rattle.editing.proofs.Machines.{leads-kept, refused_three, unknown-add, unknown-leads, start_fails}
 use Rattle.script.specs.declared.Command.{Command}
 use Rattle.script.specs.declared.Performed.{Performed}

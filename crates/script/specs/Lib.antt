@@ -1,3 +1,4 @@
 pub mod Scanning
 pub mod Performing
 pub mod Examples
+pub mod Printing

@@ -1,11 +1,14 @@
 -- What an order does to the machine of a session, and what is answered. Assumes nothing.
-use Rattle.std.specs.Prelude.{◌≡◌, List, [], ◌∷◌, ℕ}
+use Rattle.std.specs.Prelude.{◌≡◌, List, [], ◌∷◌, ℕ, Result}
 use Rattle.editing.specs.declared.Session.{Session}
-use Rattle.editing.specs.declared.Changed.{Changed}
-use Rattle.specification.specs.declared.Reply.{Reply}
+use Rattle.editing.specs.declared.Refused.{Refused}
+use Rattle.specification.specs.Asked.{Reply, reply_of}
+use Rattle.specification.specs.Refusals.{refusal_number}
+use Rattle.specification.specs.declared.Refusal.{Refusal}
+use Rattle.specification.specs.declared.Connection.{Connection}
 use Rattle.specification.specs.Machine.{Graph, Call, Answer, answer_number, Turn, step, fresh}
 use Rattle.specification.specs.Graph.{size_refusal}
-use Rattle.editing.specs.Promise.{Represents, change_answer, reply_answer, StartPromise, AddPromise, LeadsPromise}
+use Rattle.editing.specs.Promise.{Represents, change_answer, reply_answer, Changed, changed_of, StartPromise, AddPromise, LeadsPromise}
 use Rattle.script.specs.declared.Command.{Command}
 use Rattle.script.specs.declared.Outcome.{Outcome}
 use Rattle.script.specs.declared.Performed.{Performed}
@@ -24,9 +27,21 @@ saying a = Said.says (answer_number a) a
 -- the number and the answer of each case
 unfoldable pub said_of : Outcome → Said
 said_of Outcome.Done = Said.says 0 Answer.added
-said_of (Outcome.Refused k) = Said.says k (Answer.refused k)
+said_of (Outcome.Refused k) = Said.says (refusal_number k) (Answer.refused (refusal_number k))
 said_of (Outcome.Told a) = Said.says 0 (Answer.told a)
 said_of Outcome.Unreadable = Said.unreadable
+
+-- what is said of a call that starts or changes a session, with the session after it
+pub record SaidOf (x : Changed) (r : Performed) : Type 0 where
+  pub session : r.session ≡ x.session
+  pub said : said_of r.outcome ≡ saying (change_answer x.refusal)
+
+abbrev pub IsChange : Result Session Refused → Performed → Type 0
+IsChange change r = SaidOf (changed_of change) r
+
+-- .. and of a question
+abbrev pub IsReply : Result Connection Refusal → Outcome → Type 0
+IsReply reply o = said_of o ≡ saying (reply_answer (reply_of reply).refusal (reply_of reply).connection)
 
 -- what an order leaves, and what is said to it
 pub record Obeyed : Type 0 where

@@ -2,23 +2,19 @@
 // `leads U V`; no line is ever kept, so that it may be of any length.
 #![tactic(auto)]
 
-ghost use Rattle.std.specs.Prelude.{◌≡◌, min};
-ghost use Rattle.editing.specs.Promise.{change_answer, reply_answer};
-ghost use Rattle.script.specs.Scanning.{advanced, appended, extended, within, scanned, begun, order_of, finished_two, finished_one, finished};
-ghost use Rattle.script.specs.Performing.{saying, said_of, PerformPromise};
+ghost use Rattle.std.specs.Prelude.{◌≡◌};
+ghost use Rattle.script.specs.Scanning.{advanced, appended, extended, part_after, within, scanned, begun, order_of, finished};
+ghost use Rattle.script.specs.Performing.{PerformPromise};
 
-use editing::Session;
-use specification::{Connection, Reply};
-
-const BLANK: u8 = 32;
+use editing::{Refused, Session};
+use specification::{Connection, Refusal};
+use std::fmt;
 
 // A larger number counts as this one: more than the most vertices, so that every call answers it alike.
 const LARGEST: usize = 129;
 
-// A name that is not matched.
-const MISSED: usize = 7;
-
 // A part as a decimal number: no byte yet, the value so far, or a byte that is no digit.
+// Three cases: an option of a result would tell the same with less said.
 #[derive(Clone, Copy)]
 pub enum Numeral {
     Empty,
@@ -26,18 +22,28 @@ pub enum Numeral {
     Bad,
 }
 
-// A line, as far as it is read: the number of the part, how many bytes of each name its first part has matched, and the numbers.
+// The parts of a line: the name, two numbers, and whatever follows.
+#[derive(Clone, Copy)]
+pub enum Part {
+    Name,
+    First,
+    Second,
+    Rest,
+}
+
+// A line, as far as it is read: the part that is read, how many bytes of each name its first part has matched, if no other byte came, and
+// the numbers.
 #[derive(Clone, Copy)]
 pub struct Scanner {
-    pub part: usize,
-    pub words: usize,
-    pub add: usize,
-    pub leads: usize,
+    pub part: Part,
+    pub words: Option<usize>,
+    pub add: Option<usize>,
+    pub leads: Option<usize>,
     pub first: Numeral,
     pub second: Numeral,
 }
 
-// What a line orders.
+// What a line orders. A line that cannot be read is a case, as in `Order`, and no refusal: it is answered, and has no number (14.3).
 #[derive(Clone, Copy)]
 pub enum Command {
     Words(usize),
@@ -50,59 +56,83 @@ pub enum Command {
 #[derive(Clone, Copy)]
 pub enum Outcome {
     Done,
-    Refused(u8),
+    Refused(Refusal),
     Told(Connection),
     Unreadable,
 }
 
+// An outcome as it is printed (14.3).
+impl fmt::Display for Outcome {
+    ghost use Rattle.std.specs.Prelude.{Some};
+    ghost use Rattle.script.specs.Printing.{outcome_text};
+
+    ghost output = { λ o. Some (outcome_text o) };
+
+    fn fmt<W: fmt::Write>(&self, f: &mut fmt::Formatter<W>) -> fmt::Result {
+        match *self {
+            Outcome::Done => write!(f, "ok"),
+            Outcome::Refused(refusal) => write!(f, "refused {refusal}"),
+            Outcome::Told(Connection::Unreached) => write!(f, "no"),
+            Outcome::Told(Connection::EdgeOnly) => write!(f, "arrow"),
+            Outcome::Told(Connection::LongerOnly) => write!(f, "longer"),
+            Outcome::Told(Connection::Both) => write!(f, "both"),
+            Outcome::Unreadable => write!(f, "unreadable"),
+        }
+    }
+}
+
+// What a command comes to, and the session after it.
 #[derive(Clone, Copy)]
 pub struct Performed {
     pub outcome: Outcome,
     pub session: Session,
 }
 
-fn capped(v: usize) -> usize
-    ensures { result ≡ min v 129 }
-{
-    if v < LARGEST {
-        return v;
-    }
-    LARGEST
-}
-
 // How many bytes of the name are matched, after one byte more.
-fn advance(name: &[u8], matched: usize, byte: u8) -> usize
+#[tactic(auto, unfolding(crate::specs::Scanning::advanced))]
+fn advance(name: &[u8], matched: Option<usize>, byte: u8) -> Option<usize>
     ensures { result ≡ advanced name.now matched byte }
 {
-    if name.len() <= matched {
-        return MISSED;
+    match matched {
+        Some(i) if i < name.len() && name[i] == byte => Some(i + 1),
+        _ => None,
     }
-    if name[matched] != byte {
-        return MISSED;
-    }
-    matched + 1
 }
 
 // The digit after those of v.
 fn append(v: usize, byte: u8) -> Numeral
     ensures { result ≡ appended v byte }
 {
-    if byte < 48 {
+    if byte < b'0' || b'9' < byte {
         return Numeral::Bad;
     }
-    if 57 < byte {
-        return Numeral::Bad;
-    }
-    Numeral::Value(capped(capped(v) * 10 + (byte - 48) as usize))
+    let digit = (byte - b'0') as usize;
+    Numeral::Value((v.min(LARGEST) * 10 + digit).min(LARGEST))
 }
 
-fn extend(n: Numeral, byte: u8) -> Numeral
-    ensures { result ≡ extended n byte }
-{
-    match n {
-        Numeral::Empty => append(0, byte),
-        Numeral::Value(v) => append(v, byte),
-        Numeral::Bad => Numeral::Bad,
+impl Numeral {
+    // The number with one byte more.
+    fn extend(self, byte: u8) -> Numeral
+        ensures { result ≡ extended self byte }
+    {
+        match self {
+            Numeral::Empty => append(0, byte),
+            Numeral::Value(v) => append(v, byte),
+            Numeral::Bad => Numeral::Bad,
+        }
+    }
+}
+
+impl Part {
+    // The part after a blank.
+    fn next(self) -> Part
+        ensures { result ≡ part_after self }
+    {
+        match self {
+            Part::Name => Part::First,
+            Part::First => Part::Second,
+            Part::Second | Part::Rest => Part::Rest,
+        }
     }
 }
 
@@ -112,166 +142,119 @@ impl Scanner {
         ensures { result ≡ begun }
     {
         Scanner {
-            part: 0,
-            words: 0,
-            add: 0,
-            leads: 0,
+            part: Part::Name,
+            words: Some(0),
+            add: Some(0),
+            leads: Some(0),
             first: Numeral::Empty,
             second: Numeral::Empty,
         }
     }
 
     // A byte of a part.
+    #[tactic(auto, unfolding(crate::specs::Scanning::within))]
     fn inner(self, byte: u8) -> Scanner
         ensures { result ≡ within self byte }
     {
-        let part = self.part;
-        let first = self.first;
-        let second = self.second;
-        if part == 0 {
-            return Scanner {
-                part,
+        match self.part {
+            Part::Name => Scanner {
                 words: advance(b"words", self.words, byte),
                 add: advance(b"add", self.add, byte),
                 leads: advance(b"leads", self.leads, byte),
-                first,
-                second,
-            };
-        }
-        if part == 1 {
-            return self.with_numbers(extend(first, byte), second);
-        }
-        if part == 2 {
-            return self.with_numbers(first, extend(second, byte));
-        }
-        self
-    }
-
-    fn with_numbers(self, first: Numeral, second: Numeral) -> Scanner
-        ensures { result ≡ record { part = self.part; words = self.words; add = self.add; leads = self.leads; first = first; second = second } }
-    {
-        Scanner {
-            part: self.part,
-            words: self.words,
-            add: self.add,
-            leads: self.leads,
-            first,
-            second,
+                ..self
+            },
+            Part::First => Scanner {
+                first: self.first.extend(byte),
+                ..self
+            },
+            Part::Second => Scanner {
+                second: self.second.extend(byte),
+                ..self
+            },
+            Part::Rest => self,
         }
     }
 
     // One byte more of the line.
+    #[tactic(auto, unfolding(crate::specs::Scanning::scanned, crate::specs::Scanning::next_part))]
     pub fn step(self, byte: u8) -> Scanner
         ensures { result ≡ scanned self byte }
     {
-        if byte != BLANK {
+        if byte != b' ' {
             return self.inner(byte);
         }
-        let mut next = self;
-        if self.part < 3 {
-            next.part = self.part + 1;
-        } else {
-            next.part = 3;
-        }
-        next
-    }
-
-    // The command with the numbers u and v.
-    fn finish_two(self, u: usize, v: usize) -> Command
-        ensures { order_of result ≡ finished_two self u v }
-    {
-        if self.add == 3 {
-            return Command::Add(u, v);
-        }
-        if self.leads == 5 {
-            return Command::Leads(u, v);
-        }
-        Command::Unreadable
-    }
-
-    // The command whose first number is u.
-    fn finish_one(self, u: usize) -> Command
-        ensures { order_of result ≡ finished_one self u }
-    {
-        if self.part == 1 {
-            if self.words == 5 {
-                return Command::Words(u);
-            }
-            return Command::Unreadable;
-        }
-        if self.part != 2 {
-            return Command::Unreadable;
-        }
-        let second = self.second;
-        match second {
-            Numeral::Empty => Command::Unreadable,
-            Numeral::Value(v) => self.finish_two(u, v),
-            Numeral::Bad => Command::Unreadable,
+        Scanner {
+            part: self.part.next(),
+            ..self
         }
     }
 
     // The command of the line, which ends here.
+    #[tactic(auto, unfolding(crate::specs::Scanning::order_of, crate::specs::Scanning::finished, crate::specs::Scanning::finished_one, crate::specs::Scanning::finished_two))]
     pub fn finish(self) -> Command
         ensures { order_of result ≡ finished self }
     {
-        let first = self.first;
-        match first {
-            Numeral::Empty => Command::Unreadable,
-            Numeral::Value(u) => self.finish_one(u),
-            Numeral::Bad => Command::Unreadable,
+        match (self.part, self.first, self.second) {
+            (Part::First, Numeral::Value(n), _) if self.words == Some(5) => Command::Words(n),
+            (Part::Second, Numeral::Value(u), Numeral::Value(v)) if self.add == Some(3) => {
+                Command::Add(u, v)
+            }
+            (Part::Second, Numeral::Value(u), Numeral::Value(v)) if self.leads == Some(5) => {
+                Command::Leads(u, v)
+            }
+            _ => Command::Unreadable,
         }
     }
 }
 
-// The outcome of a call that starts or changes a session.
-fn changed(refusal: u8) -> Outcome
-    ensures { said_of result ≡ saying (change_answer refusal) }
-{
-    if refusal != 0 {
-        return Outcome::Refused(refusal);
+// A call that starts or changes a session, as it is said, with the session after it.
+impl From<Result<Session, Refused>> for Performed {
+    ghost use Rattle.script.specs.Performing.{IsChange};
+
+    ghost from_gives = { IsChange };
+
+    #[tactic(auto, using(crate::proofs::Said::said_change), unfolding(crate::specs::Performing::said_of, specification::specs::Machine::answer_number, editing::specs::Promise::change_answer))]
+    fn from(change: Result<Session, Refused>) -> Performed {
+        match change {
+            Ok(session) => Performed {
+                outcome: Outcome::Done,
+                session,
+            },
+            Err(refused) => Performed {
+                outcome: Outcome::Refused(refused.refusal),
+                session: refused.session,
+            },
+        }
     }
-    Outcome::Done
 }
 
-// The outcome of a question.
-fn replied(reply: Reply) -> Outcome
-    ensures { said_of result ≡ saying (reply_answer reply.refusal reply.connection) }
-{
-    if reply.refusal != 0 {
-        return Outcome::Refused(reply.refusal);
+// A question's answer, as it is said.
+impl From<Result<Connection, Refusal>> for Outcome {
+    ghost use Rattle.script.specs.Performing.{IsReply};
+
+    ghost from_gives = { IsReply };
+
+    #[tactic(auto, using(crate::proofs::Said::said_reply), unfolding(crate::specs::Performing::said_of, specification::specs::Machine::answer_number, editing::specs::Promise::reply_answer))]
+    fn from(reply: Result<Connection, Refusal>) -> Outcome {
+        match reply {
+            Ok(connection) => Outcome::Told(connection),
+            Err(refusal) => Outcome::Refused(refusal),
+        }
     }
-    let connection = reply.connection;
-    Outcome::Told(connection)
 }
 
 // What the command does to the session.
+// A switch over what is ordered: a match over an enum, and no table of steps.
 pub fn perform(s: Session, command: Command) -> Performed
     ensures { PerformPromise s command result }
 {
     match command {
-        Command::Words(n) => {
-            let made = editing::start(n);
-            let session = made.session;
-            Performed {
-                outcome: changed(made.refusal),
-                session,
-            }
-        }
-        Command::Add(u, v) => {
-            let made = s.add(u, v);
-            let session = made.session;
-            Performed {
-                outcome: changed(made.refusal),
-                session,
-            }
-        }
-        Command::Leads(u, v) => {
-            let reply = s.leads(u, v);
-            Performed {
-                outcome: replied(reply),
-                session: s,
-            }
-        }
+        Command::Words(n) => Performed::from(editing::start(n)),
+        Command::Add(u, v) => Performed::from(s.add(u, v)),
+        Command::Leads(u, v) => Performed {
+            outcome: Outcome::from(s.leads(u, v)),
+            session: s,
+        },
         Command::Unreadable => Performed {
             outcome: Outcome::Unreadable,
             session: s,

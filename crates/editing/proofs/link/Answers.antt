@@ -52,9 +52,3 @@ loop-u-preserved c =
             (linked_clear 2 a.reach.now a.tail a.head l.u l.reach l.invariant.4 (sym e ∙ w.if-comes.false) c.requires.1),
       )
     ]
-
-pub returns : goal.returns
-returns c =
-    let a = c.args in
-    let l = c.loop-u in
-    subst (λ (n : ℕ). Linked 2 a.reach.now a.tail a.head n l.reach) (let q : l.u ≡ 128 = omega arith in q) l.invariant.4
