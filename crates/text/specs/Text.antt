@@ -13,3 +13,8 @@ pub record Written (was : List ℕ) (used : ℕ) (text : List ℕ) (i : ℕ) (is
 pub record Puts (was : List ℕ) (used : ℕ) (text : List ℕ) (r : ℕ) (is : List ℕ) : Type 0 where
   pub whole : used + length text ≤ length was → (r ≡ used + length text) × Written was used text (length text) is
   pub none : length was < used + length text → (r ≡ used) × Untouched was is
+
+-- the whole text stands in `is` from `used` on, and ends at r
+pub record Follows (was : List ℕ) (used : ℕ) (text : List ℕ) (r : ℕ) (is : List ℕ) : Type 0 where
+  pub end : r ≡ used + length text
+  pub written : Written was used text (length text) is

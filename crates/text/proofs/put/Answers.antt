@@ -1,29 +1,25 @@
-use Rattle.counting.proofs.Prelude.{◌≡◌, refl, subst, ℕ, ◌+◌, ◌<◌, zero-le, arith, length}
-use Rattle.text.specs.Text.{Written}
-use Rattle.text.proofs.Writing.{written_none, written-more, puts_none, puts_whole}
+use Rattle.counting.proofs.Prelude.{◌≡◌, refl, List, ℕ, ◌+◌, ◌≤◌, arith, rules, length}
+use Rattle.std.proofs.lemmas.Grind.{common_steps}
+use Rattle.std.proofs.lemmas.List.{places}
+use borrow.Rule.Slice.PartMut.{put_mid}
+use Rattle.text.specs.Text.{Puts}
 use Rattle.text.proofs.put.Goals as goal
 
-pub returns-then-output-used : goal.returns-then-output-used
-returns-then-output-used c = let a = c.args in record { few = omega arith; puts = puts_none a.output.now a.used a.text.now (omega arith) }
+-- the text stands in the part that it was copied to
+placed : (was text ys : List ℕ) (used k : ℕ) → used + length text ≤ length was → k ≡ length text → ys ≡ text
+    → Puts was used text (used + length text) (put_mid used k was ys)
+placed was text ys used k room whole copied = record {
+  whole = λ _. (
+    refl,
+    record {
+      as_long = grind (arith, common_steps);
+      made = search (rules, places);
+      before = search (rules, places);
+      after = search (rules, places);
+    },
+  );
+  none = λ short. absurd (omega arith);
+}
 
-pub returns-then-output-used-2 : goal.returns-then-output-used-2
-returns-then-output-used-2 c = let a = c.args in record { few = omega arith; puts = puts_none a.output.now a.used a.text.now (omega arith) }
-
-pub loop-i-init : goal.loop-i-init
-loop-i-init c = let a = c.args in (zero-le, refl, omega arith, written_none a.output.now a.used a.text.now)
-
-pub loop-i-preserved : goal.loop-i-preserved
-loop-i-preserved c =
-    let a = c.args in
-    let l = c.loop-i in
-    let w = l.invariant.3 in
-    let room : a.used + l.i < length l.output = omega (arith, w.as_long) in
-    (omega arith, refl, omega arith, written-more a.output.now a.used a.text.now l.i l.output room w)
-
-pub returns : goal.returns
-returns c =
-    let a = c.args in
-    let l = c.loop-i in
-    let end : l.i ≡ length a.text.now = omega arith in
-    let all = subst (λ (i : ℕ). Written a.output.now a.used a.text.now i l.output) end l.invariant.3 in
-    record { few = omega arith; puts = puts_whole a.output.now a.used a.text.now l.invariant.2 l.output all }
+pub returns-clause-puts : goal.returns-clause-puts
+returns-clause-puts c = placed _ _ _ _ _ (omega arith) (omega arith) c.copy_from_slice.ensures.after
