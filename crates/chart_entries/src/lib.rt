@@ -157,6 +157,7 @@ fn drafted(
 }
 
 // The sheet of a neutral graph.
+// Lengths of the lent lists, beside none: they are compared.
 fn sheet_of_graph(
     g: &Graph<'_>,
     vertices: usize,
@@ -198,6 +199,7 @@ fn sheet_of_graph(
 
 // Two fills alike, of vertices and of bundles: the publisher's form has bundles filled by one thin function, and one for both would take
 // closures with clauses of their own, as entries are asked for below 128 and 256. An entry is made of its number, so loops go over numbers.
+// The room in a list stands in three contracts: it is a fact of two parameters.
 
 fn fill_vertices(out: &mut [VertexEntry], floors: &[u8], d: &Sheet, top: usize)
     requires { (top ≤ length out.old) × (top ≤ 128) }

@@ -61,6 +61,7 @@ fn sized<
 }
 
 // The same with the smaller work lists where they are enough; where there are floors, there may be many more rows than vertices.
+// A graph's parts one by one in the clause, as in three others: the definitions take the parts.
 fn graphed<'u>(
     g: &Graph<'_>,
     words: &mut [u16],

@@ -28,6 +28,7 @@ pub fn unplace(n: usize, places: &mut [u8]) -> usize
 }
 
 // Each vertex's successor: the first vertex whose predecessor it is, or NOBODY. The later ones are stored first.
+// A bound that stands in four contracts, of n alone: no value that goes along has it.
 fn successors(predecessor: &[u8; 128], n: usize) -> [u8; 128]
     requires { n ≤ 128 }
     ensures { Successors n predecessor.now result }
@@ -115,8 +116,8 @@ pub fn beside(
     Ok(chains(&predecessor, held, most, first, places))
 }
 
-// alike `beside` with nothing held, but that copies the table
 // The channels of n vertices by the table, or of 128 where n is over: how many. Refused with `Short` where the list has no room for them.
+// A twin of `beside` with nothing held, but that copies the table.
 pub fn chained(n: usize, table: &[u64], places: &mut [u8]) -> Result<u8, Refusal>
     ensures { Chained n table.now places.old (channels_of result) places.new }
 {

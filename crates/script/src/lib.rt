@@ -52,7 +52,7 @@ pub enum Command {
     Unreadable,
 }
 
-// What a command comes to.
+// What a command comes to. A line that cannot be read is a case here too, as in `Command`.
 #[derive(Clone, Copy)]
 pub enum Outcome {
     Done,

@@ -12,11 +12,11 @@ ghost use Rattle.search.specs.Steps.Search.{state, Opens, Augments, Asks};
 const MOST: usize = 128;
 
 // What stands for no vertex.
-// a number for none: a byte a vertex, where an option takes two (fixed memory)
+// A number for none: a byte a vertex, where an option takes two (fixed memory).
 pub const NOBODY: u8 = 255;
 
 // Puts v into the set of the visited vertices.
-// a copy of masks::insert: by that the worst case takes a tenth longer, since the first mask leaves its register
+// A twin of masks::insert: by that the worst case takes a tenth longer, since the first mask leaves its register.
 fn visit(visited: &mut [u64; 2], v: usize)
     requires { v < 128 }
     ensures { visited.new ≡ inserted visited.old 0 v }

@@ -100,7 +100,7 @@ pub enum Kind {
     Bent(Bend),
 }
 
-// A kind as three numbers (9.4): its own, with its bundle or its bend.
+// A kind as three numbers: its own, with its bundle or its bend. Numbers, since a list has them (9.4).
 #[derive(Clone, Copy)]
 pub struct Code {
     pub code: u8,
