@@ -172,7 +172,7 @@ module _ (bs : List Bundle) (was : List ℕ) (x : Bundle) (room : 4 * length bs 
           ∙ ap (part k) (get_or-eq_default bs empty i ∙ sym
           (get_or-eq_default more empty (let e = length-append bs (x ∷ []) in omega arith)))
 
-added_long : (m : ℕ) (sets places : List ℕ) (c : ℕ) (d : Bool) (v : ℕ) (s r : State) → Added m sets places c d v s r → AsLong s r
+pub added_long : (m : ℕ) (sets places : List ℕ) (c : ℕ) (d : Bool) (v : ℕ) (s r : State) → Added m sets places c d v s r → AsLong s r
 added_long m sets places c d v s r a = record {
   spans = ap length a.spans ∙ simp length-set;
   number = ap length a.number ∙ length-set s.number (end_of d v) _;

@@ -9,7 +9,7 @@ use Rattle.specification.specs.Refusals.{refusal_number}
 use Rattle.specification.proofs.Cases.{refusal_numbered}
 use Rattle.editing.specs.declared.Session.{Session}
 use Rattle.ceviloneth.specs.State.{session_of, state_refusal, Kept, Starts, Adds}
-use Rattle.ceviloneth.specs.Steps.{Changes}
+use Rattle.ceviloneth.specs.Steps.{Stored, Changes}
 
 changed : (r : Changed) (k : ℕ) (z : Session) → r.refusal ≡ k → z ≡ r.session → r ≡ record { refusal = k; session = z }
 changed r k z e h = ap (λ (j : ℕ). to j r.session) e ∙ ap (λ (y : Session). to k y) (sym h)
@@ -33,6 +33,13 @@ module _ (was : List ℕ) where
 
   pub refused : (e : Refused) (k : ℕ) → k ≡ refusal_number e.refusal → Changes was (changed_of (Err e)) k was
   refused e k h = record { refusal = h; kept = all-kept k; spells = λ z. absurd (refusal_numbered e.refusal (sym h ∙ z)) }
+
+  pub written : (s : Session) (is : List ℕ) → Stored was s is → Changes was (record { refusal = 0; session = s }) 0 is
+  written s is h = record {
+    refusal = refl;
+    kept = record { untouched = λ ne. absurd (ne refl); as_long = h.as_long; past = λ k d g. h.past k d g };
+    spells = λ _. h.spells;
+  }
 
   -- ---- a start
   module _ (n : ℕ) where

@@ -14,7 +14,7 @@ mod state;
 mod strokes;
 
 use specification::{ChartCounts, Leading, Refusal, Stroke};
-use state::{STATE_NUMBERS, session_of, store, told};
+use state::{STATE_NUMBERS, fill_state, session_of, store, told};
 use strokes::{cell, stroke_of};
 
 const VERSION: u32 = 5;
@@ -74,8 +74,12 @@ pub extern "C" fn ceviloneth_session_add(state: &mut [u64], from: usize, to: usi
     if state.len() < STATE_NUMBERS {
         return u8::from(Refusal::Short);
     }
-    let changed = session_of(state).add(from, to);
-    store(state, changed)
+    let mut session = session_of(state);
+    if let Err(refusal) = session.grow(from, to) {
+        return u8::from(refusal);
+    }
+    fill_state(state, &session);
+    0
 }
 
 // How the first word leads to the second, by the same four numbers. Refused with 3.

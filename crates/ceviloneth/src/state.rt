@@ -33,7 +33,7 @@ pub(crate) fn session_of(state: &[u64]) -> Session
 }
 
 // Writes a session into a list.
-fn fill_state(out: &mut [u64], s: &Session)
+pub(crate) fn fill_state(out: &mut [u64], s: &Session)
     requires { 514 ≤ length out.old }
     ensures { Stored out.old s.now out.new }
 {

@@ -28,7 +28,7 @@ fn lay(places: &mut [u8], count: usize, laid: usize, p: usize, v: usize) -> usiz
     requires { (4 * v + 4 ≤ length places.old) × (count ≤ laid) × (p ≤ laid) × (0 < laid → 0 < count) × (v < 128) }
     ensures { Lays laid p v count places.old result places.new }
 {
-    if MOST <= laid {
+    if 128 <= laid {
         return count;
     }
     let c = if p == 0 { count + 1 } else { count };

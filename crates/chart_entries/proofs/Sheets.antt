@@ -226,7 +226,7 @@ module _ (n : ℕ) (ends : List ℕ) (given : Bool) (field : List ℕ) (floored 
         ≡ record { refusal = 0; graph = graph_content n ends given field floored floors }
     drawn-whole = graph_whole n ends given field floored floors (sym ok ∙ answer)
 
-    graph_short : (ltb v n || (ltb e (length ends / 2) || ltb b p.bundles)) ≡ true → d ≡ blank_of 8 → Made
+    pub graph_short : (ltb v n || (ltb e (length ends / 2) || ltb b p.bundles)) ≡ true → d ≡ blank_of 8 → Made
     unfolding short?
     graph_short h is =
         let z = sizes n ends given field floored floors p s laid drawn-whole in

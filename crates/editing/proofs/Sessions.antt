@@ -1,7 +1,7 @@
 -- A session and the graph that it represents: the tests, the answers, and that an edge more keeps it so. Assumes nothing.
 use Rattle.counting.proofs.Prelude.{◌≡◌, refl, sym, ap, ap₂, ◌∙◌, subst, ◌≢◌, ⊎_elim, Bool, true, false, ◌&&◌, ◌∷◌, ℕ, zero, suc, ◌≤◌, ◌<◌}
 use Rattle.counting.proofs.Prelude.{min, arith, eqb, leb, length, replicate, eq-eqb, leb-false}
-use native.Mathlib.Nat.{suc-ne-zero, lt_of_lt_of_le}
+use native.Mathlib.Nat.{lt_of_lt_of_le}
 use native.Mathlib.Numerals.{add-one}
 use native.Mathlib.Decide.{ℕ_discrete}
 use Rattle.specification.specs.Count.{choose}
@@ -9,7 +9,6 @@ use Rattle.specification.specs.Sets.{has?}
 use Rattle.specification.specs.Asked.{reply_by}
 use Rattle.specification.specs.Connection.{connection, longer?, connects}
 use Rattle.specification.specs.declared.Connection.{Connection}
-use Rattle.specification.specs.declared.Refusal.TheVariants.{Floor}
 use Rattle.specification.specs.declared.Connection.TheVariants.{Unreached}
 use Rattle.counting.proofs.Somes.{some_found, some_which}
 use Rattle.counting.proofs.Truth.{and_intro, and_elim, or_neither, same_truth}

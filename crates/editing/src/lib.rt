@@ -134,20 +134,28 @@ impl Session {
         Ok(())
     }
 
+    // Puts in the edge from tail to head, where the session stands; refused as `allows` says, and then nothing changes.
+    pub fn grow(&mut self, tail: usize, head: usize) -> Result<(), Refusal>
+        ensures { AddPromise self.old tail head (record { refusal = number_in result; session = self.new }) }
+    {
+        self.allows(tail, head)?;
+        self.count += 1;
+        masks::insert(&mut self.edges, 2 * tail, head);
+        link(&mut self.reach, tail, head);
+        Ok(())
+    }
+
     // The session with the edge from tail to head; refused as `allows` says.
     pub fn add(self, tail: usize, head: usize) -> Result<Session, Refused>
         ensures { AddPromise self tail head (changed_of result) }
     {
-        if let Err(refusal) = self.allows(tail, head) {
+        let mut next = self;
+        if let Err(refusal) = next.grow(tail, head) {
             return Err(Refused {
                 refusal,
-                session: self,
+                session: next,
             });
         }
-        let mut next = self;
-        next.count += 1;
-        masks::insert(&mut next.edges, 2 * tail, head);
-        link(&mut next.reach, tail, head);
         Ok(next)
     }
 

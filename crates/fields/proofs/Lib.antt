@@ -1,3 +1,4 @@
 pub mod Lining
 pub mod Parting
 pub mod Standing
+pub mod Telling

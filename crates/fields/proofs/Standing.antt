@@ -92,9 +92,12 @@ pub record Held (b : List ℕ) (f : Spans) : Type 0 where
   pub given : Within b f.given
   pub floors : Within b f.floors
 
+pub spans_laid : (b : List ℕ) (f : Spans) → layout_answer (layout_told (Some f)) ≡ layout_answer (layout_of b) → LaidOut b (fields_told f)
+spans_laid b f e = layout_good b (fields_told f) (sym (same_layout (layout_told (Some f)) (layout_of b) e))
+
 pub spans_held : (b : List ℕ) (f : Spans) → layout_answer (layout_told (Some f)) ≡ layout_answer (layout_of b) → Paired (Some f) → Held b f
 spans_held b f e p =
-    let h = layout_good b (fields_told f) (sym (same_layout (layout_told (Some f)) (layout_of b) e)) in
+    let h = spans_laid b f e in
     record {
       edges = omega (arith, h.edges);
       given = elim f.given as (λ s. start_of s + size_of s ≤ length b → Within b s) [ None ↦ λ _. tt | Some s ↦ λ w. w ] h.lines;

@@ -1,5 +1,5 @@
 -- How one vertex reaches another: what the four answers mean, and by which tests and tables they are told. Assumes nothing.
-use Rattle.counting.proofs.Prelude.{◌≡◌, refl, sym, ap, ap₂, ◌∙◌, ◌↔◌, Bool, true, false, true≢false, false≢true, ◌&&◌, List, ℕ}
+use Rattle.counting.proofs.Prelude.{◌≡◌, refl, sym, ap, ap₂, ◌∙◌, ◌↔◌, Bool, true, false, true≢false, false≢true, ◌&&◌, ◌||◌, List, ℕ}
 use Rattle.counting.proofs.Prelude.{◌*◌, ◌≤◌, ◌<◌, arith, eq-eqb, eqb-true}
 use Rattle.specification.specs.Sets.{at, has?}
 use Rattle.specification.specs.Graph.{Reaches, Longer, Edge, edge?, reaches?, refusal, Adjacent, reachable?}
@@ -17,6 +17,12 @@ use Rattle.reach.proofs.Decide.{reaches_decided, edge_decided, reachable_decided
 use Rattle.reach.proofs.Closures.{Bits, same_test, longer_bits}
 
 -- ---- the answers by two tests
+
+pub leading_either : (a b : Bool) → leading? (connection a b) ≡ (a || b)
+leading_either true true = refl
+leading_either true false = refl
+leading_either false true = refl
+leading_either false false = refl
 
 pub both_each : (a b : Bool) → both? (connection a b) ≡ (a && b)
 both_each true true = refl

@@ -3,7 +3,7 @@ use Rattle.std.specs.Prelude.{◌≡◌, List, [], ◌∷◌, ℕ, Result}
 use Rattle.editing.specs.declared.Session.{Session}
 use Rattle.editing.specs.declared.Refused.{Refused}
 use Rattle.specification.specs.Asked.{Reply, reply_of}
-use Rattle.specification.specs.Refusals.{refusal_number}
+use Rattle.specification.specs.Refusals.{refusal_number, number_in}
 use Rattle.specification.specs.declared.Refusal.{Refusal}
 use Rattle.specification.specs.declared.Connection.{Connection}
 use Rattle.specification.specs.Machine.{Graph, Call, Answer, answer_number, Turn, step, fresh}
@@ -38,6 +38,10 @@ pub record SaidOf (x : Changed) (r : Performed) : Type 0 where
 
 abbrev pub IsChange : Result Session Refused → Performed → Type 0
 IsChange change r = SaidOf (changed_of change) r
+
+-- .. of one that changes it where it stands
+abbrev pub IsGrowth : Result (Unit {0}) Refusal → Outcome → Type 0
+IsGrowth growth o = said_of o ≡ saying (change_answer (number_in growth))
 
 -- .. and of a question
 abbrev pub IsReply : Result Connection Refusal → Outcome → Type 0

@@ -2,9 +2,10 @@
 // `leads U V`; no line is ever kept, so that it may be of any length.
 #![tactic(auto)]
 
-ghost use Rattle.std.specs.Prelude.{◌≡◌};
+ghost use Rattle.std.specs.Prelude.{◌≡◌, ◌≤◌, length};
 ghost use Rattle.script.specs.Scanning.{advanced, appended, extended, part_after, within, scanned, begun, order_of, finished};
 ghost use Rattle.script.specs.Performing.{PerformPromise};
+ghost use Rattle.script.specs.Printing.{outcome_text};
 
 use editing::{Refused, Session};
 use specification::{Connection, Refusal};
@@ -61,7 +62,45 @@ pub enum Outcome {
     Unreadable,
 }
 
-// An outcome as it is printed (14.3).
+// A refusal as it is printed: `refused` and its number.
+fn refused_text(refusal: Refusal) -> &'static str
+    ensures text { result.now ≡ outcome_text (Outcome.Refused refusal) }
+    ensures few { length result.now ≤ 10 }
+{
+    match refusal {
+        Refusal::Layout => "refused 1",
+        Refusal::Size => "refused 2",
+        Refusal::Stranger => "refused 3",
+        Refusal::Double => "refused 4",
+        Refusal::Ring => "refused 5",
+        Refusal::Cover => "refused 6",
+        Refusal::Broken => "refused 7",
+        Refusal::Short => "refused 8",
+        Refusal::Full => "refused 9",
+        Refusal::OffPage => "refused 10",
+        Refusal::Broad => "refused 11",
+        Refusal::Floor => "refused 12",
+    }
+}
+
+impl Outcome {
+    // An outcome as it is printed (14.3): a text that is there already, so that none has to be made.
+    pub fn text(self) -> &'static str
+        ensures text { result.now ≡ outcome_text self }
+        ensures few { length result.now ≤ 10 }
+    {
+        match self {
+            Outcome::Done => "ok",
+            Outcome::Refused(refusal) => refused_text(refusal),
+            Outcome::Told(Connection::Unreached) => "no",
+            Outcome::Told(Connection::EdgeOnly) => "arrow",
+            Outcome::Told(Connection::LongerOnly) => "longer",
+            Outcome::Told(Connection::Both) => "both",
+            Outcome::Unreadable => "unreadable",
+        }
+    }
+}
+
 impl fmt::Display for Outcome {
     ghost use Rattle.std.specs.Prelude.{Some};
     ghost use Rattle.script.specs.Printing.{outcome_text};
@@ -69,15 +108,7 @@ impl fmt::Display for Outcome {
     ghost output = { λ o. Some (outcome_text o) };
 
     fn fmt<W: fmt::Write>(&self, f: &mut fmt::Formatter<W>) -> fmt::Result {
-        match *self {
-            Outcome::Done => write!(f, "ok"),
-            Outcome::Refused(refusal) => write!(f, "refused {refusal}"),
-            Outcome::Told(Connection::Unreached) => write!(f, "no"),
-            Outcome::Told(Connection::EdgeOnly) => write!(f, "arrow"),
-            Outcome::Told(Connection::LongerOnly) => write!(f, "longer"),
-            Outcome::Told(Connection::Both) => write!(f, "both"),
-            Outcome::Unreadable => write!(f, "unreadable"),
-        }
+        f.write_str(self.text())
     }
 }
 
@@ -151,42 +182,36 @@ impl Scanner {
         }
     }
 
-    // A byte of a part.
-    #[tactic(auto, unfolding(crate::specs::Scanning::within))]
-    fn inner(self, byte: u8) -> Scanner
-        ensures { result ≡ within self byte }
+    // One byte more of the line, read where the line stands: what it doesn't change stays untouched. The part that is read then.
+    #[tactic(auto, unfolding(crate::specs::Scanning::scanned, crate::specs::Scanning::next_part, crate::specs::Scanning::within))]
+    pub fn read(&mut self, byte: u8) -> Part
+        ensures line { self.new ≡ scanned self.old byte }
+        ensures part { result ≡ self.new.part }
     {
-        match self.part {
-            Part::Name => Scanner {
-                words: advance(b"words", self.words, byte),
-                add: advance(b"add", self.add, byte),
-                leads: advance(b"leads", self.leads, byte),
-                ..self
-            },
-            Part::First => Scanner {
-                first: self.first.extend(byte),
-                ..self
-            },
-            Part::Second => Scanner {
-                second: self.second.extend(byte),
-                ..self
-            },
-            Part::Rest => self,
+        if byte == b' ' {
+            self.part = self.part.next();
+            return self.part;
         }
+        match self.part {
+            Part::Name => {
+                self.words = advance(b"words", self.words, byte);
+                self.add = advance(b"add", self.add, byte);
+                self.leads = advance(b"leads", self.leads, byte);
+            }
+            Part::First => self.first = self.first.extend(byte),
+            Part::Second => self.second = self.second.extend(byte),
+            Part::Rest => {}
+        }
+        self.part
     }
 
-    // One byte more of the line.
-    #[tactic(auto, unfolding(crate::specs::Scanning::scanned, crate::specs::Scanning::next_part))]
+    // The same by value.
     pub fn step(self, byte: u8) -> Scanner
         ensures { result ≡ scanned self byte }
     {
-        if byte != b' ' {
-            return self.inner(byte);
-        }
-        Scanner {
-            part: self.part.next(),
-            ..self
-        }
+        let mut next = self;
+        next.read(byte);
+        next
     }
 
     // The command of the line, which ends here.
@@ -228,6 +253,21 @@ impl From<Result<Session, Refused>> for Performed {
     }
 }
 
+// A call that changes a session where it stands, as it is said.
+impl From<Result<(), Refusal>> for Outcome {
+    ghost use Rattle.script.specs.Performing.{IsGrowth};
+
+    ghost from_gives = { IsGrowth };
+
+    #[tactic(auto, using(crate::proofs::Said::said_change), unfolding(crate::specs::Performing::said_of, specification::specs::Machine::answer_number, editing::specs::Promise::change_answer))]
+    fn from(growth: Result<(), Refusal>) -> Outcome {
+        match growth {
+            Ok(()) => Outcome::Done,
+            Err(refusal) => Outcome::Refused(refusal),
+        }
+    }
+}
+
 // A question's answer, as it is said.
 impl From<Result<Connection, Refusal>> for Outcome {
     ghost use Rattle.script.specs.Performing.{IsReply};
@@ -245,12 +285,15 @@ impl From<Result<Connection, Refusal>> for Outcome {
 
 // What the command does to the session.
 // A switch over what is ordered: a match over an enum, and no table of steps.
-pub fn perform(s: Session, command: Command) -> Performed
+pub fn perform(mut s: Session, command: Command) -> Performed
     ensures { PerformPromise s command result }
 {
     match command {
         Command::Words(n) => Performed::from(editing::start(n)),
-        Command::Add(u, v) => Performed::from(s.add(u, v)),
+        Command::Add(u, v) => Performed {
+            outcome: Outcome::from(s.grow(u, v)),
+            session: s,
+        },
         Command::Leads(u, v) => Performed {
             outcome: Outcome::from(s.leads(u, v)),
             session: s,

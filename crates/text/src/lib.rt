@@ -1,7 +1,7 @@
 // Text in a fixed buffer.
 #![tactic(auto)]
 
-ghost use Rattle.std.specs.Prelude.{◌+◌, ◌≤◌, ◌≡◌, length, take};
+ghost use Rattle.std.specs.Prelude.{[], ◌∷◌, ◌+◌, ◌≤◌, ◌≡◌, length, take};
 ghost use Rattle.text.specs.Text.{Puts};
 
 use std::fmt;
@@ -19,6 +19,18 @@ pub fn put(output: &mut [u8], used: usize, text: &[u8]) -> usize
     let end = used + text.len();
     output[used..end].copy_from_slice(text);
     end
+}
+
+// The same of one byte.
+pub fn put_byte(output: &mut [u8], used: usize, byte: u8) -> usize
+    ensures few { result ≤ used + 1 }
+    ensures puts { Puts output.old used (byte ∷ []) result output.new }
+{
+    if output.len() <= used {
+        return used;
+    }
+    output[used] = byte;
+    used + 1
 }
 
 // Text that waits to be written: the first bytes of a buffer of N.
@@ -53,6 +65,28 @@ impl<const N: usize> Text<N> {
         &self.bytes[..self.used]
     }
 
+    // Puts a text behind the one that waits, and answers where it ends. Where there is no room for all of it nothing changes.
+    pub fn push(&mut self, text: &[u8]) -> usize
+        ensures end { self.new.used ≡ result }
+        ensures few { result ≤ self.old.used + length text.now }
+        ensures puts { Puts self.old.bytes self.old.used text.now result self.new.bytes }
+    {
+        let end = put(&mut self.bytes, self.used, text);
+        self.used = end.min(N);
+        self.used
+    }
+
+    // The same of one byte.
+    pub fn push_byte(&mut self, byte: u8) -> usize
+        ensures end { self.new.used ≡ result }
+        ensures few { result ≤ self.old.used + 1 }
+        ensures puts { Puts self.old.bytes self.old.used (byte ∷ []) result self.new.bytes }
+    {
+        let next = put_byte(&mut self.bytes, self.used, byte);
+        self.used = next.min(N);
+        self.used
+    }
+
     // Forgets the text, once it is written; how many bytes it had.
     pub fn clear(&mut self) -> usize
         ensures { (result ≡ self.old.used) × (self.new.used ≡ 0) }
@@ -70,11 +104,10 @@ impl<const N: usize> fmt::Write for Text<N> {
     ghost write_str_gives = { λ was text is. Follows was.bytes was.used text is.used is.bytes };
 
     fn write_str(&mut self, s: &str) -> fmt::Result {
-        let end = put(&mut self.bytes, self.used, s.as_bytes());
-        if end == self.used && !s.is_empty() {
+        let had = self.used;
+        if self.push(s.as_bytes()) == had && !s.is_empty() {
             return Err(fmt::Error);
         }
-        self.used = end.min(N);
         Ok(())
     }
 }

@@ -12,7 +12,7 @@ returns-in-Words c =
 pub returns-in-Add : goal.returns-in-Add
 unfolding Effect
 returns-in-Add c =
-    performs _ _ (Command.Add _ _) _ c.in-Add.is (_, c.add.ensures, c.from-in-Add.ensures.session, c.from-in-Add.ensures.said)
+    performs _ _ (Command.Add _ _) _ c.in-Add.is (_, c.grow.ensures, refl, c.from-in-Add.ensures)
 
 pub returns-in-Leads : goal.returns-in-Leads
 unfolding Effect
