@@ -35,7 +35,7 @@ fn short(n: usize) -> u16
 
 // The digit of a power of ten, if the number has it.
 fn put_digit(out: &mut Text<WAITING>, n: u16, power: u16)
-    requires { (out.old.used + 1 ≤ 512) × (0 < power) }
+    requires { (out.old.used + 1 ≤ WAITING) × (0 < power) }
     ensures { out.new.used ≤ out.old.used + 1 }
 {
     if power <= n {
@@ -45,7 +45,7 @@ fn put_digit(out: &mut Text<WAITING>, n: u16, power: u16)
 
 // A blank, and the number in decimal.
 fn put_number(out: &mut Text<WAITING>, n: u16)
-    requires { out.old.used + 6 ≤ 512 }
+    requires { out.old.used + 6 ≤ WAITING }
     ensures { out.new.used ≤ out.old.used + 6 }
 {
     out.push_byte(b' ');
@@ -59,7 +59,7 @@ fn put_number(out: &mut Text<WAITING>, n: u16)
 }
 
 fn put_pair(out: &mut Text<WAITING>, first: u16, second: u16)
-    requires { out.old.used + 12 ≤ 512 }
+    requires { out.old.used + 12 ≤ WAITING }
     ensures { out.new.used ≤ out.old.used + 12 }
 {
     put_number(out, first);
@@ -68,7 +68,7 @@ fn put_pair(out: &mut Text<WAITING>, first: u16, second: u16)
 
 // A name, a blank and the number.
 fn put_count(out: &mut Text<WAITING>, name: &[u8], n: u16)
-    requires { out.old.used + length name.now + 6 ≤ 512 }
+    requires { out.old.used + length name.now + 6 ≤ WAITING }
     ensures { out.new.used ≤ out.old.used + length name.now + 6 }
 {
     out.push(name);
@@ -77,7 +77,7 @@ fn put_count(out: &mut Text<WAITING>, name: &[u8], n: u16)
 
 // A letter and five numbers.
 fn put_fields(out: &mut Text<WAITING>, letter: u8, numbers: [u16; 5])
-    requires { out.old.used + 31 ≤ 512 }
+    requires { out.old.used + 31 ≤ WAITING }
     ensures { out.new.used ≤ out.old.used + 31 }
 {
     let [a, b, c, d, e] = numbers;
@@ -98,7 +98,7 @@ struct Course {
 
 impl Course {
     fn put(self, out: &mut Text<WAITING>)
-        requires { out.old.used + 14 ≤ 512 }
+        requires { out.old.used + 14 ≤ WAITING }
         ensures { out.new.used ≤ out.old.used + 14 }
     {
         match self.kind {
@@ -121,7 +121,7 @@ impl Course {
 
 // Each word's line, with its floor where the record has floors.
 fn put_word(out: &mut Text<WAITING>, v: usize, word: &[u16; WORD], floored: bool)
-    requires { out.old.used + 38 ≤ 512 }
+    requires { out.old.used + 38 ≤ WAITING }
     ensures { out.new.used ≤ out.old.used + 38 }
 {
     let [channel, position, column, row, _, floor] = *word;
@@ -134,7 +134,7 @@ fn put_word(out: &mut Text<WAITING>, v: usize, word: &[u16; WORD], floored: bool
 
 // An arrow's line, with the words that it goes from and to.
 fn put_arrow(out: &mut Text<WAITING>, arrow: &[u16; ARROW], ends: &[u8; 2])
-    requires { out.old.used + 38 ≤ 512 }
+    requires { out.old.used + 38 ≤ WAITING }
     ensures { out.new.used ≤ out.old.used + 38 }
 {
     let [number, kind, value, row, mark] = *arrow;
@@ -147,7 +147,7 @@ fn put_arrow(out: &mut Text<WAITING>, arrow: &[u16; ARROW], ends: &[u8; 2])
 }
 
 fn put_bundle(out: &mut Text<WAITING>, b: usize, bundle: &[u16; BUNDLE])
-    requires { out.old.used + 38 ≤ 512 }
+    requires { out.old.used + 38 ≤ WAITING }
     ensures { out.new.used ≤ out.old.used + 38 }
 {
     let [channel, first, last, track] = *bundle;
@@ -156,7 +156,7 @@ fn put_bundle(out: &mut Text<WAITING>, b: usize, bundle: &[u16; BUNDLE])
 }
 
 fn put_counts(out: &mut Text<WAITING>, chart: &ChartCounts)
-    requires { out.old.used + 78 ≤ 512 }
+    requires { out.old.used + 78 ≤ WAITING }
     ensures { out.new.used ≤ out.old.used + 78 }
 {
     out.push(b"chart");
@@ -180,7 +180,7 @@ struct Output<'a, P> {
 impl<P: Print> Output<'_, P> {
     // Writes what waits, where less than a line's room is left. An error is the write's own.
     fn make_room(&mut self) -> io::Result<()>
-        ensures { IfOk result (λ _. self.new.text.used + 38 ≤ 512) }
+        ensures { IfOk result (λ _. self.new.text.used + 38 ≤ WAITING) }
     {
         if self.text.room() < LINE {
             self.flush()?;

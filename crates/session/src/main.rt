@@ -25,7 +25,7 @@ struct Answers<'a, P> {
 
 // Puts an answer, and the end of its line, behind those that wait: that there is room for it is proved.
 fn put_answer(text: &mut Text<BUFFER>, outcome: Outcome)
-    requires { text.old.used + 16 ≤ 65536 }
+    requires { text.old.used + 16 ≤ BUFFER }
     ensures { text.new.used ≤ text.old.used + 16 }
 {
     text.push(outcome.text().as_bytes());
@@ -35,7 +35,7 @@ fn put_answer(text: &mut Text<BUFFER>, outcome: Outcome)
 impl<P: Print> Answers<'_, P> {
     // Writes what waits, where less than a line's room is left. An error is the write's own.
     fn make_room(&mut self) -> io::Result<()>
-        ensures { IfOk result (λ _. self.new.text.used + 16 ≤ 65536) }
+        ensures { IfOk result (λ _. self.new.text.used + 16 ≤ BUFFER) }
     {
         if self.text.room() < LINE {
             self.flush()?;
